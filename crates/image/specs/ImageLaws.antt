@@ -1,0 +1,168 @@
+-- Laws of the sizes and of the image: ranges, where the logs stand, and a store seen in base, data words and logs. Assumes nothing.
+use mathlib.Core.Path.{_≡_, _∙_}
+use mathlib.Core.Logic.{_≢_, _⊎_, inl, inr}
+use mathlib.Core.Bool.{true}
+use mathlib.Core.List.{List}
+use Prim.Native.Nat.{ℕ, suc, _+_, _*_, _≤_, _<_}
+use native.Mathlib.Omega.{arith}
+use native.Mathlib.Nat.{mul-le-mul, mul-le-mul-left}
+use lib.Dec.{leb, eqb, ltb}
+use lib.ListN.{length, getD, set, drop, length-take, length-drop, length-set}
+use lib.Seq.{take-set-lt, drop-set-add, getD-set-other, getD-set-same, getD-take, getD-drop}
+use borrow.Author.Tests.{leb-true, eqb-true, ltb-true, ltb-false}
+use Rattle.laws.specs.Tests.{split, and-left, and-right}
+use Rattle.laws.specs.Lists.{stretch-same}
+use Rattle.image.specs.Image.{sizesOk, imageLength, buffersOk, baseOf, dataOf, logStart, logOf}
+use Rattle.image.specs.declared.Sizes.{Sizes}
+
+-- ---- ranges
+pub record InRange (z : Sizes) : Type 0 where
+  pub words-low : 1 ≤ z.words
+  pub words-high : z.words ≤ 1024
+  pub lanes-low : 1 ≤ z.lanes
+  pub lanes-high : z.lanes ≤ 8
+  pub slots-low : 34 ≤ z.slots
+  pub slots-high : z.slots ≤ 256
+
+pub sizes-in : (z : Sizes) → sizesOk z ≡ true → InRange z
+unfolding sizesOk
+sizes-in z e =
+    let b = and-right (leb 1 z.words) _ e in
+    let c = and-right (leb z.words 1024) _ b in
+    let d = and-right (leb 1 z.lanes) _ c in
+    let f = and-right (leb z.lanes 8) _ d in
+    record {
+      words-low = leb-true _ _ (and-left (leb 1 z.words) _ e);
+      words-high = leb-true _ _ (and-left (leb z.words 1024) _ b);
+      lanes-low = leb-true _ _ (and-left (leb 1 z.lanes) _ c);
+      lanes-high = leb-true _ _ (and-left (leb z.lanes 8) _ d);
+      slots-low = leb-true _ _ (and-left (leb 34 z.slots) (leb z.slots 256) f);
+      slots-high = leb-true _ _ (and-right (leb 34 z.slots) (leb z.slots 256) f);
+    }
+
+-- all logs together have at most 2 * 8 * 256 words
+pub logs-small : (z : Sizes) → InRange z → 2 * z.lanes * z.slots ≤ 4096
+logs-small z s = mul-le-mul {n₁ = 2 * z.lanes} {m₁ = z.slots} {n₂ = 16} {m₂ = 256} (omega arith) (s .slots-high)
+
+pub length-small : (z : Sizes) → InRange z → imageLength z ≤ 5121
+unfolding imageLength
+length-small z s = omega (arith, logs-small z s)
+
+-- the log of a lane ends within the image
+pub log-fits : (z : Sizes) (L : ℕ) → L < z.lanes → logStart z L + 2 * z.slots ≤ imageLength z
+unfolding logStart imageLength
+log-fits z L h = omega (arith, mul-le-mul-left (2 * z.slots) h)
+
+-- the logs before that of a lane have at most as many words as all
+pub logs-before-small : (z : Sizes) (L : ℕ) → InRange z → L < z.lanes → 2 * z.slots * L ≤ 4096
+unfolding logStart imageLength
+logs-before-small z L s h = omega (arith, log-fits z L h, logs-small z s)
+
+-- three buffers as long as an image of these sizes
+pub record Buffers (z : Sizes) (cache nvm flags : ℕ) : Type 0 where
+  pub sizes-ok : sizesOk z ≡ true
+  pub sizes : InRange z
+  pub in-cache : cache ≡ imageLength z
+  pub in-nvm : nvm ≡ imageLength z
+  pub in-flags : flags ≡ imageLength z
+
+pub buffers-in : (z : Sizes) (cache nvm flags : ℕ) → buffersOk z cache nvm flags ≡ true → Buffers z cache nvm flags
+unfolding buffersOk
+buffers-in z cache nvm flags e =
+    let a = and-left (sizesOk z) _ e in
+    let b = and-right (sizesOk z) _ e in
+    let c = and-right (eqb cache (imageLength z)) _ b in
+    record {
+      sizes-ok = a;
+      sizes = sizes-in z a;
+      in-cache = eqb-true _ _ (and-left (eqb cache (imageLength z)) _ b);
+      in-nvm = eqb-true _ _ (and-left (eqb nvm (imageLength z)) (eqb flags (imageLength z)) c);
+      in-flags = eqb-true _ _ (and-right (eqb nvm (imageLength z)) (eqb flags (imageLength z)) c);
+    }
+
+-- ---- the parts of an image
+module _ (z : Sizes) where
+  pub getD-data : (image : List ℕ) (i : ℕ) → i < z.words → getD (dataOf z image) i 0 ≡ getD image (1 + i) 0
+  unfolding dataOf
+  getD-data image i h = getD-take z.words (drop 1 image) i 0 h ∙ getD-drop 1 image i 0
+
+  pub getD-log : (L : ℕ) (image : List ℕ) (j : ℕ) → j < 2 * z.slots → getD (logOf z L image) j 0 ≡ getD image (logStart z L + j) 0
+  unfolding logOf
+  getD-log L image j h = getD-take (2 * z.slots) (drop (logStart z L) image) j 0 h ∙ getD-drop (logStart z L) image j 0
+
+  pub length-data : (image : List ℕ) → length image ≡ imageLength z → length (dataOf z image) ≡ z.words
+  unfolding dataOf imageLength
+  length-data image e = length-take z.words (drop 1 image) ∙ rw (length-drop 1 image, e) (omega arith)
+
+  pub length-log : (L : ℕ) (image : List ℕ) → length image ≡ imageLength z → L < z.lanes → length (logOf z L image) ≡ 2 * z.slots
+  unfolding logOf
+  length-log L image e h =
+      length-take (2 * z.slots) (drop (logStart z L) image) ∙ rw (length-drop (logStart z L) image, e) (omega (arith, log-fits z L h))
+
+  -- the base timestamp and the data words stand before every log
+  pub base-before-log : (L : ℕ) → 0 < logStart z L
+  unfolding logStart
+  base-before-log L = omega arith
+
+  pub data-before-log : (L i : ℕ) → i < z.words → 1 + i < logStart z L
+  unfolding logStart
+  data-before-log L i h = omega arith
+
+  -- the logs of different lanes stand apart
+  pub logs-apart : (L M j : ℕ) → L ≢ M → j < 2 * z.slots → (logStart z M + j < logStart z L) ⊎ (logStart z L + 2 * z.slots ≤ logStart z M + j)
+  unfolding logStart
+  logs-apart L M j d h =
+      split (ltb M L)
+      (λ e. inl (omega (arith, mul-le-mul-left (2 * z.slots) (ltb-true M L e))))
+      (λ e. inr (omega (arith, mul-le-mul-left (2 * z.slots) (let k : suc L ≤ M = omega (arith, ltb-false M L e) in k))))
+
+  -- ---- a store to an image, seen in its logs
+  pub logOf-set : (L : ℕ) (image : List ℕ) (j v : ℕ) → j < 2 * z.slots → logOf z L (set image (logStart z L + j) v) ≡ set (logOf z L image) j v
+  unfolding logOf
+  logOf-set L image j v h = rw (drop-set-add (logStart z L) image j v, take-set-lt (2 * z.slots) (drop (logStart z L) image) j v h)
+
+  -- a store before or past a log
+  pub logOf-out : (L : ℕ) (image : List ℕ) (i v : ℕ) → (i < logStart z L) ⊎ (logStart z L + 2 * z.slots ≤ i) → logOf z L (set image i v) ≡ logOf z L image
+  unfolding logOf
+  logOf-out L image i v o =
+      stretch-same (logStart z L) (2 * z.slots) (set image i v) image (length-set image i v)
+      (λ k h _. getD-set-other image i (logStart z L + k) v 0 (λ e. off k h e o))
+    where
+      off : (k : ℕ) → k < 2 * z.slots → logStart z L + k ≡ i → (i < logStart z L) ⊎ (logStart z L + 2 * z.slots ≤ i) → ⊥
+      off k h e (inl p) = omega arith
+      off k h e (inr p) = omega arith
+
+  pub logOf-other : (L M : ℕ) (image : List ℕ) (j v : ℕ) → L ≢ M → j < 2 * z.slots → logOf z L (set image (logStart z M + j) v) ≡ logOf z L image
+  logOf-other L M image j v d h = logOf-out L image (logStart z M + j) v (logs-apart L M j d h)
+
+  pub logOf-set-data : (L : ℕ) (image : List ℕ) (i v : ℕ) → i < z.words → logOf z L (set image (1 + i) v) ≡ logOf z L image
+  logOf-set-data L image i v h = logOf-out L image (1 + i) v (inl (data-before-log L i h))
+
+  pub logOf-set-base : (L : ℕ) (image : List ℕ) (v : ℕ) → logOf z L (set image 0 v) ≡ logOf z L image
+  logOf-set-base L image v = logOf-out L image 0 v (inl (base-before-log L))
+
+  -- ---- in its data words
+  pub dataOf-set : (image : List ℕ) (i v : ℕ) → i < z.words → dataOf z (set image (1 + i) v) ≡ set (dataOf z image) i v
+  unfolding dataOf
+  dataOf-set image i v h = rw (drop-set-add 1 image i v, take-set-lt z.words (drop 1 image) i v h)
+
+  pub dataOf-set-log : (L : ℕ) (image : List ℕ) (j v : ℕ) → dataOf z (set image (logStart z L + j) v) ≡ dataOf z image
+  unfolding dataOf logStart
+  dataOf-set-log L image j v = stretch-same 1 z.words (set image _ v) image (length-set image _ v) (λ k h _. getD-set-other image _ (1 + k) v 0 (λ e. omega arith))
+
+  pub dataOf-set-base : (image : List ℕ) (v : ℕ) → dataOf z (set image 0 v) ≡ dataOf z image
+  unfolding dataOf
+  dataOf-set-base image v = stretch-same 1 z.words (set image 0 v) image (length-set image 0 v) (λ k h _. getD-set-other image 0 (1 + k) v 0 (λ e. omega arith))
+
+  -- ---- in its base timestamp
+  pub baseOf-set-log : (L : ℕ) (image : List ℕ) (j v : ℕ) → baseOf (set image (logStart z L + j) v) ≡ baseOf image
+  unfolding baseOf logStart
+  baseOf-set-log L image j v = getD-set-other image _ 0 v 0 (λ e. omega arith)
+
+pub baseOf-set : (image : List ℕ) (v : ℕ) → 0 < length image → baseOf (set image 0 v) ≡ v
+unfolding baseOf
+baseOf-set image v h = getD-set-same image 0 v 0 h
+
+pub baseOf-set-data : (image : List ℕ) (i v : ℕ) → baseOf (set image (1 + i) v) ≡ baseOf image
+unfolding baseOf
+baseOf-set-data image i v = getD-set-other image (1 + i) 0 v 0 (λ e. omega arith)

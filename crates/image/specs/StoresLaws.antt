@@ -1,0 +1,103 @@
+-- Laws of stores: what a list of stores leaves at an index, and that a prefix of it made before changes nothing. Assumes nothing.
+use mathlib.Core.Path.{_≡_, refl, ap, _∙_, sym}
+use mathlib.Core.Bool.{Bool, true, false, cond, _||_, or-assoc}
+use mathlib.Core.List.{List, [], _∷_, _++_}
+use Prim.Native.Nat.{ℕ, zero, suc, _+_, _<_}
+use native.Mathlib.Omega.{arith}
+use lib.Dec.{eqb}
+use lib.ListN.{length, getD, set, take, length-set}
+use lib.Seq.{lt-length-set, ext-getD}
+use Rattle.laws.specs.Tests.{or-left, or-right}
+use Rattle.laws.specs.Lists.{getD-set}
+use Rattle.image.specs.Stores.{Store, stored, places}
+
+-- is i among these places
+unfoldable pub among : ℕ → List ℕ → Bool
+among i [] = false
+among i (j ∷ js) = eqb j i || among i js
+
+-- what the last store at i leaves, x where there is none
+unfoldable pub lastAt : List Store → ℕ → ℕ → ℕ
+lastAt [] i x = x
+lastAt (s ∷ l) i x = lastAt l i (cond (eqb s.at i) s.value x)
+
+pub length-stored : (l : List Store) (image : List ℕ) → length (stored l image) ≡ length image
+unfolding stored
+length-stored [] image = refl
+length-stored (s ∷ l) image = length-stored l (set image s.at s.value) ∙ length-set image s.at s.value
+
+pub getD-stored : (l : List Store) (image : List ℕ) (i : ℕ) → i < length image → getD (stored l image) i 0 ≡ lastAt l i (getD image i 0)
+unfolding stored lastAt
+getD-stored [] image i h = refl
+getD-stored (s ∷ l) image i h =
+    getD-stored l (set image s.at s.value) i (lt-length-set image s.at s.value h) ∙ ap (lastAt l i) (getD-set image s.at s.value i h)
+
+pub stored-append : (k l : List Store) (image : List ℕ) → stored (k ++ l) image ≡ stored l (stored k image)
+unfolding stored
+stored-append [] l image = refl
+stored-append (s ∷ k) l image = stored-append k l (set image s.at s.value)
+
+-- one store more
+pub stored-snoc : (k : List Store) (s : Store) (image : List ℕ) → stored (k ++ (s ∷ [])) image ≡ set (stored k image) s.at s.value
+unfolding stored
+stored-snoc k s image = stored-append k (s ∷ []) image
+
+pub lastAt-append : (k l : List Store) (i x : ℕ) → lastAt (k ++ l) i x ≡ lastAt l i (lastAt k i x)
+unfolding lastAt
+lastAt-append [] l i x = refl
+lastAt-append (s ∷ k) l i x = lastAt-append k l i (cond (eqb s.at i) s.value x)
+
+pub places-append : (k l : List Store) → places (k ++ l) ≡ places k ++ places l
+unfolding places
+places-append [] l = refl
+places-append (s ∷ k) l = ap (λ (is : List ℕ). s.at ∷ is) (places-append k l)
+
+pub length-places : (l : List Store) → length (places l) ≡ length l
+unfolding places
+length-places [] = refl
+length-places (s ∷ l) = ap suc (length-places l)
+
+pub among-append : (i : ℕ) (is js : List ℕ) → among i (is ++ js) ≡ (among i is || among i js)
+unfolding among
+among-append i [] js = refl
+among-append i (j ∷ is) js = rw (among-append i is js) (sym (or-assoc (eqb j i) (among i is) (among i js)))
+
+-- where nothing is stored, the value stays
+pub lastAt-none : (l : List Store) (i x : ℕ) → among i (places l) ≡ false → lastAt l i x ≡ x
+unfolding among places lastAt
+lastAt-none [] i x h = refl
+lastAt-none (s ∷ l) i x h = rw (or-left (eqb s.at i) _ h) (lastAt-none l i x (or-right (eqb s.at i) _ h))
+
+-- where something is stored, what stood there before is forgotten
+pub lastAt-forgets : (l : List Store) (i x y : ℕ) → among i (places l) ≡ true → lastAt l i x ≡ lastAt l i y
+unfolding among places lastAt
+lastAt-forgets [] i x y h = absurd (let e : _≡_ {A = ℕ} 0 1 = cc in omega arith)
+lastAt-forgets (s ∷ l) i x y h = go (eqb s.at i) h (lastAt-forgets l i x y)
+  where
+    go : (b : Bool) → (b || among i (places l)) ≡ true → (among i (places l) ≡ true → lastAt l i x ≡ lastAt l i y)
+        → lastAt l i (cond b s.value x) ≡ lastAt l i (cond b s.value y)
+    go true e ih = refl
+    go false e ih = ih e
+
+again : (l : List Store) (k i x : ℕ) → lastAt l i (lastAt (take k l) i x) ≡ lastAt l i x
+unfolding lastAt
+again [] zero i x = refl
+again [] (suc k) i x = refl
+again (s ∷ l) zero i x = refl
+again (s ∷ l) (suc k) i x = go (eqb s.at i) (again l k i x)
+  where
+    go : (b : Bool) → lastAt l i (lastAt (take k l) i x) ≡ lastAt l i x
+        → lastAt l i (cond b s.value (lastAt (take k l) i (cond b s.value x))) ≡ lastAt l i (cond b s.value x)
+    go true ih = refl
+    go false ih = ih
+
+-- a prefix of the stores and then all of them is all of them
+pub stored-again : (l : List Store) (k : ℕ) (image : List ℕ) → stored l (stored (take k l) image) ≡ stored l image
+stored-again l k image =
+    ext-getD 0 _ _ (rw (length-stored l (stored (take k l) image), length-stored (take k l) image, length-stored l image))
+    (λ i h. point i (rw (length-stored l (stored (take k l) image), length-stored (take k l) image) at h))
+  where
+    point : (i : ℕ) → i < length image → getD (stored l (stored (take k l) image)) i 0 ≡ getD (stored l image) i 0
+    point i h =
+        getD-stored l (stored (take k l) image) i (rw length-stored h)
+        ∙ ap (lastAt l i) (getD-stored (take k l) image i h) ∙ again l k i (getD image i 0) ∙ sym (getD-stored l image i h)

@@ -1,0 +1,1 @@
+// Laws of tests and lists that the other crates cite: see specs/.
