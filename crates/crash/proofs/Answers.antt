@@ -1,0 +1,141 @@
+-- Each call answers what the history tells, or is refused with 9 while some lane has a floor: by cases on the call's move. Assumes nothing.
+use mathlib.Core.Path.{_≡_, refl, ap, _∙_, sym}
+use mathlib.Core.Bool.{true, false, _&&_}
+use mathlib.Core.List.{List, [], _∷_}
+use Prim.Native.Nat.{ℕ, _<_}
+use native.Mathlib.Omega.{arith}
+use native.Mathlib.Decide.{ℕ-discrete}
+use native.Mathlib.Nat.{le-trans}
+use lib.Dec.{eqb, ltb}
+use lib.ListN.{length}
+use borrow.Author.Tests.{eqb-true, eq-eqb, ne-eqb}
+use Rattle.laws.specs.Tests.{clash, and-left, and-right}
+use Rattle.txn.specs.declared.Write.{Write}
+use Rattle.image.specs.Image.{logOf}
+use Rattle.image.specs.declared.Sizes.{Sizes}
+use Rattle.log.specs.Log.{hits, latestIn}
+use Rattle.log.specs.declared.Timestamp.{Timestamp}
+use Rattle.log.specs.declared.Timestamp.the-variants.{None}
+use Rattle.record.specs.Record.{laneAt, isLogged, loggedIn, boundOf, drainedLane}
+use Rattle.store.specs.Machine.{Machine, Step, numberIn}
+use Rattle.store.specs.Calls.{drained, wouldHit, writesOn, isStale, entriesMatch, matches}
+use Rattle.store.specs.declared.Answer.{Answer}
+use Rattle.store.specs.declared.Answer.the-variants.{Refused}
+use Rattle.crash.specs.Events.{Call, log, redo, validate, mark, laneOf, callStep}
+use Rattle.crash.specs.History.{History, pageAt, settled, leastFloorOf, writesLogged, sameOlds, commitAbove, refusalBy, takenAnswer, answerBy}
+use Rattle.crash.specs.Theorem.{Answers, told, full}
+use Rattle.crash.proofs.Data.{oldsOf}
+use Rattle.crash.proofs.Moves.{Known, refusalOf, Drains, quiet, late, plain, Move, refusing, draining, logging, redoing, validating, giving-up, marking, call-moves}
+use Rattle.crash.proofs.Refusals.{Refusal, agreed, hitting, same-writes, same-held, refusal-by, number-is}
+use Rattle.crash.proofs.Lanes.{lane-drained, page-settled, drained-floor, bound-agrees}
+use Rattle.crash.proofs.Agree.{Holding, Book, Logs, is-held, above-last, entries-match}
+
+same-olds : (vs ws : List Write) → sameOlds vs ws ≡ true → oldsOf vs ≡ oldsOf ws
+unfolding sameOlds oldsOf
+same-olds [] [] t = refl
+same-olds [] (w ∷ ws) t = clash false t refl
+same-olds (v ∷ vs) [] t = clash false t refl
+same-olds (v ∷ vs) (w ∷ ws) t =
+    let a = and-left (eqb (v .word) (w .word) && eqb (v .old) (w .old)) _ t in
+    let b = and-right (eqb (v .word) (w .word) && eqb (v .old) (w .old)) _ t in
+    let c = eqb-true (v .word) (w .word) (and-left _ _ a) in
+    let d = eqb-true (v .old) (w .old) (and-right (eqb (v .word) (w .word)) _ a) in
+    rw (c, d, same-olds vs ws b)
+
+number-drains : {z : Sizes} {m : Machine} {c : Call} {a : Answer} → Drains z m c a → numberIn a ≡ 0
+unfolding numberIn
+number-drains (quiet L f ok i e) = refl
+number-drains (late L r t) = refl
+number-drains (plain L) = refl
+
+module _ (z : Sizes) (base : ℕ) (h : History) (m : Machine) (b : Book z base h m) (l : Logs z h m) where
+  -- ---- the tests of a logged transaction
+  module _ (L : ℕ) (lane : L < z.lanes) (held : isLogged (laneAt (m .state) L .phase) ≡ true) where
+    pub holds-it : Holding z base h m L (loggedIn (laneAt (m .state) L .phase))
+    holds-it = b .holding L (loggedIn (laneAt (m .state) L .phase)) lane (is-held (laneAt (m .state) L .phase) held)
+
+    pub same-stale : isStale L m ≡ commitAbove (pageAt h L .newest) (h .commits)
+    unfolding isStale
+    same-stale =
+        let g = loggedIn (laneAt (m .state) L .phase) in
+        ap (ltb (g .stamp)) (b .last)
+        ∙ sym (above-last base (g .stamp) (holds-it .above) (b .rising))
+        ∙ ap (λ (t : Timestamp). commitAbove t (h .commits)) (sym (holds-it .newest))
+
+    pub same-matches : (ws : List Write) → matches z L ws m ≡ sameOlds ws (writesLogged z L h)
+    unfolding matches
+    same-matches ws =
+        let g = loggedIn (laneAt (m .state) L .phase) in
+        ap (λ (n : ℕ). eqb (length ws) n && entriesMatch z.words z.slots (logOf z L (m .cache)) (g .first) ws) (holds-it .count)
+        ∙ entries-match z.words z.slots (logOf z L (m .cache)) (l .entries L g lane (is-held (laneAt (m .state) L .phase) held)) ws
+
+    -- a Validate that matches: the same words and old values
+    pub matched : (ws : List Write) → matches z L ws m ≡ true → oldsOf ws ≡ oldsOf (writesLogged z L h)
+    matched ws t = same-olds ws (writesLogged z L h) (sym (same-matches ws) ∙ t)
+
+  -- ---- floors after a drain
+  pub floors-drained : (L : ℕ) → L < z.lanes → (M : ℕ) → M < z.lanes → laneAt (drained z L m .state) M .floor ≡ pageAt (settled L h) M .floor
+  unfolding drainedLane
+  floors-drained L lane M other =
+      let a = lane-drained z L m (le-trans lane (b .lanes)) in
+      let p = page-settled L h (rw (b .pages) lane) in
+      elim (ℕ-discrete M L) [
+        | yes e ↦ rw (e, a .here, p .here) (drained-floor (latestIn z (m .cache) L) _ ∙ rw (l .newest L lane, b .live .floors L lane))
+        | no d ↦ rw (a .others M d, p .others M d) (b .live .floors M other)
+      ]
+
+  pub bound-drained : (L : ℕ) → L < z.lanes → boundOf z (drained z L m .state) ≡ leastFloorOf (settled L h .pages)
+  bound-drained L lane =
+      let a = lane-drained z L m (le-trans lane (b .lanes)) in
+      let p = page-settled L h (rw (b .pages) lane) in
+      bound-agrees z (drained z L m .state) (settled L h) (rw (a .lanes) (b .lanes)) (p .pages ∙ b .pages) (floors-drained L lane)
+
+  -- an append that would hit something does so while some lane has a floor
+  hit-floor : (L n : ℕ) → L < z.lanes → wouldHit z L n m ≡ true → leastFloorOf (settled L h .pages) ≡ None → ⊥
+  unfolding wouldHit hits
+  hit-floor L n lane w e = clash false (rw (bound-drained L lane, e) at w) refl
+
+  -- ---- the answer
+  told-taken : (c : Call) (a : Answer) → refusalBy z c h ≡ 0 → a ≡ takenAnswer z c h → a ≡ answerBy z c h
+  unfolding answerBy
+  told-taken c a p e = rw (eq-eqb (refusalBy z c h) 0 p) e
+
+  told-refused : (c : Call) (n : ℕ) → refusalBy z c h ≡ n → (n ≡ 0 → ⊥) → Refused n ≡ answerBy z c h
+  unfolding answerBy
+  told-refused c n p d = rw (p, ne-eqb n 0 d)
+
+  -- a call that is not refused
+  taken : (c : Call) (a : Answer) → refusalOf z c m ≡ 0 → Refusal z h m c → a ≡ takenAnswer z c h → Answers z h c a
+  taken c a p (agreed q) e = told (told-taken c a (sym q ∙ p) e)
+  taken c a p (hitting q app lane n w r) e = absurd (omega (arith, p, r))
+
+  refused : (c : Call) (n : ℕ) → refusalOf z c m ≡ n → (n ≡ 0 → ⊥) → Refusal z h m c → Answers z h c (Refused n)
+  refused c n e d (agreed q) = told (told-refused c n (sym q ∙ e) d)
+  refused c n e d (hitting q app lane k w r) = full q app (hit-floor (laneOf c) k lane w) (ap Refused (sym e ∙ r))
+
+  drains-answer : {c : Call} {a : Answer} → Known z m (laneOf c) → Drains z m c a → a ≡ takenAnswer z c h
+  unfolding takenAnswer laneOf
+  drains-answer k (quiet L f ok i e) = rw (sym (same-writes z h m (b .live) f), eq-eqb (length (writesOn z f m)) 0 e)
+  drains-answer k (late L r t) = rw (sym (same-stale L (k .lane) (r .held)), t)
+  drains-answer k (plain L) = refl
+
+  by-move : {c : Call} {s : Step} → Move z m c s → numberIn (s .answer) ≡ refusalOf z c m → Refusal z h m c → Answers z h c (s .answer)
+  unfolding numberIn takenAnswer
+  by-move {c} (refusing n e d) p r = refused c n e d r
+  by-move {c} (draining {a = a} k d) p r = taken c a (sym p ∙ number-drains d) r (drains-answer k d)
+  by-move (logging L f k ok i q room) p r =
+      taken (log L f) _ (sym p) r
+      (rw (sym (same-writes z h m (b .live) f), ne-eqb (length (writesOn z f m)) 0 (λ e. omega arith), b .live .clock))
+  by-move (redoing L k y t) p r =
+      taken (redo L) _ (sym p) r (rw (sym (same-stale L (k .lane) (y .held)), t, b .live .clock))
+  by-move (validating L f k ok y t) p r =
+      taken (validate L f) _ (sym p) r
+      (rw (sym (same-writes z h m (b .live) f), sym (same-matches L (k .lane) (y .held) (writesOn z f m)), t, b .live .clock))
+  by-move (giving-up L f k ok y t) p r =
+      taken (validate L f) _ (sym p) r
+      (rw (sym (same-writes z h m (b .live) f), sym (same-matches L (k .lane) (y .held) (writesOn z f m)), t))
+  by-move (marking L k room) p r = taken (mark L) _ (sym p) r (rw (same-held z h m (b .live) L (k .lane), b .live .clock))
+
+  pub answers : (c : Call) → Answers z h c (callStep z c m .answer)
+  answers c =
+      by-move (call-moves z m c) (number-is z m c) (refusal-by z h m (b .live) (record { buffers = b .buffers; fields = b .fields }) c)

@@ -1,0 +1,32 @@
+-- The crash theorem, from the invariant that ties logs, data words and history together. Assumes nothing.
+use mathlib.Core.Path.{_≡_}
+use mathlib.Core.Bool.{true}
+use Rattle.image.specs.Image.{sizesOk}
+use Rattle.image.specs.declared.Sizes.{Sizes}
+use Rattle.crash.specs.Theorem.{CrashTheorem}
+use Rattle.crash.proofs.FromLogs.{LogLaws, crash-theorem-by-logs}
+use Rattle.crash.proofs.Ties.{Ties}
+use Rattle.crash.proofs.TiesLogs.{ties-logs}
+use Rattle.crash.proofs.TiesStart.{ties-starts, ties-writes}
+use Rattle.crash.proofs.TiesDrain.{ties-drains, ties-gives-up}
+use Rattle.crash.proofs.TiesAppend.{ties-appends, ties-marks}
+use Rattle.crash.proofs.TiesCommit.{ties-redoes, ties-validates}
+use Rattle.crash.proofs.TiesCut.{ties-cut}
+
+pub ties-laws : (z : Sizes) → sizesOk z ≡ true → LogLaws z (Ties z)
+ties-laws z ok =
+    record {
+      logs = ties-logs z;
+      cuts = λ base m h b t. ties-cut z base m h b t;
+      starts = ties-starts z ok;
+      writes = ties-writes z;
+      drains = ties-drains z;
+      appends = ties-appends z;
+      redoes = ties-redoes z;
+      validates = ties-validates z;
+      gives-up = ties-gives-up z;
+      marks = ties-marks z;
+    }
+
+pub crash-theorem : CrashTheorem
+crash-theorem = crash-theorem-by-logs Ties ties-laws

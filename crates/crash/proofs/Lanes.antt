@@ -1,0 +1,137 @@
+-- The record's lanes and the history's pages after each move: lane L becomes another, the rest stay; and the least floor of both. Assumes nothing.
+use mathlib.Core.Path.{_≡_, refl, ap₂, _∙_}
+use mathlib.Core.Logic.{_≢_}
+use mathlib.Core.List.{List, [], _∷_}
+use mathlib.Core.Option.{Option, none}
+use Prim.Native.Nat.{ℕ, zero, suc, _+_, _≤_, _<_}
+use native.Mathlib.Omega.{arith}
+use native.Mathlib.Nat.{le-of-suc-le-suc, zero-lt-suc}
+use lib.ListN.{length, getD, take, length-set}
+use lib.Seq.{getD-set-same, getD-set-other}
+use Rattle.txn.specs.declared.Write.{Write}
+use Rattle.image.specs.declared.Sizes.{Sizes}
+use Rattle.log.specs.Log.{latestIn, contribution}
+use Rattle.log.specs.Append.{advance}
+use Rattle.log.specs.declared.Timestamp.{Timestamp}
+use Rattle.log.specs.declared.Timestamp.the-variants.{None, At}
+use Rattle.log.specs.declared.Latest.{Latest}
+use Rattle.log.specs.declared.Latest.the-variants.{Nothing, Is}
+use Rattle.record.specs.Record.{noLane, laneAt, cursorOf, lesser, leastFloor, boundOf, floorAfterDrain, floorAfterAppend, withLane, withClock, withLast, drainedLane, appendedLane, idleLane}
+use Rattle.record.specs.declared.Pair.{Pair}
+use Rattle.record.specs.declared.Phase.{Phase}
+use Rattle.record.specs.declared.Lane.{Lane}
+use Rattle.record.specs.declared.Record.{Record}
+use Rattle.store.specs.Machine.{Machine}
+use Rattle.store.specs.Calls.{drained, changed, appended, committed}
+use Rattle.store.specs.Calls as calls
+use Rattle.crash.specs.History.{Page, History, blankPage, pageAt, floorOr, settled, stamped, released, leastFloorOf}
+
+-- ---- one lane
+-- in record s, made from r, lane L has become l and the others are as they were
+pub record LaneTo (r s : Record) (L : ℕ) (l : Lane) : Type 0 where
+  pub here : laneAt s L ≡ l
+  pub others : (M : ℕ) → M ≢ L → laneAt s M ≡ laneAt r M
+  pub lanes : length (s .lanes) ≡ length (r .lanes)
+
+pub lane-to : (r : Record) (L : ℕ) (l : Lane) → L < length (r .lanes) → LaneTo r (withLane r L l) L l
+unfolding withLane laneAt
+lane-to r L l h =
+    record {
+      here = getD-set-same (r .lanes) L l noLane h;
+      others = λ M d. getD-set-other (r .lanes) L M l noLane d;
+      lanes = length-set (r .lanes) L l;
+    }
+
+pub lane-then : {r s t : Record} {L : ℕ} {k l : Lane} → LaneTo r s L k → LaneTo s t L l → LaneTo r t L l
+lane-then a b = record { here = b .here; others = λ M d. b .others M d ∙ a .others M d; lanes = b .lanes ∙ a .lanes }
+
+-- ---- each move
+module _ (z : Sizes) (L : ℕ) (m : Machine) (h : L < length (m .state .lanes)) where
+  pub lane-drained : LaneTo (m .state) (drained z L m .state) L (drainedLane (latestIn z (m .cache) L) (laneAt (m .state) L))
+  unfolding drained
+  lane-drained = lane-to (m .state) L _ h
+
+  pub lane-appended : (ws : List Write) (phase : Phase) (redo : List Pair)
+      → LaneTo (m .state) (appended z L ws phase redo m .state) L
+      (appendedLane (m .state .clock + 2) (advance z.slots (length ws + 1) (cursorOf (laneAt (m .state) L))) phase redo (laneAt (m .state) L))
+  unfolding appended changed withClock laneAt
+  lane-appended ws phase redo =
+      let s = m .state .clock + 2 in
+      let l = laneAt (m .state) L in
+      let a = lane-to (withClock (m .state) s) L (appendedLane s (advance z.slots (length ws + 1) (cursorOf l)) phase redo l) h in
+      record { here = a .here; others = a .others; lanes = a .lanes }
+
+  pub lane-committed : (ps : List Pair) → LaneTo (m .state) (committed z L ps m .state) L (idleLane (laneAt (m .state) L))
+  unfolding committed changed withClock withLast laneAt
+  lane-committed ps =
+      let a = lane-to (withClock (m .state) (m .state .clock + 2)) L (idleLane (laneAt (m .state) L)) h in
+      record { here = a .here; others = a .others; lanes = a .lanes }
+
+  pub lane-released : LaneTo (m .state) (calls.released L m .state) L (idleLane (laneAt (m .state) L))
+  unfolding calls.released
+  lane-released = lane-to (m .state) L _ h
+
+-- ---- one page
+pub record PageTo (g h : History) (L : ℕ) (p : Page) : Type 0 where
+  pub here : pageAt h L ≡ p
+  pub others : (M : ℕ) → M ≢ L → pageAt h M ≡ pageAt g M
+  pub pages : length (h .pages) ≡ length (g .pages)
+
+pub page-then : {f g h : History} {L : ℕ} {p q : Page} → PageTo f g L p → PageTo g h L q → PageTo f h L q
+page-then a b = record { here = b .here; others = λ M d. b .others M d ∙ a .others M d; pages = b .pages ∙ a .pages }
+
+module _ (L : ℕ) (h : History) (i : L < length (h .pages)) where
+  pub page-settled : PageTo h (settled L h) L (record { held = pageAt h L .held; newest = pageAt h L .newest; floor = floorOr (pageAt h L .newest) (pageAt h L .floor) })
+  unfolding settled pageAt
+  page-settled =
+      record {
+        here = getD-set-same (h .pages) L _ blankPage i;
+        others = λ M d. getD-set-other (h .pages) L M _ blankPage d;
+        pages = length-set (h .pages) L _;
+      }
+
+  pub page-stamped : (held : Option (List ℕ)) (txns : List (List ℕ))
+      → PageTo h (stamped L held txns h) L (record { held = held; newest = At (h .clock + 2); floor = floorOr (pageAt h L .floor) (At (h .clock + 2)) })
+  unfolding stamped pageAt
+  page-stamped held txns =
+      record {
+        here = getD-set-same (h .pages) L _ blankPage i;
+        others = λ M d. getD-set-other (h .pages) L M _ blankPage d;
+        pages = length-set (h .pages) L _;
+      }
+
+  pub page-released : PageTo h (released L h) L (record { held = none; newest = pageAt h L .newest; floor = pageAt h L .floor })
+  unfolding released pageAt
+  page-released =
+      record {
+        here = getD-set-same (h .pages) L _ blankPage i;
+        others = λ M d. getD-set-other (h .pages) L M _ blankPage d;
+        pages = length-set (h .pages) L _;
+      }
+
+-- ---- floors
+pub drained-floor : (q : Latest) (floor : Timestamp) → floorAfterDrain q floor ≡ floorOr (contribution q) floor
+unfolding floorAfterDrain floorOr contribution
+drained-floor Nothing floor = refl
+drained-floor (Is q) floor = refl
+
+pub appended-floor : (s : ℕ) (floor : Timestamp) → floorAfterAppend s floor ≡ floorOr floor (At s)
+unfolding floorAfterAppend floorOr
+appended-floor s None = refl
+appended-floor s (At f) = refl
+
+-- the least floor of the first n lanes is that of n pages
+pub least-floors : (n : ℕ) (lanes : List Lane) (pages : List Page) → n ≤ length lanes → length pages ≡ n
+    → ((M : ℕ) → M < n → getD lanes M noLane .floor ≡ getD pages M blankPage .floor) → leastFloor (take n lanes) ≡ leastFloorOf pages
+unfolding leastFloor leastFloorOf
+least-floors zero lanes [] h e f = refl
+least-floors zero lanes (p ∷ ps) h e f = absurd (omega arith)
+least-floors (suc n) lanes [] h e f = absurd (omega arith)
+least-floors (suc n) [] (p ∷ ps) h e f = absurd (omega arith)
+least-floors (suc n) (l ∷ ls) (p ∷ ps) h e f =
+    ap₂ lesser (f 0 (zero-lt-suc n)) (least-floors n ls ps (le-of-suc-le-suc h) (omega arith) (λ M i. f (suc M) (let k : suc M < suc n = omega arith in k)))
+
+pub bound-agrees : (z : Sizes) (r : Record) (h : History) → z.lanes ≤ length (r .lanes) → length (h .pages) ≡ z.lanes
+    → ((M : ℕ) → M < z.lanes → laneAt r M .floor ≡ pageAt h M .floor) → boundOf z r ≡ leastFloorOf (h .pages)
+unfolding boundOf laneAt pageAt
+bound-agrees z r h l e f = least-floors z.lanes (r .lanes) (h .pages) l e f

@@ -1,0 +1,84 @@
+-- What a log that shows a history gives recovery: all that is found is of the history's sequences, and a sequence that stands whole in the window and
+-- settled is found. Assumes nothing.
+use mathlib.Core.Path.{_≡_, ap, subst}
+use mathlib.Core.List.{List}
+use Prim.Native.Nat.{ℕ, _+_, _%_, _≤_, _<_}
+use native.Mathlib.Omega.{arith}
+use native.Mathlib.Nat.{mod-lt}
+use lib.Dec.{ltb}
+use lib.ListN.{length}
+use borrow.Author.Tests.{ltb-true, ltb-false}
+use Rattle.laws.specs.Tests.{split}
+use Rattle.laws.specs.Lists.{All, All-map}
+use Rattle.slot.specs.declared.Content.the-variants.{Stamp}
+use Rattle.image.specs.declared.Sizes.{Sizes}
+use Rattle.log.specs.Log.{Complete, slotAt, completeBelow}
+use Rattle.laws.specs.Members.{In}
+use Rattle.crash.proofs.Absolute.{wrapOf}
+use Rattle.crash.proofs.Ghost.{Past, sta, contentOf, exact-reads, addressAt, valueAt, entriesBefore}
+use Rattle.crash.proofs.Found.{Genuine, found, stamp-genuine}
+use Rattle.crash.proofs.Room.{is-found}
+use Rattle.crash.proofs.Window.{Window, at}
+use Rattle.crash.proofs.Seqs.{Seq, Hist, hist-big, early, hist-fits, lookup, stands}
+use Rattle.crash.proofs.View.{Visible, visible-exact}
+
+-- a log shows a history h of the sequences gs, and below number u word for word
+pub record Shown (z : Sizes) (log : List ℕ) (h : List Past) (gs : List Seq) (u : ℕ) : Type 0 where
+  pub history : Hist z.words z.slots h gs
+  pub shows : Visible z.slots h u log
+
+-- a window shows its history, and all of it word for word
+pub shown-window : (z : Sizes) {log : List ℕ} {h : List Past} {gs : List Seq} → Hist z.words z.slots h gs → Window z.slots h log → Shown z log h gs (length h)
+unfolding Window
+shown-window z {log} {h} H w = record { history = H; shows = visible-exact z.slots h (length h) log w }
+
+-- a found sequence is one of the history
+pub record Listed (N : ℕ) (gs : List Seq) (q : Complete) : Type 0 where
+  pub end : ℕ
+  pub among : In (record { entries = q .entries; stamp = q .stamp; end = end }) gs
+  pub slot : end % N ≡ q .slot
+
+module _ (z : Sizes) (low : z.words ≤ 1024) (large : 33 ≤ z.slots) {log : List ℕ} {h : List Past} {gs : List Seq} {u : ℕ} (s : Shown z log h gs u) where
+  count : (b k t : ℕ) → b < length h → at h b ≡ sta k t → k ≤ b
+  count b k t l e =
+      let f : (k ≤ 16) × (t % 2 ≡ 0) = rw e at (hist-fits z.words z.slots (s .history) b l) in
+      split (ltb b z.slots)
+      (λ q. absurd (let p = early z.words z.slots (s .history) b (ltb-true b z.slots q) in let c : _≡_ {A = ℕ} 0 1 = cc in omega arith))
+      (λ q. omega (arith, ltb-false b z.slots q))
+
+  module _ (base L : ℕ) where
+    pub shown-found : All (Listed z.slots gs) (completeBelow z.words z.slots base log L z.slots)
+    shown-found =
+        All-map one
+        (found z.words z.slots low large (at h) (length h) (hist-big z.words z.slots (s .history)) (hist-fits z.words z.slots (s .history)) (early z.words z.slots (s .history)) log
+        (s .shows .held) base L z.slots (omega arith))
+      where
+        one : (q : Complete) → Genuine z.slots (at h) (length h) q → Listed z.slots gs q
+        one q g =
+            record {
+              end = g .end;
+              among = rw (g .entries) (lookup z.words z.slots (s .history) (g .end) (g .count) (q .stamp) (count (g .end) (g .count) (q .stamp) (g .below) (g .stamp)) (g .stamp));
+              slot = g .slot;
+            }
+
+    -- a whole timestamp, complete or not, is that of a sequence of the history
+    pub shown-stamp : (j k t p : ℕ) → j < z.slots → slotAt z.words log j ≡ Stamp k t p
+        → (e : ℕ) × In (record { entries = entriesBefore z.slots (at h) e k; stamp = t; end = e }) gs
+    shown-stamp j k t p l e =
+        let g = stamp-genuine z.words z.slots low large (at h) (length h) (hist-big z.words z.slots (s .history)) (hist-fits z.words z.slots (s .history))
+        (early z.words z.slots (s .history)) log (s .shows .held) base L j k t p l e in
+        (g .0, lookup z.words z.slots (s .history) (g .0) k t (count (g .0) k t (g .1) (g .2)) (g .2))
+
+    -- whole in the window, and settled
+    pub shown-there : (g : Seq) → In g gs → length h + length (g .entries) ≤ g .end + z.slots → g .end < u → base < g .stamp
+        → In (record { stamp = g .stamp; lane = L; slot = g .end % z.slots; entries = g .entries }) (completeBelow z.words z.slots base log L z.slots)
+    unfolding addressAt valueAt
+    shown-there g i whole set new =
+        let r = stands z.words z.slots (s .history) i in
+        let k : ℕ = length (g .entries) in
+        let reads : (c : ℕ) → g .end ≤ c + k → c ≤ g .end → slotAt z.words log (c % z.slots) ≡ contentOf (wrapOf z.slots c) (at h c)
+        = λ c lo hi. let x = s .shows .settled c (omega arith) (omega (arith, r .below)) (omega arith) in
+        exact-reads z.words z.slots low (omega arith) (at h) (length h) (hist-fits z.words z.slots (s .history)) log c (omega (arith, r .below)) (x .address) (x .value) in
+        subst (λ es. In (record { stamp = g .stamp; lane = L; slot = g .end % z.slots; entries = es }) (completeBelow z.words z.slots base log L z.slots)) (r .entries)
+        (is-found z.words z.slots (omega arith) (at h) log (g .end) (omega (arith, r .late)) base L k (g .stamp) (omega (arith, r .ok .few)) reads (r .closes) (ap length (r .entries)) new
+        z.slots (mod-lt (g .end) (omega arith)))

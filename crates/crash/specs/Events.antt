@@ -1,0 +1,148 @@
+-- What can happen to a store: calls, write-backs, recoveries, and power failing at every place; and the store after it. 01, "The cut claim". Assumes nothing.
+use Prim.Native.Nat.{ℕ}
+use mathlib.Core.Bool.{Bool, true, false, cond}
+use mathlib.Core.List.{List, [], _∷_, _++_}
+use mathlib.Core.Option.{Option, none, some}
+use lib.Dec.{eqb}
+use lib.ListN.{getD, take, replicate}
+use Rattle.image.specs.Image.{imageLength}
+use Rattle.image.specs.Flush.{flushed, writtenBack, drainedNvm}
+use Rattle.image.specs.declared.Sizes.{Sizes}
+use Rattle.record.specs.Record.{startRecord}
+use Rattle.store.specs.Machine.{Machine, Step, numberIn}
+use Rattle.store.specs.Calls.{formatStep, writeBackStep, drainStep, logStep, redoStep, validateStep, markStep}
+use Rattle.store.specs.declared.Answer.{Answer}
+use Rattle.recovery.specs.Recovery.{Restarted, recoverStep, recoveredNvm}
+use Rattle.recovery.specs.declared.Recovered.{Recovered}
+use Rattle.recovery.specs.declared.Recovered.the-variants.{Refused, Cut, Finished}
+
+-- the calls that take a record: the four steps, and Drain
+pub data Call : Type 0 where
+  log : (lane : ℕ) (txn : List ℕ) → Call
+  redo : (lane : ℕ) → Call
+  validate : (lane : ℕ) (txn : List ℕ) → Call
+  mark : (lane : ℕ) → Call
+  drain : (lane : ℕ) → Call
+
+-- what a failure leaves in cache and flags: anything
+pub record Junk : Type 0 where
+  pub cache : List ℕ
+  pub flags : List ℕ
+
+pub data Event : Type 0 where
+  format : (start : List ℕ) → Event
+  writeBack : (word : ℕ) → Event
+  call : Call → Event
+  -- a recovery with a limit; the junk is what is left where it answers Cut
+  recover : (limit : ℕ) → Junk → Event
+  -- power fails between two calls
+  fails : Junk → Event
+  -- power fails inside a call's drain: of these words, those that its lane has flushed have been stored
+  failsInDrain : Call → (words : List ℕ) → Junk → Event
+  -- power fails after a call's whole drain: what it would have done in the cache is lost
+  failsAfterDrain : Call → Junk → Event
+  -- power fails inside recovery, after this many of its stores: after the last of them too, before the answer
+  failsInRecovery : (stores : ℕ) → Junk → Event
+
+-- the store: with a record; or without one, with the cut cells once a recovery has found them
+pub data System : Type 0 where
+  live : Machine → System
+  down : (nvm : List ℕ) → Junk → (found : Option (List ℕ)) → System
+
+-- what the caller sees of an event
+pub data Reply : Type 0 where
+  answered : Answer → Reply
+  recovered : Recovered → Reply
+  -- power failed; with or without a whole drain
+  failed : (drained : Bool) → Reply
+  -- not offered: without a record there is only recovery and Format, and a failure inside a call needs the call
+  ignored : Reply
+
+pub record Happened : Type 0 where
+  pub reply : Reply
+  pub system : System
+  -- the cut cells, where the event is a recovery
+  pub found : List ℕ
+
+-- ---- calls
+unfoldable pub laneOf : Call → ℕ
+laneOf (log L f) = L
+laneOf (redo L) = L
+laneOf (validate L f) = L
+laneOf (mark L) = L
+laneOf (drain L) = L
+
+unfoldable pub callStep : Sizes → Call → Machine → Step
+callStep z (log L f) m = logStep z L f m
+callStep z (redo L) m = redoStep z L m
+callStep z (validate L f) m = validateStep z L f m
+callStep z (mark L) m = markStep z L m
+callStep z (drain L) m = drainStep z L m
+
+-- a refused call drains nothing
+unfoldable pub isTaken : Sizes → Call → Machine → Bool
+isTaken z c m = eqb (numberIn (callStep z c m .answer)) 0
+
+-- ---- failures
+-- the first n of these numbers, with 0s where there are fewer: every list of n numbers is one
+unfoldable pub fitted : ℕ → List ℕ → List ℕ
+fitted n l = take n (l ++ replicate n 0)
+
+unfoldable pub fit : Sizes → Junk → Junk
+fit z j = record { cache = fitted (imageLength z) j.cache; flags = fitted (imageLength z) j.flags }
+
+-- non-volatile memory after some stores of a drain of lane L
+unfoldable pub partlyDrained : ℕ → (words flags cache nvm : List ℕ) → List ℕ
+partlyDrained L [] flags cache nvm = nvm
+partlyDrained L (i ∷ is) flags cache nvm = partlyDrained L is flags cache (cond (flushed L (getD flags i 0)) (writtenBack i cache nvm) nvm)
+
+-- the machine that Format and recovery are handed where there is no record: they take none
+unfoldable pub bare : (nvm : List ℕ) → Junk → Machine
+bare nvm j = record { state = startRecord 0; cache = j.cache; nvm = nvm; flags = j.flags }
+
+unfoldable pub foundOr : List ℕ → Option (List ℕ) → List ℕ
+foundOr nvm none = nvm
+foundOr nvm (some cells) = cells
+
+-- ---- the store after an event
+unfoldable pub afterStep : Step → Happened
+afterStep s = record { reply = answered (s .answer); system = live (s .machine); found = [] }
+
+-- a Format starts anew, or is refused
+unfoldable pub afterFormat : System → Step → Happened
+afterFormat y s = record { reply = answered (s .answer); system = cond (eqb (numberIn (s .answer)) 0) (live (s .machine)) y; found = [] }
+
+unfoldable pub recoveredSystem : System → Junk → List ℕ → Restarted → Recovered → System
+recoveredSystem y j found r (Refused n) = y
+recoveredSystem y j found r Cut = down (r .machine .nvm) j (some found)
+recoveredSystem y j found r (Finished a) = live (r .machine)
+
+unfoldable pub afterRecovery : System → Junk → List ℕ → Restarted → Happened
+afterRecovery y j found r = record { reply = recovered (r .answer); system = recoveredSystem y j found r (r .answer); found = found }
+
+unfoldable pub afterFailure : Bool → (nvm : List ℕ) → Junk → Option (List ℕ) → Happened
+afterFailure drained nvm j found = record { reply = failed drained; system = down nvm j found; found = [] }
+
+unfoldable pub notOffered : System → Happened
+notOffered y = record { reply = ignored; system = y; found = [] }
+
+unfoldable pub happens : Sizes → System → Event → Happened
+happens z (live m) (format start) = afterFormat (live m) (formatStep z start m)
+happens z (live m) (writeBack i) = afterStep (writeBackStep z i m)
+happens z (live m) (call c) = afterStep (callStep z c m)
+happens z (live m) (recover limit j) = afterRecovery (live m) (fit z j) (m .nvm) (recoverStep z limit m)
+happens z (live m) (fails j) = afterFailure false (m .nvm) (fit z j) none
+happens z (live m) (failsInDrain c is j) =
+    afterFailure false (cond (isTaken z c m) (partlyDrained (laneOf c) is (m .flags) (m .cache) (m .nvm)) (m .nvm)) (fit z j) none
+happens z (live m) (failsAfterDrain c j) =
+    afterFailure (isTaken z c m) (cond (isTaken z c m) (drainedNvm (laneOf c) (m .flags) (m .cache) (m .nvm)) (m .nvm)) (fit z j) none
+happens z (live m) (failsInRecovery n j) = afterFailure false (recoveredNvm z n (m .nvm)) (fit z j) (some (m .nvm))
+happens z (down nvm j found) (format start) = afterFormat (down nvm j found) (formatStep z start (bare nvm j))
+happens z (down nvm j found) (writeBack i) = notOffered (down nvm j found)
+happens z (down nvm j found) (call c) = notOffered (down nvm j found)
+happens z (down nvm j found) (recover limit k) =
+    afterRecovery (down nvm j found) (fit z k) (foundOr nvm found) (recoverStep z limit (bare nvm j))
+happens z (down nvm j found) (fails k) = afterFailure false nvm (fit z k) found
+happens z (down nvm j found) (failsInDrain c is k) = notOffered (down nvm j found)
+happens z (down nvm j found) (failsAfterDrain c k) = notOffered (down nvm j found)
+happens z (down nvm j found) (failsInRecovery n k) = afterFailure false (recoveredNvm z n nvm) (fit z k) (some (foundOr nvm found))

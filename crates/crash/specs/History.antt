@@ -1,0 +1,233 @@
+-- The history (01: plain book), the sequential reference: it is fed arguments, replies and the cut cells, and never reads the machine. 01, "The cut claim". Assumes nothing.
+use Prim.Native.Nat.{ℕ, _+_, _-_, _^_}
+use mathlib.Core.Bool.{Bool, true, false, cond, not, _&&_, _||_}
+use mathlib.Core.List.{List, [], _∷_, _++_, map}
+use mathlib.Core.Option.{Option, none, some}
+use lib.Dec.{leb, ltb, eqb}
+use lib.ListN.{length, getD, set, replicate}
+use Rattle.txn.specs.Txn.{run, after, txnOk}
+use Rattle.txn.specs.declared.Write.{Write}
+use Rattle.image.specs.Image.{imageLength}
+use Rattle.image.specs.declared.Sizes.{Sizes}
+use Rattle.log.specs.declared.Timestamp.{Timestamp}
+use Rattle.log.specs.declared.Timestamp.the-variants.{None, At}
+use Rattle.record.specs.Record.{lesser}
+use Rattle.store.specs.Machine.{Cause, firstCause, numberIn, stampIn}
+use Rattle.store.specs.declared.Answer.{Answer}
+use Rattle.store.specs.declared.Answer.the-variants as answer
+use Rattle.recovery.specs.Recovery.{boundary, newBase}
+use Rattle.recovery.specs.declared.Recovered.{Recovered}
+use Rattle.recovery.specs.declared.Recovered.the-variants.{Refused, Cut, Finished}
+use Rattle.crash.specs.Events.{Call, log, redo, validate, mark, drain, Event, format, writeBack, call, recover, fails, failsInDrain, failsAfterDrain, failsInRecovery, Reply, answered, recovered, failed, ignored, laneOf}
+
+-- a lane's page: the transaction it holds, its newest timestamp, its floor
+pub record Page : Type 0 where
+  pub held : Option (List ℕ)
+  pub newest : Timestamp
+  pub floor : Timestamp
+
+-- a commit: its timestamp and its transaction
+pub record Commit : Type 0 where
+  pub stamp : ℕ
+  pub txn : List ℕ
+
+pub record History : Type 0 where
+  pub start : List ℕ
+  pub clock : ℕ
+  -- since the start, by rising timestamp
+  pub commits : List Commit
+  pub pages : List Page
+
+abbrev pub blankPage : Page
+blankPage = record { held = none; newest = None; floor = None }
+
+unfoldable pub pageAt : History → ℕ → Page
+pageAt h L = getD h.pages L blankPage
+
+-- a start with these words and this clock
+unfoldable pub opened : Sizes → List ℕ → ℕ → History
+opened z start clock = record { start = start; clock = clock; commits = []; pages = replicate z.lanes blankPage }
+
+-- ---- the words
+unfoldable pub isBelow : Timestamp → ℕ → Bool
+isBelow None s = true
+isBelow (At b) s = ltb s b
+
+-- the words with the commits below a timestamp run in order, all of them where it is none
+unfoldable pub replay : (W : ℕ) → Timestamp → List Commit → List ℕ → List ℕ
+replay W b [] ws = ws
+replay W b (c ∷ cs) ws = replay W b cs (cond (isBelow b c.stamp) (after W c.txn ws) ws)
+
+unfoldable pub wordsBelow : Sizes → Timestamp → History → List ℕ
+wordsBelow z b h = replay z.words b h.commits h.start
+
+-- ---- what the history does with an event
+unfoldable pub floorOr : Timestamp → Timestamp → Timestamp
+floorOr None b = b
+floorOr (At a) b = At a
+
+-- a drain of lane L: its newest timestamp, if any, becomes its floor
+unfoldable pub settled : ℕ → History → History
+settled L h =
+    let p = pageAt h L in
+    record { start = h.start; clock = h.clock; commits = h.commits; pages = set h.pages L (record { held = p.held; newest = p.newest; floor = floorOr p.newest p.floor }) }
+
+-- a new timestamp of lane L, with what it then holds and what is committed
+unfoldable pub stamped : ℕ → Option (List ℕ) → List (List ℕ) → History → History
+stamped L held txns h =
+    let s = h.clock + 2 in
+    record {
+      start = h.start;
+      clock = s;
+      commits = h.commits ++ map (λ f. record { stamp = s; txn = f }) txns;
+      pages = set h.pages L (record { held = held; newest = At s; floor = floorOr (pageAt h L .floor) (At s) });
+    }
+
+-- lane L holds nothing any more
+unfoldable pub released : ℕ → History → History
+released L h =
+    let p = pageAt h L in
+    record { start = h.start; clock = h.clock; commits = h.commits; pages = set h.pages L (record { held = none; newest = p.newest; floor = p.floor }) }
+
+unfoldable pub isSome : Option (List ℕ) → Bool
+isSome none = false
+isSome (some f) = true
+
+unfoldable pub heldBy : Option (List ℕ) → List (List ℕ)
+heldBy none = []
+heldBy (some f) = f ∷ []
+
+unfoldable pub isNone : List ℕ → Bool
+isNone [] = true
+isNone (x ∷ xs) = false
+
+-- a call that was taken, by the timestamp in its answer
+unfoldable pub taken : Call → (stamp : List ℕ) → History → History
+taken (log L f) s h = cond (isNone s) (settled L h) (stamped L (some f) [] (settled L h))
+taken (redo L) s h = cond (isNone s) (settled L h) (stamped L none (heldBy (pageAt h L .held)) (settled L h))
+taken (validate L f) s h = cond (isNone s) (released L (settled L h)) (stamped L none (f ∷ []) (settled L h))
+taken (mark L) s h = stamped L none [] (settled L h)
+taken (drain L) s h = settled L h
+
+-- a finished recovery that started from these cut cells
+unfoldable pub restarted : Sizes → List ℕ → History → History
+restarted z found h = opened z (wordsBelow z (boundary z found) h) (newBase z found)
+
+unfoldable pub afterCall : Call → Answer → History → History
+afterCall c a h = cond (eqb (numberIn a) 0) (taken c (stampIn a) h) h
+
+unfoldable pub afterRecovered : Sizes → List ℕ → Recovered → History → History
+afterRecovered z found (Refused n) h = h
+afterRecovered z found Cut h = h
+afterRecovered z found (Finished a) h = restarted z found h
+
+-- by the reply; a reply that the event cannot have does nothing
+unfoldable pub fedAnswer : Sizes → Event → Answer → History → History
+fedAnswer z (format start) a h = cond (eqb (numberIn a) 0) (opened z start 0) h
+fedAnswer z (writeBack i) a h = h
+fedAnswer z (call c) a h = afterCall c a h
+fedAnswer z (recover limit j) a h = h
+fedAnswer z (fails j) a h = h
+fedAnswer z (failsInDrain c is j) a h = h
+fedAnswer z (failsAfterDrain c j) a h = h
+fedAnswer z (failsInRecovery n j) a h = h
+
+-- a whole drain in a call that power cut short counts as a Drain
+unfoldable pub fedFailure : Event → Bool → History → History
+fedFailure (format start) d h = h
+fedFailure (writeBack i) d h = h
+fedFailure (call c) d h = h
+fedFailure (recover limit j) d h = h
+fedFailure (fails j) d h = h
+fedFailure (failsInDrain c is j) d h = h
+fedFailure (failsAfterDrain c j) d h = cond d (settled (laneOf c) h) h
+fedFailure (failsInRecovery n j) d h = h
+
+unfoldable pub fed : Sizes → Event → Reply → (found : List ℕ) → History → History
+fed z e (answered a) found h = fedAnswer z e a h
+fed z e (recovered r) found h = afterRecovered z found r h
+fed z e (failed d) found h = fedFailure e d h
+fed z e ignored found h = h
+
+-- ---- what the history can tell of an answer
+unfoldable pub leastFloorOf : List Page → Timestamp
+leastFloorOf [] = None
+leastFloorOf (p ∷ ps) = lesser p.floor (leastFloorOf ps)
+
+-- the data words now, and the writes of a transaction on them
+unfoldable pub present : Sizes → History → List ℕ
+present z h = wordsBelow z None h
+
+unfoldable pub writesNow : Sizes → List ℕ → History → List Write
+writesNow z f h = run z.words f (present z h)
+
+-- the writes that lane L has logged: those of the transaction that it holds, on the words before its timestamp
+unfoldable pub writesLogged : Sizes → ℕ → History → List Write
+writesLogged z L h = elim (pageAt h L .held) [ none ↦ [] | some f ↦ run z.words f (wordsBelow z (pageAt h L .newest) h) ]
+
+-- the same words and old values, in the same order
+unfoldable pub sameOlds : List Write → List Write → Bool
+sameOlds [] [] = true
+sameOlds [] (w ∷ ws) = false
+sameOlds (v ∷ vs) [] = false
+sameOlds (v ∷ vs) (w ∷ ws) = (eqb (v .word) (w .word) && eqb (v .old) (w .old)) && sameOlds vs ws
+
+-- is some commit above a timestamp
+unfoldable pub isAbove : Timestamp → ℕ → Bool
+isAbove None s = false
+isAbove (At b) s = ltb b s
+
+unfoldable pub commitAbove : Timestamp → List Commit → Bool
+commitAbove b [] = false
+commitAbove b (c ∷ cs) = isAbove b (c .stamp) || commitAbove b cs
+
+-- causes 3, 5, 6, 7 and 8
+unfoldable pub badLane : Sizes → ℕ → Cause
+badLane z L = record { number = 3; holds = leb z.lanes L }
+
+unfoldable pub badTxn : Sizes → List ℕ → Cause
+badTxn z f = record { number = 5; holds = not (txnOk 16 z.words f) }
+
+unfoldable pub holdsOne : ℕ → History → Bool
+holdsOne L h = isSome (pageAt h L .held)
+
+unfoldable pub clockSpent : History → Bool
+clockSpent h = leb (2 ^ 64 - 2) h.clock
+
+unfoldable pub refusalBy : Sizes → Call → History → ℕ
+refusalBy z (log L f) h =
+    firstCause
+    (badLane z L
+    ∷ badTxn z f
+    ∷ record { number = 6; holds = holdsOne L h }
+    ∷ record { number = 8; holds = leb 1 (length (writesNow z f h)) && clockSpent h }
+    ∷ [])
+refusalBy z (redo L) h =
+    firstCause (badLane z L ∷ record { number = 7; holds = not (holdsOne L h) } ∷ record { number = 8; holds = clockSpent h } ∷ [])
+refusalBy z (validate L f) h =
+    firstCause (badLane z L ∷ badTxn z f ∷ record { number = 7; holds = not (holdsOne L h) } ∷ record { number = 8; holds = clockSpent h } ∷ [])
+refusalBy z (mark L) h = firstCause (badLane z L ∷ record { number = 8; holds = clockSpent h } ∷ [])
+refusalBy z (drain L) h = firstCause (badLane z L ∷ [])
+
+-- the answer of a call that is not refused
+unfoldable pub takenAnswer : Sizes → Call → History → Answer
+takenAnswer z (log L f) h =
+    let n = length (writesNow z f h) in
+    cond (eqb n 0) answer.NoWrites (answer.Logged (record { count = n; stamp = h.clock + 2 }))
+takenAnswer z (redo L) h = cond (commitAbove (pageAt h L .newest) h.commits) answer.Stale (answer.Committed (h.clock + 2))
+takenAnswer z (validate L f) h =
+    cond (sameOlds (writesNow z f h) (writesLogged z L h)) (answer.Committed (h.clock + 2)) answer.Changed
+takenAnswer z (mark L) h = answer.Marked (record { stamp = h.clock + 2; dropped = holdsOne L h })
+takenAnswer z (drain L) h = answer.Done
+
+-- the answer, cause 9 apart
+unfoldable pub answerBy : Sizes → Call → History → Answer
+answerBy z c h = cond (eqb (refusalBy z c h) 0) (takenAnswer z c h) (answer.Refused (refusalBy z c h))
+
+-- does a call append to a log: only then can cause 9 stop it
+unfoldable pub appends : Sizes → Call → History → Bool
+appends z (log L f) h = leb 1 (length (writesNow z f h))
+appends z (redo L) h = false
+appends z (validate L f) h = false
+appends z (mark L) h = true
+appends z (drain L) h = false

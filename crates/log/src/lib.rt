@@ -1,0 +1,115 @@
+// One lane's log, the part of the image from the lane's first slot on: its slots and the sequences that they close. Searching is in search.rt, appending in append.rt.
+ghost use mathlib.Core.Path.{_≡_};
+ghost use Prim.Native.Nat.{_+_, _*_, _≤_, _<_};
+ghost use lib.ListN.{length};
+ghost use Rattle.log.specs.Log.{slotAt, back as backOf};
+ghost use Rattle.log.specs.Search.{isEntry, entryBack, closedAt};
+use slot::Content;
+use slot::Slot;
+
+pub mod append;
+pub mod search;
+
+// A timestamp or none: a lane's floor, the lower bound (the least of the floors), the boundary.
+pub enum Timestamp {
+    None,
+    At(u64),
+}
+
+// A complete sequence: its timestamp, the count of its entries, and the slot of the timestamp, which follows them.
+pub struct Sequence {
+    pub stamp: u64,
+    pub count: usize,
+    pub slot: usize,
+}
+
+// A lane's latest sequence, if there is one.
+pub enum Latest {
+    Nothing,
+    Is(Sequence),
+}
+
+// Where a log goes on: the next slot, and the wrap bit that it is written with.
+pub struct Cursor {
+    pub slot: usize,
+    pub wrap: u64,
+}
+
+// What slot j says, in an image of `words` data words.
+pub fn slot_at(log: &[u64], words: usize, j: usize) -> Content
+    requires { ⌜ 2 * j + 1 < length (now log) ⌝ }
+    ensures { λ r. ⌜ r ≡ slotAt words (now (log .entry)) j ⌝ }
+{
+    let slot = Slot {
+        address: log[2 * j],
+        value: log[2 * j + 1],
+    };
+    slot.read(words)
+}
+
+// The slot i places before slot j, circularly.
+pub fn back(slots: usize, j: usize, i: usize) -> usize
+    requires { ⌜ (slots ≤ 256) × (j < slots) × (i ≤ slots) ⌝ }
+    ensures { λ r. ⌜ r ≡ backOf slots j i ⌝ }
+{
+    if i <= j {
+        return j - i;
+    }
+    j + slots - i
+}
+
+// Is it a whole entry with this wrap bit?
+fn is_entry(content: Content, wrap: u64) -> bool
+    ensures { λ r. ⌜ r ≡ isEntry wrap content ⌝ }
+{
+    match content {
+        Content::Entry {
+            word: _,
+            old: _,
+            wrap: p,
+        } => p == wrap,
+        Content::Empty => false,
+        Content::Torn => false,
+        Content::Stamp {
+            count: _,
+            stamp: _,
+            wrap: _,
+        } => false,
+    }
+}
+
+// Is the slot i places before slot j a whole entry, with the wrap bit of slot j, the opposite one before the wrap?
+fn entry_back(log: &[u64], words: usize, slots: usize, j: usize, wrap: u64, i: usize) -> bool
+    requires { ⌜ (length (now log) ≡ 2 * slots) × (slots ≤ 256) × (j < slots) × (i ≤ slots) × (wrap ≤ 1) ⌝ }
+    ensures { λ r. ⌜ r ≡ entryBack words slots (now (log .entry)) j wrap i ⌝ }
+{
+    let content = slot_at(log, words, back(slots, j, i));
+    if i <= j {
+        return is_entry(content, wrap);
+    }
+    is_entry(content, 1 - wrap)
+}
+
+// The sequence that slot j closes, if it is complete: a whole timestamp above the base over whole entries.
+pub fn closed_at(log: &[u64], words: usize, slots: usize, base: u64, j: usize) -> Latest
+    requires { ⌜ (length (now log) ≡ 2 * slots) × (34 ≤ slots) × (slots ≤ 256) × (j < slots) ⌝ }
+    ensures { λ r. ⌜ r ≡ closedAt words slots base (now (log .entry)) j ⌝ }
+{
+    let content = slot_at(log, words, j);
+    let Content::Stamp { count, stamp, wrap } = content else {
+        return Latest::Nothing;
+    };
+    if stamp <= base {
+        return Latest::Nothing;
+    }
+    for i in 0..count {
+        if !entry_back(log, words, slots, j, wrap, i + 1) {
+            return Latest::Nothing;
+        }
+    }
+    Latest::Is(Sequence {
+        stamp,
+        count,
+        slot: j,
+    })
+}

@@ -1,0 +1,88 @@
+-- Laws for the crate's loops over a list's first elements: one element more, an element that fails. Assumes nothing.
+use mathlib.Core.Path.{_≡_, refl, sym, ap, _∙_}
+use mathlib.Core.Bool.{true, false}
+use mathlib.Core.List.{List, [], _∷_}
+use Prim.Native.Nat.{ℕ, zero, suc, _+_, _≤_, _<_}
+use native.Mathlib.Numerals.{add-one}
+use lib.Dec.{ltb}
+use lib.ListN.{length, getD, set, take, replicate}
+use lib.Seq.{take-nil}
+use borrow.Author.Tests.{lt-ltb, le-ltb}
+use Rattle.txn.specs.Txn.{noWrite}
+use Rattle.txn.specs.declared.Write.{Write}
+use Rattle.image.specs.declared.Sizes.{Sizes}
+use Rattle.log.specs.declared.Timestamp.the-variants.{None}
+use Rattle.record.specs.declared.Pair.{Pair}
+use Rattle.record.specs.declared.Lane.{Lane}
+use Rattle.record.specs.Record.{noPair, noLane, pairsOk, laneOk, lanesOk, lesser, leastFloor, pairsOf}
+use Rattle.record.specs.Every.{every-more, every-fails}
+use Rattle.record.specs.RecordLaws.{pairs-every, lanes-every, lesser-none, lesser-assoc}
+
+-- ---- pairs_ok
+pub pairs-none : (W : ℕ) → pairsOk W [] ≡ true
+unfolding pairsOk
+pairs-none W = refl
+
+pub pairs-more : (W : ℕ) (redo : List Pair) (i : ℕ) → pairsOk W (take i redo) ≡ true → getD redo i noPair .word < W
+    → pairsOk W (take (i + 1) redo) ≡ true
+pairs-more W redo i h k =
+    pairs-every W (take (i + 1) redo)
+    ∙ every-more (λ p. ltb (p .word) W) redo i noPair (sym (pairs-every W (take i redo)) ∙ h) (lt-ltb (getD redo i noPair .word) W k)
+
+pub pairs-fail : (W : ℕ) (redo : List Pair) (i n : ℕ) → i < n → i < length redo → W ≤ getD redo i noPair .word → pairsOk W (take n redo) ≡ false
+pairs-fail W redo i n h b k =
+    pairs-every W (take n redo) ∙ every-fails (λ p. ltb (p .word) W) redo i n noPair h b (le-ltb (getD redo i noPair .word) W k)
+
+-- ---- record_ok
+pub lanes-none : (z : Sizes) (clock : ℕ) → lanesOk z clock [] ≡ true
+unfolding lanesOk
+lanes-none z clock = refl
+
+pub lanes-more : (z : Sizes) (clock : ℕ) (lanes : List Lane) (i : ℕ) → lanesOk z clock (take i lanes) ≡ true
+    → laneOk z clock (getD lanes i noLane) ≡ true → lanesOk z clock (take (i + 1) lanes) ≡ true
+lanes-more z clock lanes i h k =
+    lanes-every z clock (take (i + 1) lanes)
+    ∙ every-more (laneOk z clock) lanes i noLane (sym (lanes-every z clock (take i lanes)) ∙ h) k
+
+pub lanes-fail : (z : Sizes) (clock : ℕ) (lanes : List Lane) (i n : ℕ) → i < n → i < length lanes
+    → laneOk z clock (getD lanes i noLane) ≡ false → lanesOk z clock (take n lanes) ≡ false
+lanes-fail z clock lanes i n h b k = lanes-every z clock (take n lanes) ∙ every-fails (laneOk z clock) lanes i n noLane h b k
+
+-- ---- bound_of
+pub least-empty : leastFloor [] ≡ None
+unfolding leastFloor
+least-empty = refl
+
+past : (lanes : List Lane) (i : ℕ) → leastFloor (take (suc i) lanes) ≡ lesser (leastFloor (take i lanes)) (getD lanes i noLane .floor)
+unfolding leastFloor lesser
+past [] zero = refl
+past [] (suc i) = refl
+past (x ∷ l) zero = lesser-none (x .floor)
+past (x ∷ l) (suc i) = ap (lesser (x .floor)) (past l i) ∙ sym (lesser-assoc (x .floor) (leastFloor (take i l)) (getD l i noLane .floor))
+
+pub least-more : (lanes : List Lane) (i : ℕ) → leastFloor (take (i + 1) lanes) ≡ lesser (leastFloor (take i lanes)) (getD lanes i noLane .floor)
+least-more lanes i = rw add-one (past lanes i)
+
+-- ---- pairs_of
+pub redo-empty : (n : ℕ) → replicate n noPair ≡ pairsOf n []
+unfolding pairsOf
+redo-empty zero = refl
+redo-empty (suc n) = ap (λ (l : List Pair). noPair ∷ l) (redo-empty n)
+
+past-end : (n i : ℕ) → set (pairsOf n []) i noPair ≡ pairsOf n []
+unfolding pairsOf
+past-end zero i = refl
+past-end (suc n) zero = refl
+past-end (suc n) (suc i) = ap (λ (l : List Pair). noPair ∷ l) (past-end n i)
+
+put : (n : ℕ) (ws : List Write) (i : ℕ)
+    → set (pairsOf n (take i ws)) i (record { word = getD ws i noWrite .word; value = getD ws i noWrite .new }) ≡ pairsOf n (take (suc i) ws)
+unfolding pairsOf
+put n [] i = ap (λ (l : List Write). set (pairsOf n l) i noPair) (take-nil i) ∙ past-end n i
+put zero (w ∷ ws) i = refl
+put (suc n) (w ∷ ws) zero = refl
+put (suc n) (w ∷ ws) (suc i) = ap (λ (l : List Pair). record { word = w .word; value = w .new } ∷ l) (put n ws i)
+
+pub redo-more : (n : ℕ) (ws : List Write) (i : ℕ)
+    → set (pairsOf n (take i ws)) i (record { word = getD ws i noWrite .word; value = getD ws i noWrite .new }) ≡ pairsOf n (take (i + 1) ws)
+redo-more n ws i = rw add-one (put n ws i)

@@ -1,0 +1,93 @@
+-- `record::record_ok` is `recordOk`: the loop has found the lanes below `i` in range.
+use borrow.Author.Needs.{needs}
+use Prim.Native.Nat.{_≤_, _<_, _-_}
+use mathlib.Core.Path.{_≡_, sym, _∙_}
+use mathlib.Core.Bool.{true}
+use native.Mathlib.Omega.{arith}
+use lib.ListN.{take, length}
+use borrow.Author.Tests.{eq-eqb, ne-eqb, not-true, not-false}
+use Rattle.record.specs.Record.{lanesOk, recordOk}
+use Rattle.record.proofs.Lengths.{lanes-eight}
+use Rattle.record.proofs.Loops.{lanes-none, lanes-more, lanes-fail}
+use Rattle.record.proofs.record_ok.Statement.{statement}
+use Rattle.record.proofs.record_ok.Tie as tie
+
+abbrev Inv-loop : tie.InvT-loop
+Inv-loop sizes state clock lanes i₀ i = (i ≤ lanes) × (lanesOk sizes clock (take i (state .lanes)) ≡ true)
+
+abbrev μ-loop : tie.MeasureT-loop
+μ-loop sizes state clock lanes i₀ i = lanes - i
+
+returns : tie.Need-returns Inv-loop μ-loop
+unfolding recordOk
+returns c = rw (ne-eqb _ _ (c .if1 .taken))
+
+stamp-ok-requires : tie.Need-stamp-ok-requires Inv-loop μ-loop
+stamp-ok-requires c κs = search needs
+
+returns-2 : tie.Need-returns-2 Inv-loop μ-loop
+unfolding recordOk
+returns-2 c = rw (eq-eqb _ _ (c .before .before .if1 .left), sym (c .before .stamp-ok .ensures) ∙ not-true _ (c .if2 .taken))
+
+loop-holds : tie.Need-loop-holds Inv-loop μ-loop
+loop-holds c = (search needs, lanes-none _ _)
+
+mul-lane : tie.Need-mul-lane Inv-loop μ-loop
+mul-lane c = search needs
+
+element-copy-out-lane : tie.Need-element-copy-out-lane Inv-loop μ-loop
+element-copy-out-lane c = search needs
+
+lane-ok-requires : tie.Need-lane-ok-requires Inv-loop μ-loop
+lane-ok-requires c κs = search needs
+
+returns-3 : tie.Need-returns-3 Inv-loop μ-loop
+unfolding recordOk
+returns-3 c =
+    let l = c .before .before .before .before in
+    let s = l .before .before .before .before in
+    let k : l .loop .i < length (s .args .t2 .lanes) = omega (arith, lanes-eight (s .args .t2) (s .good .1 .0)) in
+    rw (eq-eqb _ _ (l .before .before .before .if1 .left), sym (l .before .before .stamp-ok .ensures) ∙ not-false _ (l .before .if2 .left))
+    (sym
+    (lanes-fail _ _ (s .args .t2 .lanes) (l .loop .i) (s .args .sizes .lanes) (search needs) k
+    (sym (c .before .lane-ok .ensures) ∙ not-true _ (c .if3 .taken))))
+
+add-i : tie.Need-add-i Inv-loop μ-loop
+add-i c = search needs
+
+loop-less : tie.Need-loop-less Inv-loop μ-loop
+loop-less c = search needs
+
+loop-again : tie.Need-loop-again Inv-loop μ-loop
+loop-again c =
+    let l = c .before .before .before .before in
+    let a = l .before .before .before .before .args in
+    (search needs, lanes-more _ _ (a .t2 .lanes) (l .loop .i) (l .loop .inv .1) (sym (c .before .lane-ok .ensures) ∙ not-false _ (c .if3 .left)))
+
+returns-4 : tie.Need-returns-4 Inv-loop μ-loop
+unfolding recordOk
+returns-4 c =
+    let l = c .before in
+    let s = l .before .before .before .before in
+    let e : l .loop .i ≡ s .args .sizes .lanes = omega arith in
+    rw (eq-eqb _ _ (l .before .before .before .if1 .left), sym (l .before .before .stamp-ok .ensures) ∙ not-false _ (l .before .if2 .left))
+    (sym (rw e at (l .loop .inv .1)))
+
+pub record-ok-spec : {M : Type 1} → statement M
+record-ok-spec =
+    tie.close
+    (tie.spec
+    Inv-loop
+    μ-loop
+    returns
+    stamp-ok-requires
+    returns-2
+    loop-holds
+    mul-lane
+    element-copy-out-lane
+    lane-ok-requires
+    returns-3
+    add-i
+    loop-less
+    loop-again
+    returns-4)

@@ -1,0 +1,3 @@
+pub mod Record
+pub mod Every
+pub mod RecordLaws

@@ -1,0 +1,136 @@
+-- The record: its start, its range check, its updates, the lower bound. 01, "Memory and time", "Steps", refusal 2. Assumes nothing.
+use Prim.Native.Nat.{ℕ, zero, suc, _-_, _%_, _^_, min}
+use mathlib.Core.Bool.{Bool, true, false, _&&_}
+use mathlib.Core.List.{List, [], _∷_}
+use lib.Dec.{leb, ltb, eqb}
+use lib.ListN.{getD, set, take, replicate}
+use Rattle.txn.specs.declared.Write.{Write}
+use Rattle.image.specs.declared.Sizes.{Sizes}
+use Rattle.log.specs.declared.Timestamp.{Timestamp}
+use Rattle.log.specs.declared.Timestamp.the-variants.{None, At}
+use Rattle.log.specs.declared.Latest.{Latest}
+use Rattle.log.specs.declared.Latest.the-variants.{Nothing, Is}
+use Rattle.log.specs.declared.Cursor.{Cursor}
+use Rattle.record.specs.declared.Pair.{Pair}
+use Rattle.record.specs.declared.Logged.{Logged}
+use Rattle.record.specs.declared.Phase.{Phase}
+use Rattle.record.specs.declared.Phase.the-variants.{Idle, Holds}
+use Rattle.record.specs.declared.Lane.{Lane}
+use Rattle.record.specs.declared.Record.{Record}
+
+-- ---- the start
+abbrev pub noPair : Pair
+noPair = record { word = 0; value = 0 }
+
+-- a lane at a start: idle without floor, at slot 0 with wrap bit 1
+unfoldable pub startLane : Lane
+startLane = record { phase = Idle; next = 0; wrap = 1; floor = None; redo = replicate 16 noPair }
+
+-- the record at a start: clock and last commit are the base timestamp
+unfoldable pub startRecord : ℕ → Record
+startRecord base = record { clock = base; last = base; lanes = replicate 8 startLane }
+
+-- ---- lanes
+-- what stands past the end of the lanes
+abbrev pub noLane : Lane
+noLane = record { phase = Idle; next = 0; wrap = 0; floor = None; redo = [] }
+
+unfoldable pub laneAt : Record → ℕ → Lane
+laneAt r L = getD r.lanes L noLane
+
+unfoldable pub cursorOf : Lane → Cursor
+cursorOf l = record { slot = l.next; wrap = l.wrap }
+
+unfoldable pub isLogged : Phase → Bool
+isLogged Idle = false
+isLogged (Holds g) = true
+
+-- the logged transaction of a phase, 0s where there is none
+unfoldable pub loggedIn : Phase → Logged
+loggedIn Idle = record { first = 0; count = 0; stamp = 0 }
+loggedIn (Holds g) = g
+
+-- ---- the range check (refusal 2 is that it is false)
+-- a timestamp of the record is even and not above the clock
+unfoldable pub stampOk : (clock s : ℕ) → Bool
+stampOk clock s = eqb (s % 2) 0 && leb s clock
+
+unfoldable pub floorOk : (clock : ℕ) → Timestamp → Bool
+floorOk clock None = true
+floorOk clock (At s) = stampOk clock s
+
+unfoldable pub pairsOk : (W : ℕ) → List Pair → Bool
+pairsOk W [] = true
+pairsOk W (p ∷ ps) = ltb p.word W && pairsOk W ps
+
+-- the pairs are looked at below the count alone
+unfoldable pub phaseOk : Sizes → (clock : ℕ) → List Pair → Phase → Bool
+phaseOk z clock redo Idle = true
+phaseOk z clock redo (Holds g) =
+    ltb g.first z.slots && (leb 1 g.count && (leb g.count 16 && (stampOk clock g.stamp && pairsOk z.words (take g.count redo))))
+
+unfoldable pub laneOk : Sizes → (clock : ℕ) → Lane → Bool
+laneOk z clock l = ltb l.next z.slots && (leb l.wrap 1 && (floorOk clock l.floor && phaseOk z clock l.redo l.phase))
+
+unfoldable pub lanesOk : Sizes → (clock : ℕ) → List Lane → Bool
+lanesOk z clock [] = true
+lanesOk z clock (l ∷ ls) = laneOk z clock l && lanesOk z clock ls
+
+-- the lanes that are not in use may hold anything
+unfoldable pub recordOk : Sizes → Record → Bool
+recordOk z r = eqb (r.clock % 2) 0 && (stampOk r.clock r.last && lanesOk z r.clock (take z.lanes r.lanes))
+
+-- the clock can give no new timestamp
+unfoldable pub spent : Record → Bool
+spent r = leb (2 ^ 64 - 2) r.clock
+
+-- ---- floors
+unfoldable pub lesser : Timestamp → Timestamp → Timestamp
+lesser None b = b
+lesser (At a) None = At a
+lesser (At a) (At b) = At (min a b)
+
+unfoldable pub leastFloor : List Lane → Timestamp
+leastFloor [] = None
+leastFloor (l ∷ ls) = lesser l.floor (leastFloor ls)
+
+-- the lower bound: the least floor of the lanes in use
+unfoldable pub boundOf : Sizes → Record → Timestamp
+boundOf z r = leastFloor (take z.lanes r.lanes)
+
+-- a lane's floor after a drain: the timestamp of its latest sequence, if it has one
+unfoldable pub floorAfterDrain : Latest → Timestamp → Timestamp
+floorAfterDrain Nothing floor = floor
+floorAfterDrain (Is q) floor = At q.stamp
+
+-- after an append stamped s: a first sequence sets it
+unfoldable pub floorAfterAppend : ℕ → Timestamp → Timestamp
+floorAfterAppend s None = At s
+floorAfterAppend s (At f) = At f
+
+-- ---- updates
+unfoldable pub withLane : Record → ℕ → Lane → Record
+withLane r L l = record { clock = r.clock; last = r.last; lanes = set r.lanes L l }
+
+unfoldable pub withClock : Record → ℕ → Record
+withClock r clock = record { clock = clock; last = r.last; lanes = r.lanes }
+
+unfoldable pub withLast : Record → ℕ → Record
+withLast r last = record { clock = r.clock; last = last; lanes = r.lanes }
+
+-- a lane after a drain that found this latest sequence
+unfoldable pub drainedLane : Latest → Lane → Lane
+drainedLane q l = record { phase = l.phase; next = l.next; wrap = l.wrap; floor = floorAfterDrain q l.floor; redo = l.redo }
+
+-- a lane after an append stamped s that ended at a cursor
+unfoldable pub appendedLane : ℕ → Cursor → Phase → List Pair → Lane → Lane
+appendedLane s c phase redo l = record { phase = phase; next = c.slot; wrap = c.wrap; floor = floorAfterAppend s l.floor; redo = redo }
+
+unfoldable pub idleLane : Lane → Lane
+idleLane l = record { phase = Idle; next = l.next; wrap = l.wrap; floor = l.floor; redo = l.redo }
+
+-- the redo log of a list of writes: n pairs, 0 where there are no more
+unfoldable pub pairsOf : (n : ℕ) → List Write → List Pair
+pairsOf zero ws = []
+pairsOf (suc n) [] = noPair ∷ pairsOf n []
+pairsOf (suc n) (w ∷ ws) = record { word = w.word; value = w.new } ∷ pairsOf n ws

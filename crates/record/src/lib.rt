@@ -1,0 +1,340 @@
+// The record: clock, last commit and the lanes' state, which live outside the image and are lost with the power.
+use image::Sizes;
+use log::Cursor;
+use log::Latest;
+use log::Timestamp;
+use txn::Writes;
+ghost use mathlib.Core.Path.{_≡_};
+ghost use Prim.Native.Nat.{_≤_, _<_};
+ghost use lib.ListN.{take};
+ghost use Rattle.record.specs.Record.{startLane, startRecord, laneAt, cursorOf, isLogged, loggedIn};
+ghost use Rattle.record.specs.Record.{stampOk, floorOk, pairsOk, phaseOk, laneOk, recordOk, spent};
+ghost use Rattle.record.specs.Record.{lesser, boundOf, floorAfterDrain, floorAfterAppend};
+ghost use Rattle.record.specs.Record.{withLane, withClock, withLast, drainedLane, appendedLane, idleLane, pairsOf};
+
+// A word number and its new value. 01: a pair.
+pub struct Pair {
+    pub word: usize,
+    pub value: u64,
+}
+
+// A logged transaction: its first slot, the count of its entries, its timestamp.
+pub struct Logged {
+    pub first: usize,
+    pub count: usize,
+    pub stamp: u64,
+}
+
+pub enum Phase {
+    Idle,
+    Holds(Logged),
+}
+
+pub struct Lane {
+    pub phase: Phase,
+    // the next slot of the log, and the wrap bit it is written with (01: present lap bit)
+    pub next: usize,
+    pub wrap: u64,
+    // the low-water mark: the timestamp that the last drained sequence had, or the first's while none is drained
+    pub floor: Timestamp,
+    // the redo log: a logged transaction's writes, in order
+    pub redo: [Pair; 16],
+}
+
+pub struct Record {
+    pub clock: u64,
+    // the timestamp of the last commit
+    pub last: u64,
+    pub lanes: [Lane; 8],
+}
+
+// A lane at a start: idle without floor, at slot 0 with wrap bit 1.
+pub fn start_lane() -> Lane
+    ensures { λ r. ⌜ r ≡ startLane ⌝ }
+{
+    Lane {
+        phase: Phase::Idle,
+        next: 0,
+        wrap: 1,
+        floor: Timestamp::None,
+        redo: [Pair { word: 0, value: 0 }; 16],
+    }
+}
+
+// The record at a start, which is Format or a finished recovery.
+pub fn start_record(base: u64) -> Record
+    ensures { λ r. ⌜ r ≡ startRecord base ⌝ }
+{
+    Record {
+        clock: base,
+        last: base,
+        lanes: [start_lane(); 8],
+    }
+}
+
+// One lane's state.
+pub fn lane_of(state: Record, lane: usize) -> Lane
+    requires { ⌜ lane < 8 ⌝ }
+    ensures { λ r. ⌜ r ≡ laneAt state lane ⌝ }
+{
+    state.lanes[lane]
+}
+
+// Where a lane's log goes on.
+pub fn cursor_of(lane: Lane) -> Cursor
+    ensures { λ r. ⌜ r ≡ cursorOf lane ⌝ }
+{
+    Cursor {
+        slot: lane.next,
+        wrap: lane.wrap,
+    }
+}
+
+// Does a lane of this phase hold a logged transaction?
+pub fn is_logged(phase: Phase) -> bool
+    ensures { λ r. ⌜ r ≡ isLogged phase ⌝ }
+{
+    match phase {
+        Phase::Idle => false,
+        Phase::Holds(_) => true,
+    }
+}
+
+// The logged transaction of a phase, 0s where there is none.
+pub fn logged_in(phase: Phase) -> Logged
+    ensures { λ r. ⌜ r ≡ loggedIn phase ⌝ }
+{
+    match phase {
+        Phase::Idle => Logged {
+            first: 0,
+            count: 0,
+            stamp: 0,
+        },
+        Phase::Holds(logged) => logged,
+    }
+}
+
+// A timestamp of the record is even and not above the clock.
+fn stamp_ok(clock: u64, stamp: u64) -> bool
+    ensures { λ r. ⌜ r ≡ stampOk clock stamp ⌝ }
+{
+    stamp % 2 == 0 && stamp <= clock
+}
+
+fn floor_ok(clock: u64, floor: Timestamp) -> bool
+    ensures { λ r. ⌜ r ≡ floorOk clock floor ⌝ }
+{
+    match floor {
+        Timestamp::None => true,
+        Timestamp::At(stamp) => stamp_ok(clock, stamp),
+    }
+}
+
+// Do the first `count` pairs name data words?
+fn pairs_ok(words: usize, count: usize, redo: [Pair; 16]) -> bool
+    requires { ⌜ count ≤ 16 ⌝ }
+    ensures { λ r. ⌜ r ≡ pairsOk words (take count redo) ⌝ }
+{
+    for i in 0..count {
+        let pair = redo[i];
+        if words <= pair.word {
+            return false;
+        }
+    }
+    true
+}
+
+fn phase_ok(sizes: Sizes, clock: u64, redo: [Pair; 16], phase: Phase) -> bool
+    ensures { λ r. ⌜ r ≡ phaseOk sizes clock redo phase ⌝ }
+{
+    match phase {
+        Phase::Idle => true,
+        Phase::Holds(logged) => {
+            let count = logged.count;
+            if sizes.slots <= logged.first {
+                return false;
+            }
+            if count < 1 {
+                return false;
+            }
+            if 16 < count {
+                return false;
+            }
+            if !stamp_ok(clock, logged.stamp) {
+                return false;
+            }
+            pairs_ok(sizes.words, count, redo)
+        }
+    }
+}
+
+fn lane_ok(sizes: Sizes, clock: u64, lane: Lane) -> bool
+    ensures { λ r. ⌜ r ≡ laneOk sizes clock lane ⌝ }
+{
+    let floor = lane.floor;
+    let phase = lane.phase;
+    let redo = lane.redo;
+    if sizes.slots <= lane.next {
+        return false;
+    }
+    if 1 < lane.wrap {
+        return false;
+    }
+    if !floor_ok(clock, floor) {
+        return false;
+    }
+    phase_ok(sizes, clock, redo, phase)
+}
+
+// The range check, false where refusal 2 is due. The lanes that are not in use, and the pairs from the count on, may hold anything.
+pub fn record_ok(sizes: Sizes, state: Record) -> bool
+    requires { ⌜ sizes .lanes ≤ 8 ⌝ }
+    ensures { λ r. ⌜ r ≡ recordOk sizes state ⌝ }
+{
+    let clock = state.clock;
+    if clock % 2 != 0 {
+        return false;
+    }
+    if !stamp_ok(clock, state.last) {
+        return false;
+    }
+    let lanes = sizes.lanes;
+    for i in 0..lanes {
+        let lane = state.lanes[i];
+        if !lane_ok(sizes, clock, lane) {
+            return false;
+        }
+    }
+    true
+}
+
+// 2^64 - 2, the last even number.
+const CLOCK_END: u64 = 18446744073709551614;
+
+// Can the clock give no new timestamp?
+pub fn spent(state: Record) -> bool
+    ensures { λ r. ⌜ r ≡ spent state ⌝ }
+{
+    CLOCK_END <= state.clock
+}
+
+// The lesser of two timestamps; none is above all.
+pub fn lesser(a: Timestamp, b: Timestamp) -> Timestamp
+    ensures { λ r. ⌜ r ≡ lesser a b ⌝ }
+{
+    match a {
+        Timestamp::None => b,
+        Timestamp::At(x) => match b {
+            Timestamp::None => a,
+            Timestamp::At(y) => if x <= y { a } else { b },
+        },
+    }
+}
+
+// The lower bound: the least floor of the lanes in use.
+pub fn bound_of(sizes: Sizes, state: Record) -> Timestamp
+    requires { ⌜ sizes .lanes ≤ 8 ⌝ }
+    ensures { λ r. ⌜ r ≡ boundOf sizes state ⌝ }
+{
+    let mut bound = Timestamp::None;
+    for i in 0..sizes.lanes {
+        let lane = state.lanes[i];
+        let floor = lane.floor;
+        bound = lesser(bound, floor);
+    }
+    bound
+}
+
+// A lane's floor after a drain that found this latest sequence.
+pub fn floor_after_drain(latest: Latest, floor: Timestamp) -> Timestamp
+    ensures { λ r. ⌜ r ≡ floorAfterDrain latest floor ⌝ }
+{
+    match latest {
+        Latest::Nothing => floor,
+        Latest::Is(sequence) => Timestamp::At(sequence.stamp),
+    }
+}
+
+// A lane's floor after an append: a first sequence sets it.
+pub fn floor_after_append(stamp: u64, floor: Timestamp) -> Timestamp
+    ensures { λ r. ⌜ r ≡ floorAfterAppend stamp floor ⌝ }
+{
+    match floor {
+        Timestamp::None => Timestamp::At(stamp),
+        Timestamp::At(_) => floor,
+    }
+}
+
+// The record with a lane's state replaced.
+pub fn with_lane(mut state: Record, lane: usize, after: Lane) -> Record
+    requires { ⌜ lane < 8 ⌝ }
+    ensures { λ r. ⌜ r ≡ withLane state lane after ⌝ }
+{
+    state.lanes[lane] = after;
+    state
+}
+
+// The record with its clock moved.
+pub fn with_clock(state: Record, clock: u64) -> Record
+    ensures { λ r. ⌜ r ≡ withClock state clock ⌝ }
+{
+    Record { clock, ..state }
+}
+
+// The record with another last commit.
+pub fn with_last(state: Record, last: u64) -> Record
+    ensures { λ r. ⌜ r ≡ withLast state last ⌝ }
+{
+    Record { last, ..state }
+}
+
+// A lane after a drain that found this latest sequence.
+pub fn drained_lane(latest: Latest, lane: Lane) -> Lane
+    ensures { λ r. ⌜ r ≡ drainedLane latest lane ⌝ }
+{
+    let floor = lane.floor;
+    Lane {
+        floor: floor_after_drain(latest, floor),
+        ..lane
+    }
+}
+
+// A lane after an append that ended at a cursor, with the phase and the redo log that it then has.
+pub fn appended_lane(stamp: u64, cursor: Cursor, phase: Phase, redo: [Pair; 16], lane: Lane) -> Lane
+    ensures { λ r. ⌜ r ≡ appendedLane stamp cursor phase redo lane ⌝ }
+{
+    let floor = lane.floor;
+    Lane {
+        phase,
+        next: cursor.slot,
+        wrap: cursor.wrap,
+        floor: floor_after_append(stamp, floor),
+        redo,
+    }
+}
+
+// A lane that has committed or given up its transaction.
+pub fn idle_lane(lane: Lane) -> Lane
+    ensures { λ r. ⌜ r ≡ idleLane lane ⌝ }
+{
+    Lane {
+        phase: Phase::Idle,
+        ..lane
+    }
+}
+
+// The redo log of a run's writes: 0s from the count on.
+pub fn pairs_of(writes: Writes) -> [Pair; 16]
+    requires { ⌜ writes .count ≤ 16 ⌝ }
+    ensures { λ r. ⌜ r ≡ pairsOf 16 (take (writes .count) (writes .list)) ⌝ }
+{
+    let mut pairs = [Pair { word: 0, value: 0 }; 16];
+    for i in 0..writes.count {
+        let write = writes.list[i];
+        pairs[i] = Pair {
+            word: write.word,
+            value: write.new,
+        };
+    }
+    pairs
+}

@@ -1,0 +1,133 @@
+-- Recovery: the boundary, what is undone and in which order, the list of stores, and as many of them as a limit lets through. 01, "Recovery". Assumes nothing.
+use Prim.Native.Nat.{ℕ, zero, suc, _+_, _*_, _%_, max}
+use mathlib.Core.Bool.{Bool, true, false, cond, not, _&&_, _||_}
+use mathlib.Core.List.{List, [], _∷_, _++_}
+use lib.Dec.{leb, ltb, eqb}
+use lib.ListN.{length, take, replicate}
+use Rattle.slot.specs.declared.Content.{Content}
+use Rattle.slot.specs.declared.Content.the-variants.{Empty, Torn, Entry, Stamp}
+use Rattle.image.specs.Image.{buffersOk, imageLength, baseOf, logOf}
+use Rattle.image.specs.Stores.{Store, stored}
+use Rattle.image.specs.declared.Sizes.{Sizes}
+use Rattle.log.specs.Log.{Old, Complete, slotAt, completeIn, latestIn, contribution}
+use Rattle.log.specs.declared.Timestamp.{Timestamp}
+use Rattle.log.specs.declared.Timestamp.the-variants.{None, At}
+use Rattle.record.specs.Record.{lesser, startRecord}
+use Rattle.record.specs.declared.Record.{Record}
+use Rattle.store.specs.Machine.{Machine, Cause, firstCause}
+use Rattle.store.specs.Calls.{badBuffers, started}
+use Rattle.recovery.specs.declared.Recovered.{Recovered}
+use Rattle.recovery.specs.declared.Recovered.the-variants.{Refused, Cut, Finished}
+
+-- ---- 1. the boundary
+-- the least of what the lanes below k give
+unfoldable pub boundaryBelow : Sizes → List ℕ → (k : ℕ) → Timestamp
+boundaryBelow z image zero = None
+boundaryBelow z image (suc k) = lesser (boundaryBelow z image k) (contribution (latestIn z image k))
+
+unfoldable pub boundary : Sizes → List ℕ → Timestamp
+boundary z image = boundaryBelow z image z.lanes
+
+-- ---- 2. what is undone
+-- all complete sequences of the lanes below k
+unfoldable pub completeOf : Sizes → List ℕ → (k : ℕ) → List Complete
+completeOf z image zero = []
+completeOf z image (suc k) = completeOf z image k ++ completeIn z image k
+
+unfoldable pub atOrAbove : ℕ → List Complete → List Complete
+atOrAbove b [] = []
+atOrAbove b (q ∷ qs) = cond (leb b q.stamp) (q ∷ atOrAbove b qs) (atOrAbove b qs)
+
+-- the order of undoing: the greater timestamp first; of equal ones the higher lane, then the higher slot
+unfoldable pub undoneBefore : Complete → Complete → Bool
+undoneBefore q r =
+    ltb r.stamp q.stamp || (eqb r.stamp q.stamp && (ltb r.lane q.lane || (eqb r.lane q.lane && ltb r.slot q.slot)))
+
+unfoldable pub insert : Complete → List Complete → List Complete
+insert q [] = q ∷ []
+insert q (r ∷ rs) = cond (undoneBefore q r) (q ∷ r ∷ rs) (r ∷ insert q rs)
+
+unfoldable pub ordered : List Complete → List Complete
+ordered [] = []
+ordered (q ∷ qs) = insert q (ordered qs)
+
+unfoldable pub undoneFrom : Timestamp → List Complete → List Complete
+undoneFrom None qs = []
+undoneFrom (At b) qs = ordered (atOrAbove b qs)
+
+-- the sequences that recovery undoes, in its order
+unfoldable pub undone : Sizes → List ℕ → List Complete
+undone z image = undoneFrom (boundary z image) (completeOf z image z.lanes)
+
+-- the stores that undo entries, the last one first
+unfoldable pub undoEntries : List Old → List Store
+undoEntries [] = []
+undoEntries (e ∷ es) = undoEntries es ++ (record { at = 1 + e.word; value = e.old } ∷ [])
+
+unfoldable pub undoSequences : List Complete → List Store
+undoSequences [] = []
+undoSequences (q ∷ qs) = undoEntries q.entries ++ undoSequences qs
+
+unfoldable pub undoStores : Sizes → List ℕ → List Store
+undoStores z image = undoSequences (undone z image)
+
+-- ---- 3. the new base timestamp, and the logs cleared
+unfoldable pub wholeStamp : Content → ℕ
+wholeStamp Empty = 0
+wholeStamp Torn = 0
+wholeStamp (Entry i v p) = 0
+wholeStamp (Stamp n s p) = s
+
+-- the greatest whole timestamp, complete or not, in the slots below j of a log
+unfoldable pub greatestBelow : (W : ℕ) → List ℕ → (j : ℕ) → ℕ
+greatestBelow W log zero = 0
+greatestBelow W log (suc j) = max (greatestBelow W log j) (wholeStamp (slotAt W log j))
+
+unfoldable pub greatestOf : Sizes → List ℕ → (k : ℕ) → ℕ
+greatestOf z image zero = 0
+greatestOf z image (suc k) = max (greatestOf z image k) (greatestBelow z.words (logOf z k image) z.slots)
+
+unfoldable pub newBase : Sizes → List ℕ → ℕ
+newBase z image = max (baseOf image) (greatestOf z image z.lanes)
+
+-- n words from `at` on become 0, in rising order
+unfoldable pub zeros : (at n : ℕ) → List Store
+zeros at zero = []
+zeros at (suc n) = record { at = at; value = 0 } ∷ zeros (suc at) n
+
+-- ---- all stores, in order: the entries undone, the base timestamp, the log words
+unfoldable pub recoveryStores : Sizes → List ℕ → List Store
+recoveryStores z image = undoStores z image ++ (record { at = 0; value = newBase z image } ∷ zeros (1 + z.words) (2 * z.lanes * z.slots))
+
+-- non-volatile memory after the first `limit` of them
+unfoldable pub recoveredNvm : Sizes → (limit : ℕ) → List ℕ → List ℕ
+recoveredNvm z limit nvm = stored (take limit (recoveryStores z nvm)) nvm
+
+-- ---- the call
+unfoldable pub oddBase : Machine → Cause
+oddBase m = record { number = 10; holds = eqb (baseOf m.nvm % 2) 1 }
+
+unfoldable pub recoverRefusal : Sizes → Machine → ℕ
+recoverRefusal z m = firstCause (badBuffers z m ∷ oddBase m ∷ [])
+
+-- is every store made
+unfoldable pub allMade : Sizes → (limit : ℕ) → List ℕ → Bool
+allMade z limit nvm = leb (length (recoveryStores z nvm)) limit
+
+pub record Restarted : Type 0 where
+  pub answer : Recovered
+  pub machine : Machine
+
+-- a call that is refused alters nothing; one cut short has made its stores, and has no record; a finished one is a start
+unfoldable pub recoverStep : Sizes → (limit : ℕ) → Machine → Restarted
+recoverStep z limit m =
+    let number = recoverRefusal z m in
+    let nvm = recoveredNvm z limit m.nvm in
+    cond (eqb number 0)
+    (cond (allMade z limit m.nvm)
+    (record {
+      answer = Finished (record { boundary = boundary z m.nvm; undone = length (undoStores z m.nvm) });
+      machine = started z (baseOf nvm) nvm;
+    })
+    (record { answer = Cut; machine = record { state = m.state; cache = m.cache; nvm = nvm; flags = m.flags } }))
+    (record { answer = Refused number; machine = m })

@@ -1,0 +1,5 @@
+pub mod Machine
+pub mod Calls
+pub mod Interface
+pub mod StoreLaws
+pub mod FormatLaws

@@ -1,0 +1,224 @@
+// The calls' answers, and the calls that append and commit nothing: Format, write-back, Drain.
+ghost use mathlib.Core.Path.{_≡_};
+ghost use mathlib.Core.Bool.{true};
+ghost use Prim.Native.Nat.{_<_};
+ghost use lib.ListN.{length, getD, replicate};
+ghost use Rattle.image.specs.Image.{sizesOk, imageLength};
+ghost use Rattle.log.specs.Log.{latestIn};
+ghost use Rattle.store.specs.Calls.{startImage, formatRefusal, formatStep, writeBackRefusal, writeBackStep, drainRefusal, drainStep};
+ghost use Rattle.store.specs.Interface.{machineOf, blankOf, stepOf, blankStepOf, drainedState};
+use image::Sizes;
+use log::Latest;
+use record::Record;
+
+// What Log answers where the transaction writes: the count of its writes and its timestamp.
+pub struct Appended {
+    pub count: usize,
+    pub stamp: u64,
+}
+
+// What Mark answers: its timestamp, and whether it dropped a logged transaction.
+pub struct Marked {
+    pub stamp: u64,
+    pub dropped: bool,
+}
+
+// The answer of a call.
+pub enum Answer {
+    // the number of the refusal; nothing is altered
+    Refused(u64),
+    // Format, write-back, Drain
+    Done,
+    // Log of a transaction that writes nothing. 01: count 0
+    NoWrites,
+    // Log
+    Logged(Appended),
+    // Redo and Validate, with the timestamp of the commit
+    Committed(u64),
+    // Redo: there is a commit since
+    Stale,
+    // Validate: the transaction does not write what was logged
+    Changed,
+    // Mark
+    Marked(Marked),
+}
+
+// The answer with the record: an enum cannot hold the record's arrays.
+pub struct Outcome {
+    pub answer: Answer,
+    pub state: Record,
+}
+
+// A refusal leaves the record as it was.
+pub fn refused(number: u64, state: Record) -> Outcome
+    ensures { λ r. ⌜ r ≡ record { answer = Answer.Refused number; state = state } ⌝ }
+{
+    Outcome {
+        answer: Answer::Refused(number),
+        state,
+    }
+}
+
+// The number of Format's refusal, or 0.
+pub fn format_refusal(sizes: Sizes, start: &[u64], cache: &[u64], nvm: &[u64], flags: &[u8]) -> u64
+    ensures { λ r. ⌜ r ≡ formatRefusal sizes (now (start .entry)) (blankOf (now (cache .entry)) (now (nvm .entry)) (now (flags .entry))) ⌝ }
+{
+    if !image::buffers_ok(sizes, cache.len(), nvm.len(), flags.len()) {
+        return 1;
+    }
+    if start.len() != sizes.words {
+        return 1;
+    }
+    0
+}
+
+// Word i of the image that Format leaves: a start word among the data words, 0 elsewhere.
+fn start_word(sizes: Sizes, start: &[u64], i: usize) -> u64
+    requires { ⌜ length (now start) ≡ sizes .words ⌝ }
+    ensures { λ r. ⌜ r ≡ getD (startImage sizes (now (start .entry))) i 0 ⌝ }
+{
+    if i < 1 {
+        return 0;
+    }
+    if sizes.words < i {
+        return 0;
+    }
+    start[i - 1]
+}
+
+// The start words in cache and non-volatile memory; base timestamp, logs and flags 0. One pass.
+fn fill(sizes: Sizes, start: &[u64], cache: &mut [u64], nvm: &mut [u64], flags: &mut [u8])
+    requires { ⌜ (length (now start) ≡ sizes .words) × (length (now cache) ≡ imageLength sizes) × (length (now nvm) ≡ imageLength sizes) × (length (now flags) ≡ imageLength sizes) ⌝ }
+    ensures cached { λ r. ⌜ now (cache .exit) ≡ startImage sizes (now (start .entry)) ⌝ }
+    ensures persistent { λ r. ⌜ now (nvm .exit) ≡ startImage sizes (now (start .entry)) ⌝ }
+    ensures unflushed { λ r. ⌜ now (flags .exit) ≡ replicate (imageLength sizes) 0 ⌝ }
+{
+    for i in 0..cache.len() {
+        let word = start_word(sizes, start, i);
+        cache[i] = word;
+        nvm[i] = word;
+        flags[i] = 0;
+    }
+}
+
+// Starts the store with these words. It takes no record; beside a refusal the record is a blank one.
+pub fn format(
+    sizes: Sizes,
+    start: &[u64],
+    cache: &mut [u64],
+    nvm: &mut [u64],
+    flags: &mut [u8],
+) -> Outcome
+    ensures { λ r. ⌜ stepOf r (now (cache .exit)) (now (nvm .exit)) (now (flags .exit)) ≡ formatStep sizes (now (start .entry)) (blankOf (now (cache .entry)) (now (nvm .entry)) (now (flags .entry))) ⌝ }
+{
+    let blank = record::start_record(0);
+    let number = format_refusal(sizes, start, cache, nvm, flags);
+    if number != 0 {
+        return refused(number, blank);
+    }
+    fill(sizes, start, cache, nvm, flags);
+    Outcome {
+        answer: Answer::Done,
+        state: blank,
+    }
+}
+
+// The number of the refusal of a write-back, or 0.
+pub fn write_back_refusal(
+    sizes: Sizes,
+    cache: &[u64],
+    nvm: &[u64],
+    flags: &[u8],
+    word: usize,
+) -> u64
+    ensures { λ r. ⌜ r ≡ writeBackRefusal sizes word (blankOf (now (cache .entry)) (now (nvm .entry)) (now (flags .entry))) ⌝ }
+{
+    if !image::buffers_ok(sizes, cache.len(), nvm.len(), flags.len()) {
+        return 1;
+    }
+    if image::image_length(sizes) <= word {
+        return 4;
+    }
+    0
+}
+
+// Copies one word of the image to non-volatile memory. It takes no record.
+pub fn write_back(sizes: Sizes, cache: &[u64], nvm: &mut [u64], flags: &[u8], word: usize) -> Answer
+    ensures { λ r. ⌜ blankStepOf r (now (cache .entry)) (now (nvm .exit)) (now (flags .entry)) ≡ writeBackStep sizes word (blankOf (now (cache .entry)) (now (nvm .entry)) (now (flags .entry))) ⌝ }
+{
+    let number = write_back_refusal(sizes, cache, nvm, flags, word);
+    if number != 0 {
+        return Answer::Refused(number);
+    }
+    image::flush::write_back(cache, nvm, word);
+    Answer::Done
+}
+
+// The number of Drain's refusal, or 0: what every call on a lane checks first.
+pub fn drain_refusal(
+    sizes: Sizes,
+    state: Record,
+    cache: &[u64],
+    nvm: &[u64],
+    flags: &[u8],
+    lane: usize,
+) -> u64
+    ensures { λ r. ⌜ r ≡ drainRefusal sizes lane (machineOf state (now (cache .entry)) (now (nvm .entry)) (now (flags .entry))) ⌝ }
+{
+    if !image::buffers_ok(sizes, cache.len(), nvm.len(), flags.len()) {
+        return 1;
+    }
+    if !record::record_ok(sizes, state) {
+        return 2;
+    }
+    if sizes.lanes <= lane {
+        return 3;
+    }
+    0
+}
+
+// The lane's latest sequence in the cached log.
+pub fn latest_in(sizes: Sizes, cache: &[u64], lane: usize) -> Latest
+    requires { ⌜ (sizesOk sizes ≡ true) × (length (now cache) ≡ imageLength sizes) × (lane < sizes .lanes) ⌝ }
+    ensures { λ r. ⌜ r ≡ latestIn sizes (now (cache .entry)) lane ⌝ }
+{
+    let start = image::log_start(sizes, lane);
+    let end = start + 2 * sizes.slots;
+    log::search::latest(&cache[start..end], sizes.words, sizes.slots, cache[0])
+}
+
+// The record after the lane's drain: its floor is its latest sequence's timestamp.
+pub fn drained_state(sizes: Sizes, state: Record, cache: &[u64], lane: usize) -> Record
+    requires { ⌜ (sizesOk sizes ≡ true) × (length (now cache) ≡ imageLength sizes) × (lane < sizes .lanes) ⌝ }
+    ensures { λ r. ⌜ r ≡ drainedState sizes (now (cache .entry)) lane state ⌝ }
+{
+    let latest = latest_in(sizes, cache, lane);
+    record::with_lane(
+        state,
+        lane,
+        record::drained_lane(latest, record::lane_of(state, lane)),
+    )
+}
+
+// Drains a lane: one pass over the flags, and one over the lane's log where its greatest timestamp is complete.
+pub fn drain(
+    sizes: Sizes,
+    state: Record,
+    cache: &[u64],
+    nvm: &mut [u64],
+    flags: &mut [u8],
+    lane: usize,
+) -> Outcome
+    ensures { λ r. ⌜ stepOf r (now (cache .entry)) (now (nvm .exit)) (now (flags .exit)) ≡ drainStep sizes lane (machineOf state (now (cache .entry)) (now (nvm .entry)) (now (flags .entry))) ⌝ }
+{
+    let number = drain_refusal(sizes, state, cache, nvm, flags, lane);
+    if number != 0 {
+        return refused(number, state);
+    }
+    let drained = drained_state(sizes, state, cache, lane);
+    image::flush::drain(lane, cache, nvm, flags);
+    Outcome {
+        answer: Answer::Done,
+        state: drained,
+    }
+}
