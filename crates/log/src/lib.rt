@@ -1,4 +1,4 @@
-// One lane's log, the part of the image from the lane's first slot on: its slots and the sequences that they close. Searching is in search.rt, appending in append.rt.
+// One lane's log, the part of the image from the lane's first slot on: its slots and the sequences that they close. Searching is in search.rt, appending in tail.rt.
 ghost use mathlib.Core.Path.{_≡_};
 ghost use Prim.Native.Nat.{_+_, _*_, _≤_, _<_};
 ghost use lib.ListN.{length};
@@ -7,8 +7,8 @@ ghost use Rattle.log.specs.Search.{isEntry, entryBack, closedAt};
 use slot::Content;
 use slot::Slot;
 
-pub mod append;
 pub mod search;
+pub mod tail;
 
 // A timestamp or none: a lane's floor, the lower bound (the least of the floors), the boundary.
 pub enum Timestamp {

@@ -1,0 +1,61 @@
+-- `append::log_checks` meets its contract: each return by its law, from the tests that led there.
+-- Assumes nothing.
+use mathlib.Core.Path.{sym, _∙_}
+use borrow.Author.Tests.{not-true, not-false}
+use borrow.Author.Needs.{needs}
+use Rattle.store.specs.StoreLaws.{checked, lane-small}
+use Rattle.append.specs.AppendLaws.{checks-lane, checks-txn, checks-logged, checks-none}
+use Rattle.append.proofs.log_checks.Statement.{statement}
+use Rattle.append.proofs.log_checks.Tie as tie
+
+drain-refusal-requires : tie.Need-drain-refusal-requires
+drain-refusal-requires c κs = search needs
+
+returns : tie.Need-returns
+returns c = checks-lane _ _ _ _ _ (c .before .drain-refusal .ensures) (c .if1 .taken)
+
+txn-ok-requires : tie.Need-txn-ok-requires
+txn-ok-requires c κs = search needs
+
+returns-2 : tie.Need-returns-2
+returns-2 c =
+    let d = c .before .before in
+    checks-txn _ _ _ _ (sym (d .before .drain-refusal .ensures) ∙ d .if1 .left) (sym (c .before .txn-ok .ensures) ∙ not-true _ (c .if2 .taken))
+
+lane-of-requires : tie.Need-lane-of-requires
+lane-of-requires c κs =
+    let d = c .before .before in
+    let k = checked _ _ _ _ _ _ (sym (d .before .drain-refusal .ensures) ∙ d .if1 .left) in
+    lane-small _ _ (k .sizes-ok) (k .lane-below)
+
+is-logged-requires : tie.Need-is-logged-requires
+is-logged-requires c κs = search needs
+
+returns-3 : tie.Need-returns-3
+returns-3 c =
+    let a = c .before .before in
+    let t = a .before in
+    let d = t .before .before in
+    checks-logged _ _ _ _ (sym (d .before .drain-refusal .ensures) ∙ d .if1 .left) _ (a .lane-of .ensures) (sym (t .before .txn-ok .ensures) ∙ not-false _ (t .if2 .left))
+    (sym (c .before .is-logged .ensures) ∙ c .if3 .taken)
+
+returns-4 : tie.Need-returns-4
+returns-4 c =
+    let a = c .before .before in
+    let t = a .before in
+    let d = t .before .before in
+    checks-none _ _ _ _ (sym (d .before .drain-refusal .ensures) ∙ d .if1 .left) _ (a .lane-of .ensures) (sym (t .before .txn-ok .ensures) ∙ not-false _ (t .if2 .left))
+    (sym (c .before .is-logged .ensures) ∙ c .if3 .left)
+
+pub log-checks-spec : {M : Type 1} → statement M
+log-checks-spec =
+    tie.close
+    (tie.spec
+    drain-refusal-requires
+    returns
+    txn-ok-requires
+    returns-2
+    lane-of-requires
+    is-logged-requires
+    returns-3
+    returns-4)

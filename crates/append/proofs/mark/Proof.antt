@@ -1,0 +1,101 @@
+-- `append::mark` meets its contract: a refused call is the step refused; otherwise the machine appended to, as the plan says.
+-- Assumes nothing.
+use mathlib.Core.Path.{sym, _∙_}
+use native.Mathlib.Omega.{arith}
+use borrow.Author.Needs.{needs}
+use Rattle.record.proofs.Lengths.{lanes-eight}
+use Rattle.store.specs.Calls.{markStep}
+use Rattle.store.specs.StoreLaws.{step-refused}
+use Rattle.append.specs.AppendLaws.{mark-known, mark-clock, appendable, mark-taken}
+use Rattle.append.proofs.mark.Statement.{statement}
+use Rattle.append.proofs.mark.Tie as tie
+
+plan-mark-requires : tie.Need-plan-mark-requires
+plan-mark-requires c κs = search needs
+
+refused-requires : tie.Need-refused-requires
+refused-requires c κs = search needs
+
+same-length : tie.Need-same-length
+same-length c = search needs
+
+same-length-2 : tie.Need-same-length-2
+same-length-2 c = search needs
+
+same-length-3 : tie.Need-same-length-3
+same-length-3 c = search needs
+
+returns : tie.Need-returns
+unfolding markStep
+returns c =
+    let p = c .before .before .before .before in
+    rw (c .refused .ensures) (step-refused _ _ _ _ (p .plan-mark .ensures .number) (c .before .if1 .taken))
+
+drain-requires : tie.Need-drain-requires
+drain-requires c κs =
+    let e = c .before .before .before in
+    let k = mark-known _ _ _ _ _ _ _ (e .before .before .before .plan-mark .ensures) (e .if1 .left) in
+    (k .small, k .checked .in-nvm ∙ sym (k .checked .in-cache), k .checked .in-flags ∙ sym (k .checked .in-cache))
+
+lane-of-requires : tie.Need-lane-of-requires
+lane-of-requires c κs =
+    let d = c .before .before .before .before in
+    let e = d .before .before .before .before in
+    mark-known _ _ _ _ _ _ _ (e .before .before .before .plan-mark .ensures) (e .if1 .left) .small
+
+add-stamp : tie.Need-add-stamp
+add-stamp c =
+    let d = c .before .before .before .before .before .before .before in
+    let e = d .before .before .before .before in
+    omega (arith, mark-clock _ _ _ _ _ _ _ (e .before .before .before .plan-mark .ensures) (e .if1 .left))
+
+is-logged-requires : tie.Need-is-logged-requires
+is-logged-requires c κs = search needs
+
+appended-requires : tie.Need-appended-requires
+appended-requires c κs =
+    let l = c .before .before .before .before .before in
+    let d = l .before .before .before .before .before in
+    let e = d .before .before .before .before in
+    let p = e .before .before .before in
+    let s = p .before .before .before .before .before .before .before in
+    let h = p .plan-mark .ensures in
+    appendable _ _ _ _ _ _ _ _ (mark-known _ _ _ _ _ _ _ h (e .if1 .left)) (lanes-eight (s .args .state) (s .good .1 .0)) (mark-clock _ _ _ _ _ _ _ h (e .if1 .left)) _ (d .drain .ensures .1)
+
+same-length-4 : tie.Need-same-length-4
+same-length-4 c = search needs
+
+same-length-5 : tie.Need-same-length-5
+same-length-5 c = search needs
+
+same-length-6 : tie.Need-same-length-6
+same-length-6 c = search needs
+
+returns-2 : tie.Need-returns-2
+returns-2 c =
+    let a = c .before .before .before .before in
+    let i = a .before .before .before in
+    let l = i .before .before .before in
+    let d = l .before .before .before .before .before in
+    let e = d .before .before .before .before in
+    mark-taken _ _ _ _ _ _ _ _ _ (d .drain .ensures .0) (d .drain .ensures .1) (e .if1 .left) (e .before .before .before .plan-mark .ensures) _ _ (l .lane-of .ensures) (a .appended .ensures _) _ (i .is-logged .ensures)
+
+pub mark-spec : {M : Type 1} → statement M
+mark-spec =
+    tie.close
+    (tie.spec
+    plan-mark-requires
+    refused-requires
+    same-length
+    same-length-2
+    same-length-3
+    returns
+    drain-requires
+    lane-of-requires
+    add-stamp
+    is-logged-requires
+    appended-requires
+    same-length-4
+    same-length-5
+    same-length-6
+    returns-2)

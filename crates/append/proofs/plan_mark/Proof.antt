@@ -1,0 +1,59 @@
+-- `append::plan_mark` meets its contract: the checks, then the room for one timestamp.
+-- Assumes nothing.
+use mathlib.Core.Path.{sym, _∙_}
+use native.Mathlib.Omega.{arith}
+use borrow.Author.Needs.{needs}
+use Rattle.record.proofs.Lengths.{lanes-eight}
+use Rattle.store.specs.StoreLaws.{checked}
+use Rattle.append.specs.AppendLaws.{mark-refused, mark-room, planned-refused, searchable}
+use Rattle.append.proofs.plan_mark.Statement.{statement}
+use Rattle.append.proofs.plan_mark.Tie as tie
+
+drain-refusal-requires : tie.Need-drain-refusal-requires
+drain-refusal-requires c κs = search needs
+
+none-requires : tie.Need-none-requires
+none-requires c κs = search needs
+
+returns : tie.Need-returns
+returns c =
+    let d = c .before .before in
+    planned-refused _ _ _ _ (mark-refused _ _ _ _ (d .drain-refusal .ensures) (c .before .if1 .taken)) (c .before .if1 .taken)
+
+drained-state-requires : tie.Need-drained-state-requires
+drained-state-requires c κs =
+    let k = checked _ _ _ _ _ _ (sym (c .before .drain-refusal .ensures) ∙ c .if1 .left) in
+    (k .sizes-ok, k .in-cache, k .lane-below)
+
+append-refusal-requires : tie.Need-append-refusal-requires
+append-refusal-requires c κs =
+    let d = c .before in
+    let s = d .before .before .before .before .before in
+    let k = checked _ _ _ _ _ _ (sym (d .before .drain-refusal .ensures) ∙ d .if1 .left) in
+    searchable _ _ _ _ _ _ k (lanes-eight (s .args .state) (s .good .1 .0)) _ (omega arith) (omega arith)
+
+none-requires-2 : tie.Need-none-requires-2
+none-requires-2 c κs = search needs
+
+returns-2 : tie.Need-returns-2
+returns-2 c =
+    let a = c .before in
+    let d = a .before in
+    let e = d .before in
+    record {
+      number = mark-room _ _ _ _ _ (sym (e .before .drain-refusal .ensures) ∙ e .if1 .left) (d .drained-state .ensures) (a .append-refusal .ensures);
+      writes = λ z. c .none2 .ensures;
+      drained = λ z. d .drained-state .ensures;
+    }
+
+pub plan-mark-spec : {M : Type 1} → statement M
+plan-mark-spec =
+    tie.close
+    (tie.spec
+    drain-refusal-requires
+    none-requires
+    returns
+    drained-state-requires
+    append-refusal-requires
+    none-requires-2
+    returns-2)

@@ -1,0 +1,65 @@
+-- What Log and Mark find out before they act: refusals 8 and 9, Log's other refusals, a plan. 01, "Refused calls". Assumes nothing.
+use Prim.Native.Nat.{ℕ, _+_, _^_, _≤_, _<_}
+use mathlib.Core.Path.{_≡_}
+use mathlib.Core.Bool.{true}
+use mathlib.Core.List.{List, [], _∷_}
+use lib.ListN.{length, take}
+use Rattle.txn.specs.Txn.{writesOf}
+use Rattle.txn.specs.declared.Write.{Write}
+use Rattle.txn.specs.declared.Writes.{Writes}
+use Rattle.image.specs.Image.{sizesOk, imageLength}
+use Rattle.image.specs.declared.Sizes.{Sizes}
+use Rattle.log.specs.Log.{completeIn, hits}
+use Rattle.log.specs.AppendEntries.{WordsBelow}
+use Rattle.record.specs.Record.{laneAt, isLogged, spent, boundOf}
+use Rattle.record.specs.declared.Record.{Record}
+use Rattle.store.specs.Machine.{Machine, firstCause}
+use Rattle.store.specs.Calls.{badBuffers, badRecord, badLane, badTxn}
+use Rattle.append.specs.declared.Plan.{Plan}
+
+-- refusals 8 and 9 of a call on record r that appends n slots to lane L, whose drain leaves the record d
+unfoldable pub roomRefusal : Sizes → (r d : Record) → (cache : List ℕ) → (L n : ℕ) → ℕ
+roomRefusal z r d cache L n =
+    firstCause
+    (record { number = 8; holds = spent r }
+    ∷ record { number = 9; holds = hits z.slots (laneAt r L .next) n (boundOf z d) (completeIn z cache L) }
+    ∷ [])
+
+-- Log's refusals before it runs the transaction
+unfoldable pub logChecks : Sizes → ℕ → List ℕ → Machine → ℕ
+logChecks z L f m =
+    firstCause
+    (badBuffers z m
+    ∷ badRecord z m
+    ∷ badLane z L
+    ∷ badTxn z f
+    ∷ record { number = 6; holds = isLogged (laneAt m.state L .phase) }
+    ∷ [])
+
+-- a plan: the number of the refusal and, where it is 0, the writes and the record after the lane's drain
+pub record Planned (plan : Plan) (refusal : ℕ) (ws : List Write) (after : Record) : Type 0 where
+  pub number : plan .number ≡ refusal
+  pub writes : plan .number ≡ 0 → plan .writes ≡ writesOf 16 ws
+  pub drained : plan .number ≡ 0 → plan .drained ≡ after
+
+-- what the search for a hit needs: n slots from lane L's next one on
+pub record Searchable (z : Sizes) (r : Record) (cache : List ℕ) (L n : ℕ) : Type 0 where
+  pub sizes-ok : sizesOk z ≡ true
+  pub in-cache : length cache ≡ imageLength z
+  pub lane-below : L < z .lanes
+  pub next : laneAt r L .next < z .slots
+  pub least : 1 ≤ n
+  pub most : n ≤ 17
+
+-- what an append of these writes to lane L needs
+pub record Appendable (z : Sizes) (r : Record) (cache flags : List ℕ) (L : ℕ) (w : Writes) : Type 0 where
+  pub sizes-ok : sizesOk z ≡ true
+  pub in-cache : length cache ≡ imageLength z
+  pub in-flags : length flags ≡ imageLength z
+  pub lane-below : L < z .lanes
+  pub next : laneAt r L .next < z .slots
+  pub wrap : laneAt r L .wrap ≤ 1
+  pub clock : r .clock + 3 < 2 ^ 64
+  pub few : w .count ≤ 16
+  pub full : length (w .list) ≡ 16
+  pub low : WordsBelow 1024 (take (w .count) (w .list))

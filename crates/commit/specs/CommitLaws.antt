@@ -1,0 +1,457 @@
+-- Laws of Redo and Validate: their refusals, the stores of a commit, comparing writes with entries, and each way in which a call ends. Assumes nothing.
+use Prim.Native.Nat.{ℕ, _+_, _-_, _*_, _≤_, _<_}
+use mathlib.Core.Path.{_≡_, refl, sym, _∙_, ap}
+use mathlib.Core.Bool.{Bool, true, false, cond, _&&_}
+use mathlib.Core.List.{List, [], _∷_, _++_}
+use native.Mathlib.Omega.{arith}
+use native.Mathlib.Numerals.{add-one}
+use lib.Dec.{eqb, ltb}
+use lib.ListN.{length, getD, set, take, drop, length-set}
+use lib.Seq.{take-suc, drop-cons, drop-length, length-take-le, getD-take, getD-set-other}
+use borrow.Author.Tests.{eqb-true, eqb-false, eq-eqb, ne-eqb, lt-ltb, le-ltb, ltb-true, ltb-false, not-false}
+use Rattle.laws.specs.Tests.{split, and-left, and-right}
+use Rattle.laws.specs.Lists.{none, more}
+use Rattle.slot.specs.declared.Content.{Content}
+use Rattle.txn.specs.Txn.{txnOk, run, noWrite, writesOf}
+use Rattle.txn.specs.TxnLaws.{few-writes, run-low}
+use Rattle.txn.specs.WritesLaws.{length-padded, take-padded}
+use Rattle.txn.specs.declared.Write.{Write}
+use Rattle.txn.specs.declared.Writes.{Writes}
+use Rattle.image.specs.Image.{sizesOk, imageLength, dataOf, logStart, logOf}
+use Rattle.image.specs.ImageLaws.{sizes-in, log-fits, length-data}
+use Rattle.image.specs.Flush.{flush, flushAll, drainedNvm, drainedFlags}
+use Rattle.image.specs.FlushLaws.{length-flushAll, flushAll-append, flushAll-snoc, length-drainedFlags}
+use Rattle.image.specs.Stores.{Store, stored, places}
+use Rattle.image.specs.StoresLaws.{length-stored, stored-append, stored-snoc, places-append}
+use Rattle.image.specs.declared.Sizes.{Sizes}
+use Rattle.log.specs.Log.{slotAt}
+use Rattle.log.specs.Append.{circular, restampStore}
+use Rattle.log.specs.AppendEntries.{WordsBelow}
+use Rattle.record.specs.Record.{noPair, laneAt, isLogged, loggedIn, pairsOk, spent, idleLane, withLane, withClock, withLast, pairsOf}
+use Rattle.record.specs.RecordLaws.{LoggedIn, record-in, lane-in, phase-in, clock-room, pair-below, pairs-cut}
+use Rattle.record.specs.declared.Lane.{Lane}
+use Rattle.record.specs.declared.Logged.{Logged}
+use Rattle.record.specs.declared.Pair.{Pair}
+use Rattle.record.specs.declared.Phase.{Phase}
+use Rattle.record.specs.declared.Record.{Record}
+use Rattle.store.specs.declared.Answer.the-variants.{Committed, Stale, Changed}
+use Rattle.store.specs.Machine.{Machine, Step, Cause, firstCause}
+use Rattle.store.specs.Calls.{badBuffers, badRecord, badLane, badTxn, notLogged, clockSpent, drainRefusal, drained, changed, writesOn, pairStores, commitStores, committed}
+use Rattle.store.specs.Calls.{redoRefusal, isStale, redoPairs, redoStep, validateRefusal, entryMatches, entriesMatch, matches, released, validateStep}
+use Rattle.store.specs.Interface.{machineOf, Checked, drainedState}
+use Rattle.store.specs.StoreLaws.{first-end, first-none, refuses-txn, passes-txn, refuses-idle, passes-idle, refuses-spent, passes-spent, checked, at-lane, after-lane, step-taken}
+use Rattle.store.specs.StoreLaws.{drained-by, drained-state, drained-clock, drained-last, drained-keeps}
+use Rattle.commit.specs.Commit.{commitRefusal, stampSlot, committedState, Ready, redoDrained, validateDrained}
+
+-- ---- refusals 7 and 8
+module _ (L : ℕ) (r : Record) (l : Lane) (e : l ≡ laneAt r L) (b : Bool) (f : b ≡ isLogged (l .phase)) where
+  logs : (t : Bool) → b ≡ t → isLogged (laneAt r L .phase) ≡ t
+  logs t k = rw (← e, ← f) k
+
+  pub commit-idle : b ≡ false → 7 ≡ commitRefusal L r
+  unfolding commitRefusal
+  commit-idle k = sym (refuses-idle _ L _ (logs false k))
+
+  pub commit-spent : (s : Bool) → b ≡ true → s ≡ spent r → s ≡ true → 8 ≡ commitRefusal L r
+  unfolding commitRefusal
+  commit-spent s k g h = sym (passes-idle _ L _ (logs true k) ∙ refuses-spent [] _ (sym g ∙ h))
+
+  pub commit-free : (s : Bool) → b ≡ true → s ≡ spent r → s ≡ false → 0 ≡ commitRefusal L r
+  unfolding commitRefusal
+  commit-free s k g h = sym (passes-idle _ L _ (logs true k) ∙ passes-spent [] _ (sym g ∙ h) ∙ first-end)
+
+-- the record alone decides them
+commit-causes : (L : ℕ) (m : Machine) → commitRefusal L (m .state) ≡ firstCause (notLogged L m ∷ clockSpent m ∷ [])
+unfolding commitRefusal notLogged clockSpent
+commit-causes L m = refl
+
+-- ---- the whole refusals, where a call has found Drain's number
+module _ (z : Sizes) (L : ℕ) (m : Machine) (number : ℕ) (e : number ≡ drainRefusal z L m) where
+  pub redo-refused : (number ≡ 0 → ⊥) → number ≡ redoRefusal z L m
+  unfolding redoRefusal
+  redo-refused h = e ∙ sym (at-lane z L m _ (λ k. h (e ∙ k)))
+
+  pub redo-causes : (k : ℕ) → number ≡ 0 → k ≡ commitRefusal L (m .state) → k ≡ redoRefusal z L m
+  unfolding redoRefusal
+  redo-causes k h f = f ∙ commit-causes L m ∙ sym (after-lane z L m _ (sym e ∙ h))
+
+  module _ (t : List ℕ) where
+    pub validate-refused : (number ≡ 0 → ⊥) → number ≡ validateRefusal z L t m
+    unfolding validateRefusal
+    validate-refused h = e ∙ sym (at-lane z L m _ (λ k. h (e ∙ k)))
+
+    pub validate-bad : number ≡ 0 → txnOk 16 (z .words) t ≡ false → 5 ≡ validateRefusal z L t m
+    unfolding validateRefusal
+    validate-bad h f = sym (after-lane z L m _ (sym e ∙ h) ∙ refuses-txn _ z t f)
+
+    pub validate-causes : (k : ℕ) → number ≡ 0 → txnOk 16 (z .words) t ≡ true → k ≡ commitRefusal L (m .state) → k ≡ validateRefusal z L t m
+    unfolding validateRefusal
+    validate-causes k h g f = f ∙ commit-causes L m ∙ sym (after-lane z L m _ (sym e ∙ h) ∙ passes-txn _ z t g)
+
+-- ---- what a call knows that is not refused
+-- neither Drain's causes nor the further ones hold
+lane-first : (z : Sizes) (L : ℕ) (m : Machine) (cs : List Cause) → firstCause (badBuffers z m ∷ badRecord z m ∷ badLane z L ∷ cs) ≡ 0
+    → (drainRefusal z L m ≡ 0) × (firstCause cs ≡ 0)
+lane-first z L m cs e =
+    split (eqb (drainRefusal z L m) 0)
+    (λ t. let h = eqb-true (drainRefusal z L m) 0 t in (h, sym (after-lane z L m cs h) ∙ e))
+    (λ f. let h = eqb-false (drainRefusal z L m) 0 f in absurd (h (sym (at-lane z L m cs h) ∙ e)))
+
+commit-none : (L : ℕ) (m : Machine) → firstCause (notLogged L m ∷ clockSpent m ∷ []) ≡ 0 → (isLogged (laneAt (m .state) L .phase) ≡ true) × (spent (m .state) ≡ false)
+unfolding notLogged clockSpent
+commit-none L m e =
+    let a = first-none _ _ (λ z. omega arith) e in
+    let b = first-none _ _ (λ z. omega arith) (a .1) in
+    (not-false _ (a .0), b .0)
+
+-- a call that may commit, before its drain
+pub record Accepted (z : Sizes) (state : Record) (cache nvm flags : List ℕ) (L : ℕ) : Type 0 where
+  pub known : Checked z state cache nvm flags L
+  pub holds : isLogged (laneAt state L .phase) ≡ true
+  pub unspent : spent state ≡ false
+
+module _ (z : Sizes) (state : Record) (cache nvm flags : List ℕ) (L number : ℕ) where
+  pub redo-accepted : number ≡ redoRefusal z L (machineOf state cache nvm flags) → number ≡ 0 → Accepted z state cache nvm flags L
+  unfolding redoRefusal
+  redo-accepted e h =
+      let a = lane-first z L (machineOf state cache nvm flags) _ (sym e ∙ h) in
+      let b = commit-none L (machineOf state cache nvm flags) (a .1) in
+      record { known = checked z state cache nvm flags L (a .0); holds = b .0; unspent = b .1 }
+
+  pub validate-accepted : (t : List ℕ) → number ≡ validateRefusal z L t (machineOf state cache nvm flags) → number ≡ 0
+      → Accepted z state cache nvm flags L × (txnOk 16 (z .words) t ≡ true)
+  unfolding validateRefusal badTxn
+  validate-accepted t e h =
+      let a = lane-first z L (machineOf state cache nvm flags) _ (sym e ∙ h) in
+      let c = first-none _ _ (λ z. omega arith) (a .1) in
+      let b = commit-none L (machineOf state cache nvm flags) (c .1) in
+      (record { known = checked z state cache nvm flags L (a .0); holds = b .0; unspent = b .1 }, not-false _ (c .0))
+
+-- what the range check says of a logged transaction, where clock, redo log and phase are equal
+same-logged : (z : Sizes) (k₁ k₂ : ℕ) (r₁ r₂ : List Pair) (p₁ p₂ : Phase) → k₁ ≡ k₂ → r₁ ≡ r₂ → p₁ ≡ p₂ → LoggedIn z k₂ r₂ (loggedIn p₂) → LoggedIn z k₁ r₁ (loggedIn p₁)
+same-logged z k₁ k₂ r₁ r₂ p₁ p₂ e f h g = rw (e, f, h) g
+
+-- and after it
+pub ready : (z : Sizes) (state : Record) (cache nvm flags : List ℕ) (L : ℕ) (r : Record) (f : List ℕ) → Accepted z state cache nvm flags L → length (state .lanes) ≡ 8
+    → r ≡ drainedState z cache L state → f ≡ drainedFlags L flags → Ready z r cache f L
+ready z state cache nvm flags L r f a n d e =
+    let k = a .known in
+    let q = record-in z state (k .in-range) in
+    let s = drained-keeps z cache L state in
+    let u : L < length (state .lanes) = omega (arith, sizes-in z (k .sizes-ok) .lanes-high, k .lane-below) in
+    let g = phase-in z (state .clock) (laneAt state L .redo) (laneAt state L .phase) (a .holds) (lane-in z (state .clock) (laneAt state L) (q .lanes L (k .lane-below) u) .phase) in
+    record {
+      sizes-ok = k .sizes-ok;
+      in-cache = k .in-cache;
+      in-flags = rw e (length-drainedFlags L flags ∙ k .in-flags);
+      lane-below = k .lane-below;
+      room = rw (d, drained-clock z cache L state) (clock-room state (a .unspent) (q .clock));
+      logged = rw d (same-logged z _ _ _ _ _ _ (drained-clock z cache L state) (s .redo) (s .phase) g);
+    }
+
+-- the logged transaction of a lane that the code has looked up
+pub is-held : (r : Record) (L : ℕ) (l : Lane) (g : Logged) → l ≡ laneAt r L → g ≡ loggedIn (l .phase) → g ≡ loggedIn (laneAt r L .phase)
+is-held r L l g e f = rw (← e) f
+
+-- ---- pairs written
+pair-snoc : (ps : List Pair) (p : Pair) → pairStores (ps ++ (p ∷ [])) ≡ pairStores ps ++ (record { at = 1 + p .word; value = p .value } ∷ [])
+unfolding pairStores
+pair-snoc [] p = refl
+pair-snoc (q ∷ ps) p = ap (λ (l : List Store). record { at = 1 + q .word; value = q .value } ∷ l) (pair-snoc ps p)
+
+-- i pairs written and flushed by lane L
+pub record Written (L : ℕ) (pairs : List Pair) (cache₀ flags₀ : List ℕ) (i : ℕ) (cache flags : List ℕ) : Type 0 where
+  pub long : length cache ≡ length cache₀
+  pub broad : length flags ≡ length flags₀
+  pub written : cache ≡ stored (pairStores (take i pairs)) cache₀
+  pub flushed : flags ≡ flushAll L (places (pairStores (take i pairs))) flags₀
+
+pub written-none : (L : ℕ) (pairs : List Pair) (cache flags : List ℕ) → Written L pairs cache flags 0 cache flags
+unfolding pairStores stored places flushAll
+written-none L pairs cache flags = record { long = refl; broad = refl; written = refl; flushed = refl }
+
+module _ (L : ℕ) (pairs : List Pair) (cache₀ flags₀ : List ℕ) (i : ℕ) (cache flags : List ℕ) (w : Written L pairs cache₀ flags₀ i cache flags) (h : i < length pairs) where
+  last : Store
+  last = record { at = 1 + getD pairs i noPair .word; value = getD pairs i noPair .value }
+
+  stores : pairStores (take (i + 1) pairs) ≡ pairStores (take i pairs) ++ (last ∷ [])
+  unfolding last
+  stores = rw (add-one i, take-suc pairs i noPair h) (pair-snoc (take i pairs) (getD pairs i noPair))
+
+  pub written-more : (flags′ : List ℕ) (p : Pair) → p ≡ getD pairs i noPair → flags′ ≡ set flags (1 + p .word) (flush L (getD flags (1 + p .word) 0))
+      → Written L pairs cache₀ flags₀ (i + 1) (set cache (1 + p .word) (p .value)) flags′
+  unfolding last places
+  written-more flags′ p e f =
+      record {
+        long = simp length-set (w .long);
+        broad = rw f (simp length-set (w .broad));
+        written = rw (stores, stored-snoc (pairStores (take i pairs)) last cache₀, ← w .written, e);
+        flushed = f ∙ rw (stores, places-append (pairStores (take i pairs)) (last ∷ []), flushAll-snoc L (places (pairStores (take i pairs))) (last .at) flags₀, ← w .flushed, e);
+      }
+
+-- a pair below the count is of a word inside the image
+pub pair-inside : (z : Sizes) (pairs : List Pair) (count n : ℕ) → pairsOk (z .words) (take count pairs) ≡ true → count ≤ length pairs → n ≡ imageLength z
+    → (i : ℕ) → i < count → 1 + getD pairs i noPair .word < n
+unfolding imageLength
+pair-inside z pairs count n h k e i l = omega (arith, pair-below (z .words) pairs count i h l (omega arith))
+
+-- ---- a commit
+pub state-committed : (L : ℕ) (r : Record) (l i : Lane) (r₁ r₂ r₃ : Record) → l ≡ laneAt r L → r₁ ≡ withClock r (r .clock + 2) → i ≡ idleLane l
+    → r₂ ≡ withLane r₁ L i → r₃ ≡ withLast r₂ (r .clock + 2) → r₃ ≡ committedState L r
+unfolding committedState
+state-committed L r l i r₁ r₂ r₃ a b c d e = e ∙ rw (d, b, c, a)
+
+-- a word past the data words keeps its value when pairs are written
+past-data : (W : ℕ) (ps : List Pair) (image : List ℕ) (i : ℕ) → pairsOk W ps ≡ true → W < i → getD (stored (pairStores ps) image) i 0 ≡ getD image i 0
+unfolding pairsOk pairStores stored
+past-data W [] image i h k = refl
+past-data W (p ∷ ps) image i h k =
+    past-data W ps (set image (1 + p .word) (p .value)) i (and-right (ltb (p .word) W) _ h) k
+    ∙ getD-set-other image (1 + p .word) i (p .value) 0 (λ e. omega (arith, ltb-true (p .word) W (and-left _ (pairsOk W ps) h)))
+
+circular-low : (N k : ℕ) → k < 2 * N → circular N k < N
+unfolding circular
+circular-low N k h = split (ltb k N) (λ e. rw e (ltb-true k N e)) (λ e. rw e (omega (arith, ltb-false k N e)))
+
+-- the timestamp's slot, as the code finds it
+pub slot-found : (z : Sizes) (L : ℕ) (r : Record) (l : Lane) (g : Logged) (slot : ℕ) → l ≡ laneAt r L → g ≡ loggedIn (l .phase)
+    → slot ≡ circular (z .slots) (g .first + g .count) → slot ≡ stampSlot z L r
+unfolding stampSlot
+slot-found z L r l g slot e f h = h ∙ rw (is-held r L l g e f)
+
+-- it is one of the log
+stamp-slot-low : (z : Sizes) (r : Record) (cache flags : List ℕ) (L slot : ℕ) → Ready z r cache flags L → slot ≡ stampSlot z L r → slot < z .slots
+unfolding stampSlot
+stamp-slot-low z r cache flags L slot k e =
+    rw e (circular-low (z .slots) _ (omega (arith, sizes-in z (k .sizes-ok) .slots-low, k .logged .first, k .logged .most)))
+
+-- its words are inside the image, also when pairs have been written
+module _ (z : Sizes) (r : Record) (cache flags : List ℕ) (L start slot : ℕ) (k : Ready z r cache flags L) (at : start ≡ logStart z L) (in-slot : slot ≡ stampSlot z L r) where
+  value-inside : start + 2 * slot + 1 < imageLength z
+  value-inside = omega (arith, at, log-fits z L (k .lane-below), stamp-slot-low z r cache flags L slot k in-slot)
+
+  pub restamp-inside : (ps : List Pair) (cache₁ flags₁ : List ℕ) → cache₁ ≡ stored (pairStores ps) cache → flags₁ ≡ flushAll L (places (pairStores ps)) flags
+      → (start + 2 * slot + 1 < length cache₁) × (start + 2 * slot + 1 < length flags₁)
+  restamp-inside ps cache₁ flags₁ e f = (
+    rw (e, length-stored (pairStores ps) cache, k .in-cache) value-inside,
+    rw (f, length-flushAll L (places (pairStores ps)) flags, k .in-flags) value-inside,
+  )
+
+-- the store of the timestamp reads an address word, which the pairs have left as it was
+same-restamp : (z : Sizes) (L slot s : ℕ) (ps : List Pair) (cache : List ℕ) → pairsOk (z .words) ps ≡ true
+    → restampStore (logStart z L) slot s (stored (pairStores ps) cache) ≡ restampStore (logStart z L) slot s cache
+unfolding restampStore logStart
+same-restamp z L slot s ps cache h = rw (past-data (z .words) ps cache (1 + z .words + 2 * z .slots * L + 2 * slot) h (omega arith))
+
+module _ (z : Sizes) (L : ℕ) (ps : List Pair) (r : Record) (cache flags cache₁ flags₁ : List ℕ) (start slot : ℕ) (ok : pairsOk (z .words) ps ≡ true)
+    (at : start ≡ logStart z L) (in-slot : slot ≡ stampSlot z L r)
+    (written : cache₁ ≡ stored (pairStores ps) cache) (flushed : flags₁ ≡ flushAll L (places (pairStores ps)) flags) where
+  restamp : restampStore start slot (r .clock + 2) cache₁ ≡ restampStore (logStart z L) (stampSlot z L r) (r .clock + 2) cache
+  restamp = rw (at, in-slot, written) (same-restamp z L (stampSlot z L r) (r .clock + 2) ps cache ok)
+
+  pub commit-done : (r₂ : Record) (cache₂ flags₂ : List ℕ) → r₂ ≡ committedState L r
+      → cache₂ ≡ stored (restampStore start slot (r .clock + 2) cache₁ ∷ []) cache₁
+      → flags₂ ≡ flushAll L (places (restampStore start slot (r .clock + 2) cache₁ ∷ [])) flags₁
+      → (nvm : List ℕ) → machineOf r₂ cache₂ nvm flags₂ ≡ committed z L ps (machineOf r cache nvm flags)
+  unfolding committed changed commitStores committedState stampSlot
+  commit-done r₂ cache₂ flags₂ e f g nvm =
+      rw (
+        e,
+        f,
+        g,
+        restamp,
+        stored-append (pairStores ps) (restampStore (logStart z L) (stampSlot z L r) (r .clock + 2) cache ∷ []) cache,
+        places-append (pairStores ps) (restampStore (logStart z L) (stampSlot z L r) (r .clock + 2) cache ∷ []),
+        flushAll-append L (places (pairStores ps)) (places (restampStore (logStart z L) (stampSlot z L r) (r .clock + 2) cache ∷ [])) flags,
+        written,
+        flushed,
+      )
+
+-- ---- writes compared with entries
+-- i writes compared, all matching: what is left to compare from this slot on decides
+pub record Compared (W N : ℕ) (log : List ℕ) (first : ℕ) (ws : List Write) (i slot : ℕ) : Type 0 where
+  pub within : slot < N
+  pub rest : entriesMatch W N log first ws ≡ entriesMatch W N log slot (drop i ws)
+
+pub compared-none : (W N : ℕ) (log : List ℕ) (first : ℕ) (ws : List Write) → first < N → Compared W N log first ws 0 first
+compared-none W N log first ws h = record { within = h; rest = refl }
+
+module _ (W N : ℕ) (log : List ℕ) (first : ℕ) (list : List Write) (n i slot : ℕ) (a : Compared W N log first (take n list) i slot) (h : i < n) (k : n ≤ length list)
+    (w : Write) (c : Content) (b : Bool) (e : w ≡ getD list i noWrite) (f : c ≡ slotAt W log slot) (g : b ≡ entryMatches w c) where
+  next-write : drop i (take n list) ≡ w ∷ drop (i + 1) (take n list)
+  next-write =
+      drop-cons (take n list) i noWrite (rw (length-take-le n list k) h)
+      ∙ rw (getD-take n list i noWrite h, ← e, add-one i)
+
+  next-match : entriesMatch W N log first (take n list) ≡ (b && entriesMatch W N log (circular N (slot + 1)) (drop (i + 1) (take n list)))
+  unfolding entriesMatch
+  next-match = a .rest ∙ rw (next-write, ← f, ← g)
+
+  pub compared-fails : b ≡ false → false ≡ entriesMatch W N log first (take n list)
+  compared-fails d = sym (next-match ∙ rw d)
+
+  pub compared-more : (next : ℕ) → b ≡ true → next ≡ circular N (slot + 1) → Compared W N log first (take n list) (i + 1) next
+  compared-more next d q =
+      record {
+        within = rw q (circular-low N (slot + 1) (let l = a .within in omega arith));
+        rest = next-match ∙ rw (d, q);
+      }
+
+pub compared-all : (W N : ℕ) (log : List ℕ) (first : ℕ) (list : List Write) (n i slot : ℕ) → Compared W N log first (take n list) i slot → i ≡ n → n ≤ length list
+    → true ≡ entriesMatch W N log first (take n list)
+unfolding entriesMatch
+compared-all W N log first list n i slot a e k = sym (a .rest ∙ rw (e, ended))
+  where
+    ended : drop n (take n list) ≡ []
+    ended = ap (λ (j : ℕ). drop j (take n list)) (sym (length-take-le n list k)) ∙ drop-length (take n list)
+
+-- the writes against what the lane holds
+module _ (z : Sizes) (L : ℕ) (list : List Write) (n : ℕ) (k : n ≤ length list) (r : Record) (cache : List ℕ) (l : Lane) (g : Logged) (e : l ≡ laneAt r L)
+    (f : g ≡ loggedIn (l .phase)) where
+  pub matches-few : (n ≡ g .count → ⊥) → (nvm flags : List ℕ) → false ≡ matches z L (take n list) (machineOf r cache nvm flags)
+  unfolding matches
+  matches-few h nvm flags = rw (← is-held r L l g e f, length-take-le n list k, ne-eqb n (g .count) h)
+
+  pub matches-log : (part : List ℕ) (b : Bool) → n ≡ g .count → part ≡ logOf z L cache → b ≡ entriesMatch (z .words) (z .slots) part (g .first) (take n list)
+      → (nvm flags : List ℕ) → b ≡ matches z L (take n list) (machineOf r cache nvm flags)
+  unfolding matches
+  matches-log part b h p q nvm flags = q ∙ rw (← is-held r L l g e f, length-take-le n list k, eq-eqb n (g .count) h, p)
+
+-- ---- how Redo ends, on a drained lane
+pub redo-requires : (z : Sizes) (L : ℕ) (r : Record) (cache flags : List ℕ) (l : Lane) (g : Logged) → Ready z r cache flags L → l ≡ laneAt r L → g ≡ loggedIn (l .phase)
+    → Ready z r cache flags L × (g .count ≤ 16) × (pairsOk (z .words) (take (g .count) (l .redo)) ≡ true)
+redo-requires z L r cache flags l g k e f = (k, rw (is-held r L l g e f) (k .logged .most), rw (f, e) (k .logged .pairs))
+
+module _ (z : Sizes) (L : ℕ) (r : Record) (cache nvm flags : List ℕ) (l : Lane) (g : Logged) (e : l ≡ laneAt r L) (f : g ≡ loggedIn (l .phase)) where
+  pub redo-stale : g .stamp < r .last → record { answer = Stale; machine = machineOf r cache nvm flags } ≡ redoDrained z L (machineOf r cache nvm flags)
+  unfolding redoDrained isStale
+  redo-stale h = rw (← is-held r L l g e f, lt-ltb (g .stamp) (r .last) h)
+
+  pub redo-commits : (m : Machine) → r .last ≤ g .stamp → m ≡ committed z L (take (g .count) (l .redo)) (machineOf r cache nvm flags)
+      → record { answer = Committed (r .clock + 2); machine = m } ≡ redoDrained z L (machineOf r cache nvm flags)
+  unfolding redoDrained isStale redoPairs
+  redo-commits m h d = rw (← e, ← f, le-ltb (g .stamp) (r .last) h, d)
+
+-- ---- how Validate ends, on a drained lane
+pairs-low : (W : ℕ) {ws : List Write} → WordsBelow W ws → pairsOk W (pairsOf (length ws) ws) ≡ true
+unfolding pairsOk pairsOf
+pairs-low W none = refl
+pairs-low W (more {x = w} h a) = rw (lt-ltb (w .word) W h) (pairs-low W a)
+
+module _ (z : Sizes) (list : List Write) (n : ℕ) (k : n ≤ 16) (long : n ≤ length list) (pairs : List Pair) (p : pairs ≡ pairsOf 16 (take n list)) where
+  first-pairs : take n pairs ≡ pairsOf (length (take n list)) (take n list)
+  first-pairs = rw (p, length-take-le n list long) (pairs-cut n 16 (take n list) k)
+
+  pub validate-pairs : WordsBelow (z .words) (take n list) → pairsOk (z .words) (take n pairs) ≡ true
+  validate-pairs a = rw first-pairs (pairs-low (z .words) a)
+
+  pub validate-commits : (L : ℕ) (r : Record) (cache nvm flags : List ℕ) (b : Bool) (m : Machine) → b ≡ matches z L (take n list) (machineOf r cache nvm flags) → b ≡ true
+      → m ≡ committed z L (take n pairs) (machineOf r cache nvm flags)
+      → record { answer = Committed (r .clock + 2); machine = m } ≡ validateDrained z L (take n list) (machineOf r cache nvm flags)
+  unfolding validateDrained
+  validate-commits L r cache nvm flags b m e h d = rw (← e, h, d, first-pairs)
+
+pub validate-changed : (z : Sizes) (L : ℕ) (r : Record) (cache nvm flags : List ℕ) (ws : List Write) (b : Bool) (l i : Lane) (r₂ : Record)
+    → b ≡ matches z L ws (machineOf r cache nvm flags) → b ≡ false → l ≡ laneAt r L → i ≡ idleLane l → r₂ ≡ withLane r L i
+    → record { answer = Changed; machine = machineOf r₂ cache nvm flags } ≡ validateDrained z L ws (machineOf r cache nvm flags)
+unfolding validateDrained released
+validate-changed z L r cache nvm flags ws b l i r₂ e h d f g = rw (← e, h, g, f, d)
+
+-- ---- the drain before: it keeps all that Redo and Validate look at
+module _ (z : Sizes) (L : ℕ) (m : Machine) where
+  same-stale : isStale L (drained z L m) ≡ isStale L m
+  unfolding isStale
+  same-stale =
+      rw drained-state
+      (ap (λ (p : Phase). ltb (loggedIn p .stamp) (drainedState z (m .cache) L (m .state) .last)) (drained-keeps z (m .cache) L (m .state) .phase)
+      ∙ ap (ltb (loggedIn (laneAt (m .state) L .phase) .stamp)) (drained-last z (m .cache) L (m .state)))
+
+  same-pairs : redoPairs L (drained z L m) ≡ redoPairs L m
+  unfolding redoPairs
+  same-pairs =
+      rw drained-state
+      (ap (λ (p : Phase). take (loggedIn p .count) (laneAt (drainedState z (m .cache) L (m .state)) L .redo)) (drained-keeps z (m .cache) L (m .state) .phase)
+      ∙ ap (take (loggedIn (laneAt (m .state) L .phase) .count)) (drained-keeps z (m .cache) L (m .state) .redo))
+
+  same-clock : drained z L m .state .clock ≡ m .state .clock
+  same-clock = rw drained-state (drained-clock z (m .cache) L (m .state))
+
+  same-cache : drained z L m .cache ≡ m .cache
+  unfolding drained
+  same-cache = refl
+
+  same-matches : (ws : List Write) → matches z L ws (drained z L m) ≡ matches z L ws m
+  unfolding matches
+  same-matches ws =
+      rw (drained-state, same-cache)
+      (ap (λ (p : Phase). eqb (length ws) (loggedIn p .count) && entriesMatch (z .words) (z .slots) (logOf z L (m .cache)) (loggedIn p .first) ws)
+      (drained-keeps z (m .cache) L (m .state) .phase))
+
+  redo-drained : redoDrained z L (drained z L m)
+      ≡ cond (isStale L m) (record { answer = Stale; machine = drained z L m })
+      (record { answer = Committed (m .state .clock + 2); machine = committed z L (redoPairs L m) (drained z L m) })
+  unfolding redoDrained
+  redo-drained = rw (same-stale, same-pairs, same-clock)
+
+  validate-drained : (ws : List Write) → validateDrained z L ws (drained z L m)
+      ≡ cond (matches z L ws m) (record { answer = Committed (m .state .clock + 2); machine = committed z L (pairsOf (length ws) ws) (drained z L m) })
+      (record { answer = Changed; machine = released L (drained z L m) })
+  unfolding validateDrained
+  validate-drained ws = rw (same-matches ws, same-clock)
+
+-- ---- the calls, where they are not refused
+module _ (z : Sizes) (L : ℕ) (state : Record) (cache nvm flags : List ℕ) (r : Record) (nvm₁ flags₁ : List ℕ)
+    (d : r ≡ drainedState z cache L state) (e : nvm₁ ≡ drainedNvm L flags cache nvm) (f : flags₁ ≡ drainedFlags L flags) (number : ℕ) (step : Step) where
+  pub redo-taken : number ≡ redoRefusal z L (machineOf state cache nvm flags) → number ≡ 0 → step ≡ redoDrained z L (machineOf r cache nvm₁ flags₁)
+      → step ≡ redoStep z L (machineOf state cache nvm flags)
+  unfolding redoStep
+  redo-taken n h s =
+      s ∙ ap (redoDrained z L) (drained-by z L state cache nvm flags r nvm₁ flags₁ d e f) ∙ redo-drained z L (machineOf state cache nvm flags)
+      ∙ step-taken number _ (machineOf state cache nvm flags) _ n h
+
+  pub validate-taken : (t : List ℕ) (ws : List Write) → number ≡ validateRefusal z L t (machineOf state cache nvm flags) → number ≡ 0
+      → ws ≡ run (z .words) t (dataOf z cache) → step ≡ validateDrained z L ws (machineOf r cache nvm₁ flags₁)
+      → step ≡ validateStep z L t (machineOf state cache nvm flags)
+  unfolding validateStep writesOn
+  validate-taken t ws n h w s =
+      s ∙ rw w (ap (validateDrained z L (run (z .words) t (dataOf z cache))) (drained-by z L state cache nvm flags r nvm₁ flags₁ d e f)
+      ∙ validate-drained z L (machineOf state cache nvm flags) (run (z .words) t (dataOf z cache)))
+      ∙ step-taken number _ (machineOf state cache nvm flags) _ n h
+
+-- ---- the data words, the part of the cached image that a run reads
+pub record DataPart (z : Sizes) (cache : List ℕ) : Type 0 where
+  pub most : z .words ≤ 1024
+  pub inside : 1 + z .words ≤ length cache
+  pub is-data : take (1 + z .words - 1) (drop 1 cache) ≡ dataOf z cache
+  pub in-data : length (take (1 + z .words - 1) (drop 1 cache)) ≡ z .words
+
+part-data : (z : Sizes) (cache : List ℕ) → take (1 + z .words - 1) (drop 1 cache) ≡ dataOf z cache
+unfolding dataOf
+part-data z cache = ap (λ (n : ℕ). take n (drop 1 cache)) (let e : 1 + z .words - 1 ≡ z .words = omega arith in e)
+
+pub data-part : (z : Sizes) (cache : List ℕ) → sizesOk z ≡ true → length cache ≡ imageLength z → DataPart z cache
+unfolding imageLength
+data-part z cache ok e =
+    record {
+      most = sizes-in z ok .words-high;
+      inside = rw e (omega arith);
+      is-data = part-data z cache;
+      in-data = ap length (part-data z cache) ∙ length-data z cache e;
+    }
+
+-- the writes that the code hands on are the run's
+module _ (W : ℕ) (t memory : List ℕ) (w : Writes) (e : w ≡ writesOf 16 (run W t memory)) (ok : txnOk 16 W t ≡ true) where
+  pub writes-few : w .count ≤ 16
+  unfolding writesOf
+  writes-few = rw e (few-writes 16 W t memory ok)
+
+  pub writes-long : length (w .list) ≡ 16
+  unfolding writesOf
+  writes-long = rw e (length-padded 16 (run W t memory))
+
+  pub writes-run : take (w .count) (w .list) ≡ run W t memory
+  unfolding writesOf
+  writes-run = rw e (take-padded 16 (run W t memory) (few-writes 16 W t memory ok))
+
+  pub writes-low : WordsBelow W (take (w .count) (w .list))
+  writes-low = rw writes-run (run-low 16 W t memory ok)

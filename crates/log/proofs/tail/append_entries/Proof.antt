@@ -1,0 +1,78 @@
+-- `log::tail::append_entries` meets its contract. The loop's invariant (`Appended`): the entries of the first i writes are stored and flushed. Assumes nothing.
+use borrow.Author.Needs.{needs}
+use Prim.Native.Nat.{_≤_, _-_}
+use mathlib.Core.Path.{_≡_}
+use native.Mathlib.Omega.{arith}
+use Rattle.log.specs.AppendLaws.{Appended, word-below, appended-none, appended-more}
+use Rattle.log.proofs.tail.append_entries.Statement.{statement}
+use Rattle.log.proofs.tail.append_entries.Tie as tie
+
+abbrev Inv-loop : tie.InvT-loop
+Inv-loop cache₀ flags₀ start slots lane writes end₀ i₀ i-end cache flags end i = (i ≤ writes .count) × Appended start slots lane (writes .list) end₀ cache₀ flags₀ i end cache flags
+
+abbrev μ-loop : tie.MeasureT-loop
+μ-loop cache₀ flags₀ start slots lane writes end₀ i₀ i-end cache flags end i = writes .count - i
+
+loop-holds : tie.Need-loop-holds Inv-loop μ-loop
+loop-holds c = (search needs, appended-none _ _ _ _ _ _ _ (record { slot = search needs; wrap = search needs }))
+
+mul-write : tie.Need-mul-write Inv-loop μ-loop
+mul-write c = search needs
+
+element-copy-out-write : tie.Need-element-copy-out-write Inv-loop μ-loop
+element-copy-out-write c = search needs
+
+entry-requires : tie.Need-entry-requires Inv-loop μ-loop
+entry-requires c κs = let l = c .before .before .loop in
+    let s = c .before .before .before .before .before in
+    let a = s .args in
+    (omega (arith, word-below 1024 (a .t6 .count) (l .i) (a .t6 .list) (s .pre .2) (c .before .loop-test .taken) (omega arith)), l .inv .1 .within .wrap)
+
+store-slot-requires : tie.Need-store-slot-requires Inv-loop μ-loop
+store-slot-requires c κs = let l = c .before .before .before .before .before .loop in
+    let v = l .inv .1 .within in
+    omega (arith, l .inv .1 .long, l .inv .1 .broad)
+
+onward-requires : tie.Need-onward-requires Inv-loop μ-loop
+onward-requires c κs = search needs
+
+add-i : tie.Need-add-i Inv-loop μ-loop
+add-i c = search needs
+
+loop-less : tie.Need-loop-less Inv-loop μ-loop
+loop-less c = search needs
+
+loop-again : tie.Need-loop-again Inv-loop μ-loop
+loop-again c = let o = c .before .before .before .before .before in
+    let l = o .before .before .before .before .before .before .loop in
+    (search needs, appended-more _ _ _ _ _ _ _ (l .i) (l .end) (l .cache) (l .flags) _ (o .before .before .before .entry .result) _ _ (l .inv .1) (search needs) (o .before .before .before .entry .ensures) (c .onward .ensures) (o .store-slot .ensures .0) (o .store-slot .ensures .1))
+
+same-length : tie.Need-same-length Inv-loop μ-loop
+same-length c = search needs
+
+same-length-2 : tie.Need-same-length-2 Inv-loop μ-loop
+same-length-2 c = search needs
+
+returns : tie.Need-returns Inv-loop μ-loop
+returns c = let l = c .before .loop in
+    let e : l .i ≡ c .before .before .before .before .args .t6 .count = omega arith in
+    (rw (← e) (l .inv .1 .place), (rw (← e) (l .inv .1 .written), rw (← e) (l .inv .1 .flushed)))
+
+pub append-entries-spec : {M : Type 1} → statement M
+append-entries-spec =
+    tie.close
+    (tie.spec
+    Inv-loop
+    μ-loop
+    loop-holds
+    mul-write
+    element-copy-out-write
+    entry-requires
+    store-slot-requires
+    onward-requires
+    add-i
+    loop-less
+    loop-again
+    same-length
+    same-length-2
+    returns)

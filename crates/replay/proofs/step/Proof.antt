@@ -1,0 +1,103 @@
+-- `step` is safe, and does not pass the end of the input: an op ends within it. The parts of the buffers are as long as the image. Assumes nothing.
+use native.Mathlib.Omega.{arith}
+use lib.ListN.{length-take}
+use borrow.Author.Needs.{needs}
+use Rattle.replay.proofs.step.Statement.{statement}
+use Rattle.replay.proofs.step.Tie as tie
+
+mul-rest : tie.Need-mul-rest
+mul-rest c = search needs
+
+sub-rest : tie.Need-sub-rest
+sub-rest c = search needs
+
+part-rest-start : tie.Need-part-rest-start
+part-rest-start c = search needs
+
+part-rest-end : tie.Need-part-rest-end
+part-rest-end c = search needs
+
+op-length-requires : tie.Need-op-length-requires
+op-length-requires c κs = search needs
+
+returns : tie.Need-returns
+returns c = search needs
+
+lent-requires : tie.Need-lent-requires
+lent-requires c κs = search needs
+
+shared-slice-read-perform : tie.Need-shared-slice-read-perform
+shared-slice-read-perform c = search needs
+
+sub-perform : tie.Need-sub-perform
+sub-perform c = search needs
+
+part-perform-start : tie.Need-part-perform-start
+part-perform-start c = search needs
+
+part-perform-end : tie.Need-part-perform-end
+part-perform-end c = search needs
+
+add-t12 : tie.Need-add-t12
+add-t12 c = search needs
+
+slice-relend-prefix-perform : tie.Need-slice-relend-prefix-perform
+slice-relend-prefix-perform c = search needs
+
+slice-aggregate-perform : tie.Need-slice-aggregate-perform
+slice-aggregate-perform c = simp length-take (omega arith)
+
+slice-relend-prefix-perform-2 : tie.Need-slice-relend-prefix-perform-2
+slice-relend-prefix-perform-2 c = search needs
+
+slice-aggregate-perform-2 : tie.Need-slice-aggregate-perform-2
+slice-aggregate-perform-2 c = simp length-take (omega arith)
+
+slice-relend-prefix-perform-3 : tie.Need-slice-relend-prefix-perform-3
+slice-relend-prefix-perform-3 c = search needs
+
+slice-aggregate-perform-3 : tie.Need-slice-aggregate-perform-3
+slice-aggregate-perform-3 c = simp length-take (omega arith)
+
+perform-requires : tie.Need-perform-requires
+perform-requires c κs = search needs
+
+same-length : tie.Need-same-length
+same-length c = search needs
+
+same-length-2 : tie.Need-same-length-2
+same-length-2 c = search needs
+
+same-length-3 : tie.Need-same-length-3
+same-length-3 c = search needs
+
+returns-2 : tie.Need-returns-2
+returns-2 c = search needs
+
+pub step-spec : {M : Type 1} → statement M
+step-spec =
+    tie.close
+    (tie.spec
+    mul-rest
+    sub-rest
+    part-rest-start
+    part-rest-end
+    op-length-requires
+    returns
+    lent-requires
+    shared-slice-read-perform
+    sub-perform
+    part-perform-start
+    part-perform-end
+    add-t12
+    slice-relend-prefix-perform
+    slice-aggregate-perform
+    slice-relend-prefix-perform-2
+    slice-aggregate-perform-2
+    slice-relend-prefix-perform-3
+    slice-aggregate-perform-3
+    perform-requires
+    same-length
+    same-length-2
+    same-length-3
+    returns-2)

@@ -1,0 +1,165 @@
+// The input: words of eight bytes, the least significant first, and how many of them an op has.
+use image::Sizes;
+use libc::STDIN_FILENO;
+ghost use mathlib.Core.Path.{_≡_};
+ghost use Prim.Native.Nat.{_+_, _*_, _≤_};
+ghost use lib.ListN.{length};
+
+// How many words an op has after its code.
+enum Extent {
+    Words(usize),
+    // no op has this code, or it announces more words than it may have
+    Malformed,
+}
+
+// What was read: the count of words, and whether they are the whole input.
+pub(crate) struct Input {
+    pub(crate) count: usize,
+    pub(crate) whole: bool,
+}
+
+// Zeros for the longest input. A function of its own, so that a caller's proof sees only the length.
+pub(crate) fn buffer() -> [u64; 131072]
+    ensures { λ r. ⌜ 131072 ≡ length r ⌝ }
+{
+    [0; 131072]
+}
+
+pub(crate) fn wide(byte: u8) -> u64 {
+    byte as u64
+}
+
+// The word of the eight bytes from `at` on.
+fn word_from(bytes: &[u8], at: usize) -> u64
+    requires { ⌜ at + 8 ≤ length (now bytes) ⌝ }
+{
+    let mut word = 0;
+    for i in 0..8 {
+        word = (word << 8) | wide(bytes[at + (7 - i)]);
+    }
+    word
+}
+
+// Puts the words of the bytes at the start of `words`.
+fn decode(bytes: &[u8], words: &mut [u64])
+    requires { ⌜ length (now bytes) ≤ 8 * length (now words) ⌝ }
+{
+    for k in 0..bytes.len() / 8 {
+        words[k] = word_from(bytes, 8 * k);
+    }
+}
+
+// Reads up to 65,536 bytes, and puts their words at the start of `words`; how many bytes there were.
+fn read_chunk(words: &mut [u64]) -> usize
+    requires { ⌜ 8192 ≤ length (now words) ⌝ }
+    ensures { λ r. ⌜ r ≤ 65536 ⌝ }
+{
+    let mut bytes = io::large_buffer();
+    let got = io::read_full(STDIN_FILENO, &mut bytes);
+    decode(&bytes[..got], words);
+    got
+}
+
+fn is_at_end() -> bool {
+    let mut byte = [0u8; 1];
+    io::read_full(STDIN_FILENO, &mut byte) == 0
+}
+
+// Reads the input, which is whole where it ends after a word and is no longer than `words`.
+pub(crate) fn read(words: &mut [u64]) -> Input
+    requires { ⌜ length (now words) ≡ 131072 ⌝ }
+    ensures { λ r. ⌜ r .count ≤ 131072 ⌝ }
+{
+    for k in 0..16 {
+        let start = 8192 * k;
+        let got = read_chunk(&mut words[start..]);
+        if got < 65536 {
+            return Input {
+                count: start + got / 8,
+                whole: got % 8 == 0,
+            };
+        }
+    }
+    Input {
+        count: 131072,
+        whole: is_at_end(),
+    }
+}
+
+// Word k, or 0 past the end.
+pub(crate) fn word(words: &[u64], k: usize) -> u64 {
+    if k < words.len() {
+        return words[k];
+    }
+    0
+}
+
+// Word k as an index, a lane or a size.
+pub(crate) fn number(words: &[u64], k: usize) -> usize {
+    word(words, k) as usize
+}
+
+// The words from word k on, none past the end.
+pub(crate) fn tail(words: &[u64], k: usize) -> &[u64] {
+    if k < words.len() {
+        return &words[k..];
+    }
+    &words[..0]
+}
+
+// W, T, N.
+pub(crate) fn sizes(words: &[u64]) -> Sizes {
+    Sizes {
+        words: number(words, 0),
+        lanes: number(words, 1),
+        slots: number(words, 2),
+    }
+}
+
+// Format's start words, none where the sizes are out of range.
+fn start_words(sizes: Sizes) -> usize {
+    if image::sizes_ok(sizes) {
+        return sizes.words;
+    }
+    0
+}
+
+// The words of an op that has `fixed` ones, of which the last says how many follow, at most `most`.
+fn counted(op: &[u64], fixed: usize, most: u64) -> Extent
+    requires { ⌜ (fixed ≤ 3) × (most ≤ 5121) ⌝ }
+{
+    let more = word(op, fixed);
+    if most < more {
+        return Extent::Malformed;
+    }
+    Extent::Words(fixed + more as usize)
+}
+
+// How many words the op at the start of these words has, if they do not end before it does.
+fn operands(op: &[u64], sizes: Sizes) -> Extent {
+    match word(op, 0) {
+        0 | 9 | 14 => Extent::Words(0),
+        2 | 4 | 5 | 6 => Extent::Words(1),
+        10 | 12 => Extent::Words(3),
+        11 => Extent::Words(322),
+        8 => Extent::Words(start_words(sizes)),
+        1 | 3 => counted(op, 2, 80),
+        13 => counted(op, 3, 5121),
+        // 7, recovery, among them: it has no code yet
+        _ => Extent::Malformed,
+    }
+}
+
+// The length of the op at the start of these words, its code included; 0 where it is malformed or the words end before it does.
+pub(crate) fn op_length(op: &[u64], sizes: Sizes) -> usize
+    ensures { λ r. ⌜ r ≤ length (now (op .entry)) ⌝ }
+{
+    let extent = operands(op, sizes);
+    let Extent::Words(count) = extent else {
+        return 0;
+    };
+    if op.len() <= count {
+        return 0;
+    }
+    1 + count
+}

@@ -1,0 +1,236 @@
+// Runs recorded calls on the store, and prints a line for each. The format of the input and the output is docs/TRACE.md.
+mod buffers;
+mod fields;
+mod input;
+mod print;
+
+use image::Sizes;
+use record::Record;
+use store::Answer;
+use store::Outcome;
+ghost use mathlib.Core.Path.{_≡_};
+ghost use Prim.Native.Nat.{_≤_};
+ghost use lib.ListN.{length};
+
+enum Status {
+    Going,
+    // past the op that ends the trace
+    Ended,
+    Malformed,
+}
+
+// A trace between two of its ops: the word of the input that it stands at, and what its calls are given beside the buffers.
+struct Run {
+    at: usize,
+    status: Status,
+    sizes: Sizes,
+    state: Record,
+}
+
+// The words of each buffer that a call is given.
+fn lent(sizes: Sizes) -> usize
+    ensures { λ r. ⌜ r ≤ 5121 ⌝ }
+{
+    if image::sizes_ok(sizes) {
+        return image::image_length(sizes);
+    }
+    0
+}
+
+// Format, which takes no record; a refused one leaves the record as it was.
+fn format(
+    sizes: Sizes,
+    state: Record,
+    cache: &mut [u64],
+    nvm: &mut [u64],
+    flags: &mut [u8],
+    start: &[u64],
+) -> Outcome {
+    let outcome = store::format(sizes, start, cache, nvm, flags);
+    let answer = outcome.answer;
+    match answer {
+        Answer::Refused(_) => Outcome { answer, state },
+        _ => outcome,
+    }
+}
+
+// A call of the store, by its code and its words.
+fn call(
+    code: u64,
+    words: &[u64],
+    sizes: Sizes,
+    state: Record,
+    cache: &mut [u64],
+    nvm: &mut [u64],
+    flags: &mut [u8],
+) -> Outcome {
+    // a write-back's is the number of a word
+    let lane = input::number(words, 0);
+    match code {
+        1 => append::log(sizes, state, cache, nvm, flags, lane, input::tail(words, 2)),
+        2 => commit::redo(sizes, state, cache, nvm, flags, lane),
+        3 => commit::validate(sizes, state, cache, nvm, flags, lane, input::tail(words, 2)),
+        4 => append::mark(sizes, state, cache, nvm, flags, lane),
+        5 => store::drain(sizes, state, cache, nvm, flags, lane),
+        6 => Outcome {
+            answer: store::write_back(sizes, cache, nvm, flags, lane),
+            state,
+        },
+        // 8: no other code comes here
+        _ => format(sizes, state, cache, nvm, flags, words),
+    }
+}
+
+// Performs an op, by its code and the words after it, where `run` stands behind them already.
+fn perform(
+    code: u64,
+    words: &[u64],
+    run: Run,
+    cache: &mut [u64],
+    nvm: &mut [u64],
+    flags: &mut [u8],
+) -> Run
+    ensures { λ r. ⌜ r .at ≡ run .at ⌝ }
+{
+    let state = run.state;
+    match code {
+        0 => Run {
+            status: Status::Ended,
+            ..run
+        },
+        9 => {
+            print::dump(state, cache, nvm, flags);
+            run
+        }
+        10 => {
+            buffers::store(words, 2, cache, nvm, flags);
+            run
+        }
+        11 => Run {
+            state: fields::record_from(words),
+            ..run
+        },
+        12 => Run {
+            sizes: input::sizes(words),
+            ..run
+        },
+        13 => {
+            buffers::store(words, 3, cache, nvm, flags);
+            run
+        }
+        14 => {
+            print::digests(state, cache, nvm, flags);
+            run
+        }
+        _ => {
+            let outcome = call(code, words, run.sizes, state, cache, nvm, flags);
+            let answer = outcome.answer;
+            let after = outcome.state;
+            print::answer_line(code, answer);
+            Run {
+                state: after,
+                ..run
+            }
+        }
+    }
+}
+
+// The op that `run` stands at.
+fn step(input: &[u64], run: Run, cache: &mut [u64], nvm: &mut [u64], flags: &mut [u8]) -> Run
+    requires { ⌜ (run .at ≤ length (now input)) × (5121 ≤ length (now cache)) × (5121 ≤ length (now nvm)) × (5121 ≤ length (now flags)) ⌝ }
+    ensures { λ r. ⌜ r .at ≤ length (now (input .entry)) ⌝ }
+{
+    let at = run.at;
+    let rest = &input[at..];
+    let end = input::op_length(rest, run.sizes);
+    if end == 0 {
+        return Run {
+            status: Status::Malformed,
+            ..run
+        };
+    }
+    let n = lent(run.sizes);
+    perform(
+        rest[0],
+        &rest[1..end],
+        Run {
+            at: at + end,
+            ..run
+        },
+        &mut cache[..n],
+        &mut nvm[..n],
+        &mut flags[..n],
+    )
+}
+
+// Runs the ops of a trace, up to the one that ends it or is malformed. Each has at least one word, so that there are turns enough.
+fn run_ops(input: &[u64], start: Run, cache: &mut [u64], nvm: &mut [u64], flags: &mut [u8]) -> Run
+    requires { ⌜ (start .at ≤ length (now input)) × (5121 ≤ length (now cache)) × (5121 ≤ length (now nvm)) × (5121 ≤ length (now flags)) ⌝ }
+    ensures { λ r. ⌜ r .at ≤ length (now (input .entry)) ⌝ }
+{
+    let mut run = start;
+    for _ in 0..input.len() {
+        run = step(input, run, cache, nvm, flags);
+        let status = run.status;
+        let Status::Going = status else {
+            return run;
+        };
+    }
+    run
+}
+
+// Runs the trace that starts at a word of the input, with buffers and a record of zeros.
+fn run_trace(input: &[u64], at: usize) -> Run
+    requires { ⌜ at ≤ length (now input) ⌝ }
+    ensures { λ r. ⌜ r .at ≤ length (now (input .entry)) ⌝ }
+{
+    let mut cache = [0u64; 5121];
+    let mut nvm = [0u64; 5121];
+    let mut flags = [0u8; 5121];
+    let zeros = [0u64; 322];
+    let state = fields::record_from(&zeros);
+    let sizes = input::sizes(&input[at..]);
+    if input.len() - at < 3 {
+        return Run {
+            at,
+            status: Status::Malformed,
+            sizes,
+            state,
+        };
+    }
+    let run = Run {
+        at: at + 3,
+        status: Status::Going,
+        sizes,
+        state,
+    };
+    run_ops(input, run, &mut cache, &mut nvm, &mut flags)
+}
+
+// Runs the traces of the input, up to a malformed one.
+fn run_traces(input: &[u64]) {
+    let mut at = 0;
+    for _ in 0..input.len() {
+        if at == input.len() {
+            return;
+        }
+        let run = run_trace(input, at);
+        let status = run.status;
+        let Status::Ended = status else {
+            print::bad_trace();
+            return;
+        };
+        at = run.at;
+    }
+}
+
+fn main() {
+    let mut words = input::buffer();
+    let read = input::read(&mut words);
+    if !read.whole {
+        print::bad_trace();
+        return;
+    }
+    let count = read.count;
+    run_traces(&words[..count]);
+}

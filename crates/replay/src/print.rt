@@ -1,0 +1,156 @@
+// Lines of output. A line is gathered in a buffer, which is written whenever it is full, and at the line's end.
+use libc::STDOUT_FILENO;
+use record::Record;
+use store::Answer;
+ghost use Prim.Native.Nat.{_≤_};
+ghost use lib.ListN.{length};
+use crate::buffers;
+use crate::fields;
+use crate::input::wide;
+
+// Adds a byte to the `used` ones of the buffer; how many there are then.
+fn put_byte(line: &mut [u8; 4096], used: usize, byte: u8) -> usize
+    requires { ⌜ used ≤ 4096 ⌝ }
+    ensures { λ r. ⌜ r ≤ 4096 ⌝ }
+{
+    if used == 4096 {
+        io::write_all(STDOUT_FILENO, line);
+        line[0] = byte;
+        return 1;
+    }
+    line[used] = byte;
+    used + 1
+}
+
+// Adds a text.
+fn put(line: &mut [u8; 4096], used: usize, text: &[u8]) -> usize
+    requires { ⌜ used ≤ 4096 ⌝ }
+    ensures { λ r. ⌜ r ≤ 4096 ⌝ }
+{
+    let mut end = used;
+    for i in 0..text.len() {
+        end = put_byte(line, end, text[i]);
+    }
+    end
+}
+
+// Adds a space and a number in decimal.
+fn put_number(line: &mut [u8; 4096], used: usize, number: u64) -> usize
+    requires { ⌜ used ≤ 4096 ⌝ }
+    ensures { λ r. ⌜ r ≤ 4096 ⌝ }
+{
+    let mut digits = [0u8; 20];
+    let count = io::decimal(number, &mut digits);
+    let end = put_byte(line, used, b' ');
+    put(line, end, &digits[..count])
+}
+
+fn write_first(bytes: &[u8], count: usize)
+    requires { ⌜ count ≤ length (now bytes) ⌝ }
+{
+    io::write_all(STDOUT_FILENO, &bytes[..count]);
+}
+
+// Ends the line, and writes what is left of it.
+fn end_line(line: &mut [u8; 4096], used: usize)
+    requires { ⌜ used ≤ 4096 ⌝ }
+{
+    let end = put_byte(line, used, b'\n');
+    write_first(line, end);
+}
+
+pub(crate) fn bad_trace() {
+    io::write_all(STDOUT_FILENO, b"bad trace\n");
+}
+
+// Starts the line of a call.
+fn put_name(line: &mut [u8; 4096], code: u64) -> usize
+    ensures { λ r. ⌜ r ≤ 4096 ⌝ }
+{
+    match code {
+        1 => put(line, 0, b"log"),
+        2 => put(line, 0, b"redo"),
+        3 => put(line, 0, b"validate"),
+        4 => put(line, 0, b"mark"),
+        5 => put(line, 0, b"drain"),
+        6 => put(line, 0, b"write-back"),
+        // 8: no other code comes here
+        _ => put(line, 0, b"format"),
+    }
+}
+
+fn put_answer(line: &mut [u8; 4096], used: usize, answer: Answer) -> usize
+    requires { ⌜ used ≤ 4096 ⌝ }
+    ensures { λ r. ⌜ r ≤ 4096 ⌝ }
+{
+    match answer {
+        Answer::Refused(number) => {
+            let end = put(line, used, b" refused");
+            put_number(line, end, number)
+        }
+        Answer::Done => used,
+        Answer::NoWrites => put_number(line, used, 0),
+        Answer::Logged(appended) => {
+            let end = put_number(line, used, appended.count as u64);
+            put_number(line, end, appended.stamp)
+        }
+        Answer::Committed(stamp) => put_number(line, used, stamp),
+        Answer::Stale => put(line, used, b" stale"),
+        Answer::Changed => put(line, used, b" changed"),
+        Answer::Marked(marked) => {
+            let end = put_number(line, used, marked.stamp);
+            if marked.dropped {
+                return put(line, end, b" dropped");
+            }
+            end
+        }
+    }
+}
+
+// The line of a call, by its code.
+pub(crate) fn answer_line(code: u64, answer: Answer) {
+    let mut line = io::buffer();
+    let used = put_name(&mut line, code);
+    let end = put_answer(&mut line, used, answer);
+    end_line(&mut line, end);
+}
+
+// A line of a name and numbers.
+fn words_line(name: &[u8], words: &[u64]) {
+    let mut line = io::buffer();
+    let mut end = put(&mut line, 0, name);
+    for i in 0..words.len() {
+        end = put_number(&mut line, end, words[i]);
+    }
+    end_line(&mut line, end);
+}
+
+fn bytes_line(name: &[u8], bytes: &[u8]) {
+    let mut line = io::buffer();
+    let mut end = put(&mut line, 0, name);
+    for i in 0..bytes.len() {
+        end = put_number(&mut line, end, wide(bytes[i]));
+    }
+    end_line(&mut line, end);
+}
+
+// The four lines of a dump.
+pub(crate) fn dump(state: Record, cache: &[u64], nvm: &[u64], flags: &[u8]) {
+    let state_words = fields::record_words(state);
+    words_line(b"cached", cache);
+    words_line(b"cells", nvm);
+    bytes_line(b"flags", flags);
+    words_line(b"record", &state_words);
+}
+
+// The line of digests.
+pub(crate) fn digests(state: Record, cache: &[u64], nvm: &[u64], flags: &[u8]) {
+    let state_words = fields::record_words(state);
+    let all = [
+        buffers::digest(cache),
+        buffers::digest(nvm),
+        buffers::digest_bytes(flags),
+        buffers::digest(&state_words),
+    ];
+    words_line(b"digest", &all);
+}
