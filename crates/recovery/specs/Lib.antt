@@ -1,4 +1,13 @@
 pub mod Recovery
+pub mod Interface
+pub mod Limit
+pub mod Picking
+pub mod Undo
+pub mod LimitLaws
+pub mod PickingLaws
+pub mod ScanLaws
+pub mod UndoLaws
+pub mod RecoveryLaws
 pub mod OrderLaws
 pub mod UndoneLaws
 pub mod SequenceLaws

@@ -139,13 +139,12 @@ fn counted(op: &[u64], fixed: usize, most: u64) -> Extent
 fn operands(op: &[u64], sizes: Sizes) -> Extent {
     match word(op, 0) {
         0 | 9 | 14 => Extent::Words(0),
-        2 | 4 | 5 | 6 => Extent::Words(1),
+        2 | 4 | 5 | 6 | 7 => Extent::Words(1),
         10 | 12 => Extent::Words(3),
         11 => Extent::Words(322),
         8 => Extent::Words(start_words(sizes)),
         1 | 3 => counted(op, 2, 80),
         13 => counted(op, 3, 5121),
-        // 7, recovery, among them: it has no code yet
         _ => Extent::Malformed,
     }
 }

@@ -6,6 +6,7 @@ mod print;
 
 use image::Sizes;
 use record::Record;
+use recovery::Recovered;
 use store::Answer;
 use store::Outcome;
 ghost use mathlib.Core.Path.{_≡_};
@@ -81,6 +82,26 @@ fn call(
     }
 }
 
+// Recovers and prints its line; the record after it, which stays where recovery returns none.
+fn recover(
+    limit: usize,
+    sizes: Sizes,
+    state: Record,
+    cache: &mut [u64],
+    nvm: &mut [u64],
+    flags: &mut [u8],
+) -> Record {
+    let restart = recovery::recover(sizes, cache, nvm, flags, limit);
+    let answer = restart.answer;
+    let after = restart.state;
+    print::recovery_line(answer);
+    match answer {
+        Recovered::Refused(_) => state,
+        Recovered::Cut => state,
+        Recovered::Finished(_) => after,
+    }
+}
+
 // Performs an op, by its code and the words after it, where `run` stands behind them already.
 fn perform(
     code: u64,
@@ -96,6 +117,10 @@ fn perform(
     match code {
         0 => Run {
             status: Status::Ended,
+            ..run
+        },
+        7 => Run {
+            state: recover(input::number(words, 0), run.sizes, state, cache, nvm, flags),
             ..run
         },
         9 => {

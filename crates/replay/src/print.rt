@@ -1,6 +1,8 @@
 // Lines of output. A line is gathered in a buffer, which is written whenever it is full, and at the line's end.
 use libc::STDOUT_FILENO;
+use log::Timestamp;
 use record::Record;
+use recovery::Recovered;
 use store::Answer;
 ghost use Prim.Native.Nat.{_≤_};
 ghost use lib.ListN.{length};
@@ -112,6 +114,42 @@ pub(crate) fn answer_line(code: u64, answer: Answer) {
     let mut line = io::buffer();
     let used = put_name(&mut line, code);
     let end = put_answer(&mut line, used, answer);
+    end_line(&mut line, end);
+}
+
+fn put_boundary(line: &mut [u8; 4096], used: usize, boundary: Timestamp) -> usize
+    requires { ⌜ used ≤ 4096 ⌝ }
+    ensures { λ r. ⌜ r ≤ 4096 ⌝ }
+{
+    match boundary {
+        Timestamp::None => put(line, used, b" none"),
+        Timestamp::At(stamp) => put_number(line, used, stamp),
+    }
+}
+
+fn put_recovered(line: &mut [u8; 4096], used: usize, answer: Recovered) -> usize
+    requires { ⌜ used ≤ 4096 ⌝ }
+    ensures { λ r. ⌜ r ≤ 4096 ⌝ }
+{
+    match answer {
+        Recovered::Refused(number) => {
+            let end = put(line, used, b" refused");
+            put_number(line, end, number)
+        }
+        Recovered::Cut => put(line, used, b" cut"),
+        Recovered::Finished(finished) => {
+            let boundary = finished.boundary;
+            let end = put_boundary(line, used, boundary);
+            put_number(line, end, finished.undone as u64)
+        }
+    }
+}
+
+// The line of a recovery.
+pub(crate) fn recovery_line(answer: Recovered) {
+    let mut line = io::buffer();
+    let used = put(&mut line, 0, b"recover");
+    let end = put_recovered(&mut line, used, answer);
     end_line(&mut line, end);
 }
 

@@ -1,0 +1,9 @@
+-- Stores up to a limit: as many of a list as the limit lets through, where other stores came before. Assumes nothing.
+use Prim.Native.Nat.{ℕ, _-_}
+use mathlib.Core.List.{List}
+use lib.ListN.{take}
+use Rattle.image.specs.Stores.{Store, stored}
+
+-- the image after those stores of a list that the limit lets through, where `due` stores were due before them
+unfoldable pub limited : (limit due : ℕ) → List Store → List ℕ → List ℕ
+limited limit due xs image = stored (take (limit - due) xs) image

@@ -1,0 +1,35 @@
+// Stores to non-volatile memory up to a limit. Every store that is due counts, made or not: recovery has finished if at most as many were due as the limit lets through.
+ghost use mathlib.Core.Path.{_≡_};
+ghost use mathlib.Core.Bool.{true};
+ghost use mathlib.Core.List.{[], _∷_};
+ghost use Prim.Native.Nat.{_+_, _*_, _<_, _^_};
+ghost use lib.ListN.{length};
+ghost use Rattle.image.specs.Image.{sizesOk, imageLength};
+ghost use Rattle.recovery.specs.Recovery.{zeros};
+ghost use Rattle.recovery.specs.Limit.{limited};
+use image::Sizes;
+
+// One store, made unless `due` stores before it used the limit up. How many are due with it.
+pub fn put(nvm: &mut [u64], at: usize, value: u64, limit: usize, due: usize) -> usize
+    requires { ⌜ (at < length (now nvm)) × (due + 1 < 2 ^ 64) ⌝ }
+    ensures counted { λ r. ⌜ r ≡ due + 1 ⌝ }
+    ensures written { λ r. ⌜ now (nvm .exit) ≡ limited limit due (record { at = at; value = value } ∷ []) (now (nvm .entry)) ⌝ }
+{
+    if due < limit {
+        nvm[at] = value;
+    }
+    due + 1
+}
+
+// The log words become 0, in rising order.
+pub fn clear_logs(sizes: Sizes, nvm: &mut [u64], limit: usize, due: usize) -> usize
+    requires { ⌜ (sizesOk sizes ≡ true) × (length (now nvm) ≡ imageLength sizes) × (due < 65536) ⌝ }
+    ensures counted { λ r. ⌜ r ≡ due + 2 * sizes .lanes * sizes .slots ⌝ }
+    ensures written { λ r. ⌜ now (nvm .exit) ≡ limited limit due (zeros (1 + sizes .words) (2 * sizes .lanes * sizes .slots)) (now (nvm .entry)) ⌝ }
+{
+    let mut total = due;
+    for i in 0..2 * sizes.lanes * sizes.slots {
+        total = put(nvm, 1 + sizes.words + i, 0, limit, total);
+    }
+    total
+}
