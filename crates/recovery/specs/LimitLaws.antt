@@ -5,7 +5,7 @@ use Prim.Native.Nat.{ℕ, zero, suc, _+_, _-_, _≤_, _<_}
 use native.Mathlib.Omega.{arith}
 use lib.ListN.{length, set, take, length-append}
 use lib.Seq.{take-nil}
-use Rattle.laws.specs.Lists.{All, none, more, All-append, All-take}
+use Rattle.laws.specs.Lists.{All, none, more, All-take}
 use Rattle.image.specs.Image.{logOf}
 use Rattle.image.specs.ImageLaws.{logOf-set-data}
 use Rattle.image.specs.Stores.{Store, stored}
@@ -13,6 +13,7 @@ use Rattle.image.specs.StoresLaws.{length-stored, stored-append}
 use Rattle.image.specs.declared.Sizes.{Sizes}
 use Rattle.log.specs.Log.{Old}
 use Rattle.recovery.specs.Recovery.{undoEntries, zeros}
+use Rattle.recovery.specs.UndoStoreLaws.{OnData}
 use Rattle.recovery.specs.Limit.{limited}
 
 -- ---- a list of stores
@@ -73,15 +74,7 @@ unfolding undoEntries
 length-undo [] = refl
 length-undo (e ∷ es) = length-append (undoEntries es) _ ∙ rw (length-undo es) (omega arith)
 
--- it stores to data words, so the logs stay
-abbrev pub OnData : ℕ → Store → Type 0
-OnData W s = (1 ≤ s .at) × (s .at ≤ W)
-
-pub undo-data : (W : ℕ) {es : List Old} → All (λ (e : Old). e .word < W) es → All (OnData W) (undoEntries es)
-unfolding undoEntries
-undo-data W none = none
-undo-data W (more h hs) = All-append (undo-data W hs) (more (omega arith, omega arith) none)
-
+-- stores to data words leave the logs as they are
 stored-logs : (z : Sizes) (L : ℕ) {xs : List Store} (image : List ℕ) → All (OnData (z .words)) xs → logOf z L (stored xs image) ≡ logOf z L image
 unfolding stored
 stored-logs z L image none = refl

@@ -17,7 +17,7 @@ use Rattle.recovery.specs.SequenceLaws.{Low, sound}
 abbrev pub OnData : ℕ → Store → Type 0
 OnData W s = (1 ≤ s .at) × (s .at ≤ W)
 
-data-entries : (W : ℕ) {es : List Old} → All (Low W) es → All (OnData W) (undoEntries es)
+pub data-entries : (W : ℕ) {es : List Old} → All (Low W) es → All (OnData W) (undoEntries es)
 unfolding undoEntries
 data-entries W nil = nil
 data-entries W (more h hs) = All-append (data-entries W hs) (more (omega arith, omega arith) nil)
