@@ -1,0 +1,106 @@
+// The report of program `recover`, from bytes to bytes: W, T, N and an image are read, recovery runs on the image, and the boundary and the data words are printed.
+// Reading is in reading.rt, printing in printing.rt.
+ghost use mathlib.Core.Path.{_≡_};
+ghost use mathlib.Core.Bool.{true};
+ghost use Prim.Native.Nat.{_≤_};
+ghost use lib.ListN.{length, take, drop};
+ghost use Rattle.io.specs.Counts.{Counts};
+ghost use Rattle.image.specs.Image.{sizesOk, imageLength};
+ghost use Rattle.report.specs.Report.{sizesIn, wellFormed, blank, finishedText, answerText, reportOf, room, printedOf, Put};
+use image::Sizes;
+use log::Timestamp;
+use recovery::Recovered;
+
+mod printing;
+mod reading;
+
+// No report is longer: 30 bytes for the boundary, 42 for each of 1,024 words.
+const ROOM: usize = 43038;
+
+// More stores than recovery can make.
+const NO_LIMIT: usize = 18446744073709551615;
+
+// Prints what a finished recovery answered, with the data words that it left.
+fn put_finished(output: &mut [u8], sizes: Sizes, nvm: &[u64], boundary: Timestamp) -> usize
+    requires { ⌜ (sizesOk sizes ≡ true) × (length (now nvm) ≡ imageLength sizes) × (room ≤ length (now output)) ⌝ }
+    ensures { λ r. ⌜ Put 0 (finishedText sizes (now (nvm .entry)) boundary) (now (output .entry)) r (now (output .exit)) ⌝ }
+{
+    let at = printing::put_boundary(output, boundary);
+    let end = 1 + sizes.words;
+    printing::put_words(output, at, &nvm[1..end])
+}
+
+// Prints what recovery answered. It was not cut: there is no limit.
+fn put_answer(output: &mut [u8], sizes: Sizes, nvm: &[u64], answer: Recovered) -> usize
+    requires { ⌜ (sizesOk sizes ≡ true) × (length (now nvm) ≡ imageLength sizes) × (room ≤ length (now output)) ⌝ }
+    ensures { λ r. ⌜ Put 0 (answerText sizes (now (nvm .entry)) answer) (now (output .entry)) r (now (output .exit)) ⌝ }
+{
+    match answer {
+        Recovered::Refused(number) => printing::put_refused(output, number),
+        Recovered::Cut => 0,
+        Recovered::Finished(finished) => {
+            let boundary = finished.boundary;
+            put_finished(output, sizes, nvm, boundary)
+        }
+    }
+}
+
+// Recovers the image of a well formed input in these buffers, and prints what came of it.
+fn recover_in(
+    input: &[u8],
+    sizes: Sizes,
+    cache: &mut [u64],
+    nvm: &mut [u64],
+    flags: &mut [u8],
+    output: &mut [u8],
+) -> usize
+    requires { ⌜ (wellFormed (now input) ≡ true) × (sizes ≡ sizesIn (now input)) × (room ≤ length (now output)) ⌝ }
+    requires { ⌜ (now cache ≡ blank (imageLength sizes)) × (length (now nvm) ≡ imageLength sizes) × (now flags ≡ blank (imageLength sizes)) ⌝ }
+    ensures { λ r. ⌜ Put 0 (reportOf (now (input .entry))) (now (output .entry)) r (now (output .exit)) ⌝ }
+{
+    reading::decode(input, nvm);
+    let restart = recovery::recover(sizes, cache, nvm, flags, NO_LIMIT);
+    let answer = restart.answer;
+    put_answer(output, sizes, nvm, answer)
+}
+
+// Zeros for the longest image.
+fn blank_words() -> [u64; 5121]
+    ensures { λ r. ⌜ r ≡ blank 5121 ⌝ }
+{
+    [0; 5121]
+}
+
+fn blank_flags() -> [u8; 5121]
+    ensures { λ r. ⌜ r ≡ blank 5121 ⌝ }
+{
+    [0; 5121]
+}
+
+// Prints the report of an input at the start of `output`, and answers how many bytes it has. The bytes after it stay as they were.
+// Where `output` is shorter than any report might be, nothing is printed, and the answer is 0.
+pub fn report(input: &[u8], output: &mut [u8]) -> usize
+    ensures counts { λ r. ⌜ Counts r (now (output .exit)) ⌝ }
+    ensures printed { λ r. ⌜ take r (now (output .exit)) ≡ printedOf (length (now (output .entry))) (now (input .entry)) ⌝ }
+    ensures kept { λ r. ⌜ drop r (now (output .exit)) ≡ drop r (now (output .entry)) ⌝ }
+{
+    if output.len() < ROOM {
+        return 0;
+    }
+    if !reading::well_formed(input) {
+        return printing::put_refused(output, 1);
+    }
+    let sizes = reading::sizes_in(input);
+    let length = image::image_length(sizes);
+    let mut cache = blank_words();
+    let mut nvm = blank_words();
+    let mut flags = blank_flags();
+    recover_in(
+        input,
+        sizes,
+        &mut cache[..length],
+        &mut nvm[..length],
+        &mut flags[..length],
+        output,
+    )
+}
