@@ -6,13 +6,12 @@ use mathlib.Core.List.{List, [], _∷_, _++_}
 use Rattle.image.specs.Image.{dataOf}
 use Rattle.image.specs.declared.Sizes.{Sizes}
 use Rattle.log.specs.declared.Timestamp.the-variants.{None, At}
-use Rattle.store.specs.Machine.{Machine}
 use Rattle.store.specs.Calls.{started, startImage}
 use Rattle.record.specs.Record.{noLane, laneAt}
 use Rattle.record.specs.declared.Lane.{Lane}
 use Rattle.store.specs.declared.Answer.the-variants.{Refused, Logged, Committed, Stale, Changed, Marked}
 use Rattle.recovery.specs.declared.Recovered.the-variants.{Cut, Finished}
-use Rattle.crash.specs.Events.{Call, log, redo, validate, mark, drain, Junk, Event, writeBack, call, recover, fails, failsInDrain, System, live, down, Reply, answered, recovered, failed, Happened, happens}
+use Rattle.crash.specs.Events.{log, redo, validate, mark, drain, Junk, Event, writeBack, call, recover, fails, failsInDrain, System, live, down, Reply, answered, recovered, failed, happens}
 use Rattle.crash.proofs.Everything.{everything}
 
 -- ---- running a list of events

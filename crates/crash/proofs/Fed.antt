@@ -16,7 +16,7 @@ use Rattle.store.specs.Calls.{badBuffers, badRecord, badLane, drained, writesOn
 use Rattle.store.specs.Calls as calls
 use Rattle.store.specs.declared.Answer.{Answer}
 use Rattle.store.specs.declared.Answer.the-variants.{Refused, Done}
-use Rattle.crash.specs.Events.{Call, redo, drain, laneOf, callStep, isTaken}
+use Rattle.crash.specs.Events.{Call, drain, laneOf, callStep, isTaken}
 use Rattle.crash.specs.History.{History, pageAt, settled, stamped, released, heldBy, isNone, taken, afterCall}
 use Rattle.crash.proofs.Moves.{Known, Room, Ready, Drains, quiet, late, plain, Move, refusing, draining, logging, redoing, validating, giving-up, marking, call-moves}
 

@@ -17,7 +17,6 @@ use Rattle.store.specs.Machine.{Machine, Step, firstCause, unless, numberIn}
 use Rattle.store.specs.Calls.{badBuffers, started, startImage, drained, formatRefusal, formatStep, writeBackRefusal, writeBackStep}
 use Rattle.store.specs.declared.Answer.the-variants as answer
 use Rattle.recovery.specs.Recovery.{boundary, newBase, recoveredNvm, Restarted}
-use Rattle.recovery.specs.declared.Recovered.the-variants.{Refused}
 use Rattle.crash.specs.Events.{Call, drain, Junk, Event, format, writeBack, call, recover, fails, failsInDrain, failsAfterDrain, failsInRecovery, System, live, down, happens, laneOf, callStep, isTaken, fit, partlyDrained, bare, foundOr, afterStep, afterFormat, recoveredSystem, afterRecovery, afterFailure, notOffered}
 use Rattle.crash.specs.History.{History, opened, wordsBelow, settled, restarted, taken, afterCall, afterRecovered, fedAnswer, fedFailure, fed, leastFloorOf}
 use Rattle.crash.specs.Theorem.{Live, InStep, Answers, formatAnswer, writeBackAnswer, NotBelow, RecoveryReply, Replied, Holds, CrashTheorem}

@@ -1,7 +1,7 @@
 -- What ties a running store's logs, data words and history together: the part of the invariant that neither the logs nor the book keep alone. Assumes nothing.
 use mathlib.Core.Path.{_≡_}
 use mathlib.Core.Logic.{_≢_, _⊎_}
-use mathlib.Core.Bool.{Bool, true}
+use mathlib.Core.Bool.{true}
 use mathlib.Core.List.{List, [], _∷_}
 use Prim.Native.Nat.{ℕ, _+_, _≤_, _<_}
 use lib.ListN.{length, getD}
@@ -9,7 +9,6 @@ use Rattle.laws.specs.Lists.{All}
 use Rattle.image.specs.Image.{baseOf}
 use Rattle.image.specs.Flush.{flushed}
 use Rattle.image.specs.declared.Sizes.{Sizes}
-use Rattle.log.specs.Log.{Old}
 use Rattle.log.specs.declared.Timestamp.the-variants.{At}
 use Rattle.record.specs.Record.{laneAt}
 use Rattle.record.specs.declared.Logged.{Logged}

@@ -1,7 +1,6 @@
 -- What the invariant says of the cells when power fails: recovery will find the words below the boundary, which is not below the least floor. Assumes nothing.
 use mathlib.Core.Path.{_≡_, refl, ap, _∙_, sym, subst}
-use mathlib.Core.Logic.{_≢_, _⊎_, inl, inr}
-use mathlib.Core.Bool.{true}
+use mathlib.Core.Logic.{_⊎_, inl, inr}
 use mathlib.Core.List.{List, [], _∷_}
 use Prim.Native.Nat.{ℕ, _+_, _%_, _≤_, _<_}
 use native.Mathlib.Omega.{arith}
@@ -11,7 +10,7 @@ use lib.Seq.{ext-getD}
 use borrow.Author.Tests.{lt-ltb, le-ltb}
 use Rattle.laws.specs.Lists.{All, All-map}
 use Rattle.txn.specs.Txn.{after}
-use Rattle.image.specs.Image.{imageLength, baseOf, dataOf}
+use Rattle.image.specs.Image.{imageLength, dataOf}
 use Rattle.image.specs.ImageLaws.{getD-data, length-data}
 use Rattle.image.specs.declared.Sizes.{Sizes}
 use Rattle.log.specs.Log.{Complete}
@@ -23,7 +22,7 @@ use Rattle.crash.specs.History.{Commit, History, replay, isBelow, wordsB
 use Rattle.crash.specs.Theorem.{NotBelow, noBoundary, atLeast}
 use Rattle.laws.specs.Members.{In, here, there, In-All}
 use Rattle.recovery.specs.UndoneLaws.{writes}
-use Rattle.crash.proofs.Data.{Rising, last, then, replay-none, txnWrites}
+use Rattle.crash.proofs.Data.{Rising, last, then, replay-none}
 use Rattle.crash.proofs.Recovered.{Says, Shows, plain, cut, Backing, Backed, finish, back, Word, same, named, cut-at}
 use Rattle.crash.proofs.Lanes.{bound-agrees}
 use Rattle.crash.proofs.Agree.{Book}
@@ -31,8 +30,8 @@ use Rattle.crash.proofs.Books.{start-long}
 use Rattle.crash.proofs.FromLogs.{AtCut}
 use Rattle.crash.proofs.Seqs.{Seq}
 use Rattle.crash.proofs.Shown.{Listed}
-use Rattle.crash.proofs.RunningCut.{Seen, cut-floors, cut-none, cut-known, cut-seen, cut-seen-newest}
-use Rattle.crash.proofs.Ties.{TrueOf, Names, Flushes, BackedBy, Ties}
+use Rattle.crash.proofs.RunningCut.{cut-floors, cut-none, cut-known, cut-seen, cut-seen-newest}
+use Rattle.crash.proofs.Ties.{TrueOf, Flushes, Ties}
 
 -- ---- commits that are backed one by one are backed in order
 module _ (W b : ℕ) (qs : List Complete) where

@@ -1,6 +1,6 @@
 -- What can happen to a store: calls, write-backs, recoveries, and power failing at every place; and the store after it. 01, "The cut claim". Assumes nothing.
 use Prim.Native.Nat.{ℕ}
-use mathlib.Core.Bool.{Bool, true, false, cond}
+use mathlib.Core.Bool.{Bool, false, cond}
 use mathlib.Core.List.{List, [], _∷_, _++_}
 use mathlib.Core.Option.{Option, none, some}
 use lib.Dec.{eqb}

@@ -7,7 +7,6 @@ use lib.Dec.{leb, ltb, eqb}
 use lib.ListN.{length, getD, set, replicate}
 use Rattle.txn.specs.Txn.{run, after, txnOk}
 use Rattle.txn.specs.declared.Write.{Write}
-use Rattle.image.specs.Image.{imageLength}
 use Rattle.image.specs.declared.Sizes.{Sizes}
 use Rattle.log.specs.declared.Timestamp.{Timestamp}
 use Rattle.log.specs.declared.Timestamp.the-variants.{None, At}

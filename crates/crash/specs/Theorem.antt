@@ -1,6 +1,6 @@
 -- The crash theorem: what holds after every event of every list of events from a Format on. The order's demands 2 and 3, and 01, "The cut claim". Assumes nothing.
 use Prim.Native.Nat.{ℕ, _≤_, _<_}
-use mathlib.Core.Bool.{Bool, true, false, cond}
+use mathlib.Core.Bool.{true, cond}
 use mathlib.Core.List.{List, [], _∷_}
 use mathlib.Core.Path.{_≡_}
 use lib.Dec.{leb, eqb}
@@ -17,7 +17,7 @@ use Rattle.store.specs.declared.Answer.the-variants as answer
 use Rattle.recovery.specs.Recovery.{boundary, undone}
 use Rattle.recovery.specs.declared.Recovered.{Recovered}
 use Rattle.recovery.specs.declared.Recovered.the-variants.{Refused, Cut, Finished}
-use Rattle.crash.specs.Events.{Call, Event, format, writeBack, call, recover, fails, failsInDrain, failsAfterDrain, failsInRecovery, System, live, down, Reply, answered, recovered, failed, ignored, Happened, happens, laneOf}
+use Rattle.crash.specs.Events.{Call, Event, format, writeBack, call, recover, fails, failsInDrain, failsAfterDrain, failsInRecovery, System, live, down, Reply, answered, recovered, failed, ignored, happens, laneOf}
 use Rattle.crash.specs.History.{History, opened, fed, pageAt, present, wordsBelow, leastFloorOf, settled, isSome, answerBy, refusalBy, appends}
 
 -- ---- a running store

@@ -1,19 +1,18 @@
 -- Recovery: the boundary, what is undone and in which order, the list of stores, and as many of them as a limit lets through. 01, "Recovery". Assumes nothing.
 use Prim.Native.Nat.{ℕ, zero, suc, _+_, _*_, _%_, max}
-use mathlib.Core.Bool.{Bool, true, false, cond, not, _&&_, _||_}
+use mathlib.Core.Bool.{Bool, cond, _&&_, _||_}
 use mathlib.Core.List.{List, [], _∷_, _++_}
 use lib.Dec.{leb, ltb, eqb}
-use lib.ListN.{length, take, replicate}
+use lib.ListN.{length, take}
 use Rattle.slot.specs.declared.Content.{Content}
 use Rattle.slot.specs.declared.Content.the-variants.{Empty, Torn, Entry, Stamp}
-use Rattle.image.specs.Image.{buffersOk, imageLength, baseOf, logOf}
+use Rattle.image.specs.Image.{baseOf, logOf}
 use Rattle.image.specs.Stores.{Store, stored}
 use Rattle.image.specs.declared.Sizes.{Sizes}
 use Rattle.log.specs.Log.{Old, Complete, slotAt, completeIn, latestIn, contribution}
 use Rattle.log.specs.declared.Timestamp.{Timestamp}
 use Rattle.log.specs.declared.Timestamp.the-variants.{None, At}
-use Rattle.record.specs.Record.{lesser, startRecord}
-use Rattle.record.specs.declared.Record.{Record}
+use Rattle.record.specs.Record.{lesser}
 use Rattle.store.specs.Machine.{Machine, Cause, firstCause}
 use Rattle.store.specs.Calls.{badBuffers, started}
 use Rattle.recovery.specs.declared.Recovered.{Recovered}

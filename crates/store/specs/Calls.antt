@@ -1,5 +1,5 @@
 -- The calls as total functions: what each answers and leaves. 01, "Steps" and "Refused calls". Assumes nothing.
-use Prim.Native.Nat.{ℕ, zero, suc, _+_, _*_}
+use Prim.Native.Nat.{ℕ, _+_, _*_}
 use mathlib.Core.Bool.{Bool, true, false, cond, not, _&&_}
 use mathlib.Core.List.{List, [], _∷_, _++_}
 use lib.Dec.{leb, ltb, eqb}
@@ -14,14 +14,12 @@ use Rattle.image.specs.Stores.{Store, stored, places}
 use Rattle.image.specs.declared.Sizes.{Sizes}
 use Rattle.log.specs.Log.{slotAt, completeIn, latestIn, hits}
 use Rattle.log.specs.Append.{advance, appendStores, circular, restampStore}
-use Rattle.log.specs.declared.Timestamp.{Timestamp}
 use Rattle.record.specs.Record.{startRecord, laneAt, cursorOf, isLogged, loggedIn, recordOk, spent, boundOf, withLane, withClock, withLast, drainedLane, appendedLane, idleLane, pairsOf}
 use Rattle.record.specs.declared.Pair.{Pair}
-use Rattle.record.specs.declared.Logged as held
 use Rattle.record.specs.declared.Phase.{Phase}
 use Rattle.record.specs.declared.Phase.the-variants.{Idle, Holds}
 use Rattle.record.specs.declared.Record.{Record}
-use Rattle.store.specs.declared.Answer.the-variants.{Refused, Done, NoWrites, Logged, Committed, Stale, Changed, Marked}
+use Rattle.store.specs.declared.Answer.the-variants.{Done, NoWrites, Logged, Committed, Stale, Changed, Marked}
 use Rattle.store.specs.Machine.{Machine, Step, Cause, firstCause, unless}
 
 -- ---- causes that calls share

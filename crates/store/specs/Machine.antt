@@ -1,6 +1,6 @@
 -- The machine that a call works on: the record and the three buffers; a step of it; refusals. 01, "Refused calls". Assumes nothing.
 use Prim.Native.Nat.{ℕ}
-use mathlib.Core.Bool.{Bool, true, false, cond}
+use mathlib.Core.Bool.{Bool, false, cond}
 use mathlib.Core.List.{List, [], _∷_}
 use lib.Dec.{eqb}
 use Rattle.record.specs.declared.Record.{Record}
