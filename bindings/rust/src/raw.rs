@@ -1,0 +1,352 @@
+//! The library's calls on words: one function a call, on slices that cannot be null and, by Rust's rules, do not overlap where one is written.
+//! Each returns 0 or the number of the refusal, as in `include/vandzulge.h`; nothing is checked here, the library checks it.
+
+mod ffi {
+    extern "C" {
+        pub fn vandzulge_format(
+            words: usize,
+            lanes: usize,
+            slots: usize,
+            start: *const u64,
+            start_len: usize,
+            cache: *mut u64,
+            cache_len: usize,
+            nvm: *mut u64,
+            nvm_len: usize,
+            flags: *mut u8,
+            flags_len: usize,
+            record: *mut u64,
+            record_len: usize,
+        ) -> u64;
+        pub fn vandzulge_write_back(
+            words: usize,
+            lanes: usize,
+            slots: usize,
+            cache: *const u64,
+            cache_len: usize,
+            nvm: *mut u64,
+            nvm_len: usize,
+            flags: *const u8,
+            flags_len: usize,
+            word: usize,
+        ) -> u64;
+        pub fn vandzulge_drain(
+            words: usize,
+            lanes: usize,
+            slots: usize,
+            cache: *const u64,
+            cache_len: usize,
+            nvm: *mut u64,
+            nvm_len: usize,
+            flags: *mut u8,
+            flags_len: usize,
+            record: *mut u64,
+            record_len: usize,
+            lane: usize,
+        ) -> u64;
+        pub fn vandzulge_log(
+            words: usize,
+            lanes: usize,
+            slots: usize,
+            cache: *mut u64,
+            cache_len: usize,
+            nvm: *mut u64,
+            nvm_len: usize,
+            flags: *mut u8,
+            flags_len: usize,
+            record: *mut u64,
+            record_len: usize,
+            answer: *mut u64,
+            answer_len: usize,
+            lane: usize,
+            txn: *const u64,
+            txn_len: usize,
+        ) -> u64;
+        pub fn vandzulge_redo(
+            words: usize,
+            lanes: usize,
+            slots: usize,
+            cache: *mut u64,
+            cache_len: usize,
+            nvm: *mut u64,
+            nvm_len: usize,
+            flags: *mut u8,
+            flags_len: usize,
+            record: *mut u64,
+            record_len: usize,
+            answer: *mut u64,
+            answer_len: usize,
+            lane: usize,
+        ) -> u64;
+        pub fn vandzulge_validate(
+            words: usize,
+            lanes: usize,
+            slots: usize,
+            cache: *mut u64,
+            cache_len: usize,
+            nvm: *mut u64,
+            nvm_len: usize,
+            flags: *mut u8,
+            flags_len: usize,
+            record: *mut u64,
+            record_len: usize,
+            answer: *mut u64,
+            answer_len: usize,
+            lane: usize,
+            txn: *const u64,
+            txn_len: usize,
+        ) -> u64;
+        pub fn vandzulge_mark(
+            words: usize,
+            lanes: usize,
+            slots: usize,
+            cache: *mut u64,
+            cache_len: usize,
+            nvm: *mut u64,
+            nvm_len: usize,
+            flags: *mut u8,
+            flags_len: usize,
+            record: *mut u64,
+            record_len: usize,
+            answer: *mut u64,
+            answer_len: usize,
+            lane: usize,
+        ) -> u64;
+        pub fn vandzulge_recover(
+            words: usize,
+            lanes: usize,
+            slots: usize,
+            cache: *mut u64,
+            cache_len: usize,
+            nvm: *mut u64,
+            nvm_len: usize,
+            flags: *mut u8,
+            flags_len: usize,
+            record: *mut u64,
+            record_len: usize,
+            answer: *mut u64,
+            answer_len: usize,
+            limit: usize,
+        ) -> u64;
+    }
+}
+
+/// Format: every word as in a new store with the given start words; `record` becomes its record.
+pub fn format(words: usize, lanes: usize, slots: usize, start: &[u64], cache: &mut [u64], nvm: &mut [u64], flags: &mut [u8], record: &mut [u64]) -> u64 {
+    // SAFETY: each pointer and length is that of a slice, and no slice that is written overlaps another.
+    unsafe {
+        ffi::vandzulge_format(
+            words,
+            lanes,
+            slots,
+            start.as_ptr(),
+            start.len(),
+            cache.as_mut_ptr(),
+            cache.len(),
+            nvm.as_mut_ptr(),
+            nvm.len(),
+            flags.as_mut_ptr(),
+            flags.len(),
+            record.as_mut_ptr(),
+            record.len(),
+        )
+    }
+}
+
+/// Write-back of one word of the image.
+pub fn write_back(words: usize, lanes: usize, slots: usize, cache: &[u64], nvm: &mut [u64], flags: &[u8], word: usize) -> u64 {
+    // SAFETY: each pointer and length is that of a slice, and no slice that is written overlaps another.
+    unsafe { ffi::vandzulge_write_back(words, lanes, slots, cache.as_ptr(), cache.len(), nvm.as_mut_ptr(), nvm.len(), flags.as_ptr(), flags.len(), word) }
+}
+
+/// Drain of a lane.
+pub fn drain(words: usize, lanes: usize, slots: usize, cache: &[u64], nvm: &mut [u64], flags: &mut [u8], record: &mut [u64], lane: usize) -> u64 {
+    // SAFETY: each pointer and length is that of a slice, and no slice that is written overlaps another.
+    unsafe {
+        ffi::vandzulge_drain(
+            words,
+            lanes,
+            slots,
+            cache.as_ptr(),
+            cache.len(),
+            nvm.as_mut_ptr(),
+            nvm.len(),
+            flags.as_mut_ptr(),
+            flags.len(),
+            record.as_mut_ptr(),
+            record.len(),
+            lane,
+        )
+    }
+}
+
+/// Log of a transaction. Answer: count, timestamp, 0; all 0 where it writes nothing.
+pub fn log(
+    words: usize,
+    lanes: usize,
+    slots: usize,
+    cache: &mut [u64],
+    nvm: &mut [u64],
+    flags: &mut [u8],
+    record: &mut [u64],
+    answer: &mut [u64],
+    lane: usize,
+    txn: &[u64],
+) -> u64 {
+    // SAFETY: each pointer and length is that of a slice, and no slice that is written overlaps another.
+    unsafe {
+        ffi::vandzulge_log(
+            words,
+            lanes,
+            slots,
+            cache.as_mut_ptr(),
+            cache.len(),
+            nvm.as_mut_ptr(),
+            nvm.len(),
+            flags.as_mut_ptr(),
+            flags.len(),
+            record.as_mut_ptr(),
+            record.len(),
+            answer.as_mut_ptr(),
+            answer.len(),
+            lane,
+            txn.as_ptr(),
+            txn.len(),
+        )
+    }
+}
+
+/// Redo. Answer: 1, timestamp, 0; all 0 where it is stale.
+pub fn redo(
+    words: usize,
+    lanes: usize,
+    slots: usize,
+    cache: &mut [u64],
+    nvm: &mut [u64],
+    flags: &mut [u8],
+    record: &mut [u64],
+    answer: &mut [u64],
+    lane: usize,
+) -> u64 {
+    // SAFETY: each pointer and length is that of a slice, and no slice that is written overlaps another.
+    unsafe {
+        ffi::vandzulge_redo(
+            words,
+            lanes,
+            slots,
+            cache.as_mut_ptr(),
+            cache.len(),
+            nvm.as_mut_ptr(),
+            nvm.len(),
+            flags.as_mut_ptr(),
+            flags.len(),
+            record.as_mut_ptr(),
+            record.len(),
+            answer.as_mut_ptr(),
+            answer.len(),
+            lane,
+        )
+    }
+}
+
+/// Validate with a transaction. Answer: 1, timestamp, 0; all 0 where it changed.
+pub fn validate(
+    words: usize,
+    lanes: usize,
+    slots: usize,
+    cache: &mut [u64],
+    nvm: &mut [u64],
+    flags: &mut [u8],
+    record: &mut [u64],
+    answer: &mut [u64],
+    lane: usize,
+    txn: &[u64],
+) -> u64 {
+    // SAFETY: each pointer and length is that of a slice, and no slice that is written overlaps another.
+    unsafe {
+        ffi::vandzulge_validate(
+            words,
+            lanes,
+            slots,
+            cache.as_mut_ptr(),
+            cache.len(),
+            nvm.as_mut_ptr(),
+            nvm.len(),
+            flags.as_mut_ptr(),
+            flags.len(),
+            record.as_mut_ptr(),
+            record.len(),
+            answer.as_mut_ptr(),
+            answer.len(),
+            lane,
+            txn.as_ptr(),
+            txn.len(),
+        )
+    }
+}
+
+/// Mark. Answer: 1 where a logged transaction was dropped, else 0; timestamp; 0.
+pub fn mark(
+    words: usize,
+    lanes: usize,
+    slots: usize,
+    cache: &mut [u64],
+    nvm: &mut [u64],
+    flags: &mut [u8],
+    record: &mut [u64],
+    answer: &mut [u64],
+    lane: usize,
+) -> u64 {
+    // SAFETY: each pointer and length is that of a slice, and no slice that is written overlaps another.
+    unsafe {
+        ffi::vandzulge_mark(
+            words,
+            lanes,
+            slots,
+            cache.as_mut_ptr(),
+            cache.len(),
+            nvm.as_mut_ptr(),
+            nvm.len(),
+            flags.as_mut_ptr(),
+            flags.len(),
+            record.as_mut_ptr(),
+            record.len(),
+            answer.as_mut_ptr(),
+            answer.len(),
+            lane,
+        )
+    }
+}
+
+/// Recovery of at most `limit` stores. Answer: all 0 where it was cut; 1, 0, undone; 2, boundary, undone.
+pub fn recover(
+    words: usize,
+    lanes: usize,
+    slots: usize,
+    cache: &mut [u64],
+    nvm: &mut [u64],
+    flags: &mut [u8],
+    record: &mut [u64],
+    answer: &mut [u64],
+    limit: usize,
+) -> u64 {
+    // SAFETY: each pointer and length is that of a slice, and no slice that is written overlaps another.
+    unsafe {
+        ffi::vandzulge_recover(
+            words,
+            lanes,
+            slots,
+            cache.as_mut_ptr(),
+            cache.len(),
+            nvm.as_mut_ptr(),
+            nvm.len(),
+            flags.as_mut_ptr(),
+            flags.len(),
+            record.as_mut_ptr(),
+            record.len(),
+            answer.as_mut_ptr(),
+            answer.len(),
+            limit,
+        )
+    }
+}

@@ -1,0 +1,137 @@
+//! What the tests share: both implementations as tables of calls, a store's buffers, and a small generator of pseudo-random numbers.
+#![allow(dead_code)]
+
+use vandzulge::{plain, raw, ANSWER_WORDS, RECORD_WORDS};
+
+type Step = fn(usize, usize, usize, &mut [u64], &mut [u64], &mut [u8], &mut [u64], &mut [u64], usize) -> u64;
+type TxnStep = fn(usize, usize, usize, &mut [u64], &mut [u64], &mut [u8], &mut [u64], &mut [u64], usize, &[u64]) -> u64;
+
+/// One implementation of the eight calls.
+pub struct Calls {
+    pub name: &'static str,
+    pub format: fn(usize, usize, usize, &[u64], &mut [u64], &mut [u64], &mut [u8], &mut [u64]) -> u64,
+    pub write_back: fn(usize, usize, usize, &[u64], &mut [u64], &[u8], usize) -> u64,
+    pub drain: fn(usize, usize, usize, &[u64], &mut [u64], &mut [u8], &mut [u64], usize) -> u64,
+    pub log: TxnStep,
+    pub redo: Step,
+    pub validate: TxnStep,
+    pub mark: Step,
+    pub recover: Step,
+}
+
+pub const PLAIN: Calls = Calls {
+    name: "plain",
+    format: plain::format,
+    write_back: plain::write_back,
+    drain: plain::drain,
+    log: plain::log,
+    redo: plain::redo,
+    validate: plain::validate,
+    mark: plain::mark,
+    recover: plain::recover,
+};
+
+pub const LIBRARY: Calls = Calls {
+    name: "library",
+    format: raw::format,
+    write_back: raw::write_back,
+    drain: raw::drain,
+    log: raw::log,
+    redo: raw::redo,
+    validate: raw::validate,
+    mark: raw::mark,
+    recover: raw::recover,
+};
+
+/// One call with its own arguments.
+#[derive(Debug, Clone)]
+pub enum Call {
+    Format(Vec<u64>),
+    WriteBack(usize),
+    Drain(usize),
+    Log(usize, Vec<u64>),
+    Redo(usize),
+    Validate(usize, Vec<u64>),
+    Mark(usize),
+    Recover(usize),
+}
+
+/// What calls are lent. Lengths need not fit the sizes.
+#[derive(Debug, Clone, PartialEq, Eq)]
+pub struct World {
+    pub words: usize,
+    pub lanes: usize,
+    pub slots: usize,
+    pub cache: Vec<u64>,
+    pub nvm: Vec<u64>,
+    pub flags: Vec<u8>,
+    pub record: Vec<u64>,
+    pub answer: Vec<u64>,
+}
+
+impl World {
+    /// Buffers of the image's length, all 0.
+    pub fn new(words: usize, lanes: usize, slots: usize) -> World {
+        let length = 1 + words + 2 * lanes * slots;
+        World {
+            words,
+            lanes,
+            slots,
+            cache: vec![0; length],
+            nvm: vec![0; length],
+            flags: vec![0; length],
+            record: vec![0; RECORD_WORDS],
+            answer: vec![0; ANSWER_WORDS],
+        }
+    }
+
+    /// Makes the call and returns its number.
+    pub fn call(&mut self, calls: &Calls, call: &Call) -> u64 {
+        let World { words, lanes, slots, cache, nvm, flags, record, answer } = self;
+        let (w, t, n) = (*words, *lanes, *slots);
+        match call {
+            Call::Format(start) => (calls.format)(w, t, n, start, cache, nvm, flags, record),
+            Call::WriteBack(word) => (calls.write_back)(w, t, n, cache, nvm, flags, *word),
+            Call::Drain(lane) => (calls.drain)(w, t, n, cache, nvm, flags, record, *lane),
+            Call::Log(lane, txn) => (calls.log)(w, t, n, cache, nvm, flags, record, answer, *lane, txn),
+            Call::Redo(lane) => (calls.redo)(w, t, n, cache, nvm, flags, record, answer, *lane),
+            Call::Validate(lane, txn) => (calls.validate)(w, t, n, cache, nvm, flags, record, answer, *lane, txn),
+            Call::Mark(lane) => (calls.mark)(w, t, n, cache, nvm, flags, record, answer, *lane),
+            Call::Recover(limit) => (calls.recover)(w, t, n, cache, nvm, flags, record, answer, *limit),
+        }
+    }
+}
+
+/// Pseudo-random numbers (xorshift with a multiplication), the same in every run.
+pub struct Random(u64);
+
+impl Random {
+    pub fn new(seed: u64) -> Random {
+        Random(seed.wrapping_mul(0x9e37_79b9_7f4a_7c15) | 1)
+    }
+
+    pub fn word(&mut self) -> u64 {
+        self.0 ^= self.0 >> 12;
+        self.0 ^= self.0 << 25;
+        self.0 ^= self.0 >> 27;
+        self.0.wrapping_mul(0x2545_f491_4f6c_dd1d)
+    }
+
+    /// A number below the given one.
+    pub fn below(&mut self, limit: u64) -> u64 {
+        (self.word() >> 11) % limit
+    }
+
+    pub fn index(&mut self, limit: usize) -> usize {
+        self.below(limit as u64) as usize
+    }
+
+    /// True once in so many times.
+    pub fn one_in(&mut self, times: u64) -> bool {
+        self.below(times) == 0
+    }
+
+    pub fn pick<T: Copy>(&mut self, from: &[T]) -> T {
+        from[self.index(from.len())]
+    }
+}

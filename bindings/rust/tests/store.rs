@@ -1,0 +1,95 @@
+//! The safe wrappers: every call and every answer by way of `Store`, with the two-lane scenario of the specification.
+
+use vandzulge::{image_words, Log, Mark, Recovery, Redo, Refusal, Sizes, Store, Validate, RECORD_WORDS};
+
+/// Runs the test on a new store of the given sizes, not formatted.
+fn with_store(sizes: Sizes, test: impl FnOnce(&mut Store)) {
+    let length = image_words(sizes);
+    test(&mut Store { sizes, cache: &mut vec![0; length], nvm: &mut vec![0; length], flags: &mut vec![0; length], record: &mut [0; RECORD_WORDS] });
+}
+
+const SIZES: Sizes = Sizes { words: 2, lanes: 2, slots: 34 };
+const COPY_0_TO_1: [u64; 4] = [2, 1, 0, 0];
+const SET_0_TO_2: [u64; 4] = [1, 0, 0, 2];
+const PASS_OVER: [u64; 8] = [5, 0, 0, 1, 1, 0, 0, 9];
+
+#[test]
+fn two_lanes_and_a_power_cut() {
+    with_store(SIZES, |store| {
+        assert_eq!(store.format(&[0, 0]), Ok(()));
+        assert_eq!(store.log(1, &COPY_0_TO_1), Ok(Log::Logged { count: 1, stamp: 2 }));
+        assert_eq!(store.log(0, &SET_0_TO_2), Ok(Log::Logged { count: 1, stamp: 4 }));
+        assert_eq!(store.redo(0), Ok(Redo::Committed { stamp: 6 }));
+        assert_eq!(store.redo(1), Ok(Redo::Stale));
+        assert_eq!(store.validate(1, &COPY_0_TO_1), Ok(Validate::Committed { stamp: 8 }));
+        assert_eq!(store.log(1, &COPY_0_TO_1), Ok(Log::Logged { count: 1, stamp: 10 }));
+        for word in 0..image_words(SIZES) {
+            assert_eq!(store.write_back(word), Ok(()));
+        }
+        assert_eq!(store.nvm[1..3], [2, 2]);
+        // power is cut: cache, flags and record are lost
+        store.cache.fill(77);
+        store.flags.fill(0xff);
+        store.record.fill(99);
+        assert_eq!(store.recover(1), Ok(Recovery::Cut));
+        assert_eq!(store.recover(usize::MAX), Ok(Recovery::Finished { boundary: Some(6), undone: 3 }));
+        assert_eq!((store.cache[1..3].to_vec(), store.nvm[1..3].to_vec()), (vec![0, 0], vec![0, 0]));
+        assert_eq!((store.record[0], store.record[1]), (10, 10));
+        assert_eq!(store.recover(usize::MAX), Ok(Recovery::Finished { boundary: None, undone: 0 }));
+    });
+}
+
+#[test]
+fn marks_drains_and_changes() {
+    with_store(SIZES, |store| {
+        assert_eq!(store.format(&[0, 5]), Ok(()));
+        assert_eq!(store.log(0, &PASS_OVER), Ok(Log::NoWrites));
+        assert_eq!(store.mark(0), Ok(Mark { stamp: 2, dropped: false }));
+        assert_eq!(store.log(0, &SET_0_TO_2), Ok(Log::Logged { count: 1, stamp: 4 }));
+        assert_eq!(store.mark(0), Ok(Mark { stamp: 6, dropped: true }));
+        assert_eq!(store.log(0, &COPY_0_TO_1), Ok(Log::Logged { count: 1, stamp: 8 }));
+        assert_eq!(store.validate(0, &SET_0_TO_2), Ok(Validate::Changed));
+        assert_eq!(store.drain(0), Ok(()));
+        assert_eq!(store.flags.iter().copied().max(), Some(0));
+    });
+}
+
+#[test]
+fn refusals_have_their_numbers() {
+    with_store(Sizes { slots: 33, ..SIZES }, |store| assert_eq!(store.format(&[0, 0]), Err(Refusal::Size)));
+    with_store(SIZES, |store| {
+        assert_eq!(store.format(&[0]), Err(Refusal::Size));
+        assert_eq!(store.format(&[0, 0]), Ok(()));
+        assert_eq!(store.drain(2), Err(Refusal::Lane));
+        assert_eq!(store.write_back(image_words(SIZES)), Err(Refusal::Word));
+        assert_eq!(store.log(0, &[]), Err(Refusal::Txn));
+        assert_eq!(store.redo(0), Err(Refusal::Idle));
+        assert_eq!(store.log(0, &SET_0_TO_2), Ok(Log::Logged { count: 1, stamp: 2 }));
+        assert_eq!(store.log(0, &SET_0_TO_2), Err(Refusal::Logged));
+        // lane 0 keeps its floor: lane 1 can go once around its log, not further
+        for _ in 0..SIZES.slots {
+            assert!(store.mark(1).is_ok());
+        }
+        assert_eq!(store.mark(1), Err(Refusal::Overwrite));
+        store.record[0] = u64::MAX - 1;
+        assert_eq!(store.redo(0), Err(Refusal::Spent));
+        store.record[0] = 1;
+        assert_eq!(store.redo(0), Err(Refusal::Record));
+        store.nvm[0] = 3;
+        assert_eq!(store.recover(usize::MAX), Err(Refusal::OddBase));
+    });
+    let numbers = [
+        Refusal::Size,
+        Refusal::Record,
+        Refusal::Lane,
+        Refusal::Word,
+        Refusal::Txn,
+        Refusal::Logged,
+        Refusal::Idle,
+        Refusal::Spent,
+        Refusal::Overwrite,
+        Refusal::OddBase,
+    ]
+    .map(Refusal::number);
+    assert_eq!(numbers, [1, 2, 3, 4, 5, 6, 7, 8, 9, 10]);
+}

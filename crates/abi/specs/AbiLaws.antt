@@ -1,0 +1,140 @@
+-- What a call leaves: by a refused length, and by what the call's own contract says. Assumes nothing.
+use Prim.Native.Nat.{ℕ, _+_}
+use mathlib.Core.Path.{_≡_, refl, sym, _∙_, ap}
+use mathlib.Core.Bool.{Bool, true, false}
+use mathlib.Core.List.{List, [], _++_, append-nil}
+use native.Mathlib.Omega.{arith}
+use lib.ListN.{length, drop-of-length-le}
+use lib.Seq.{sets, sets-eq}
+use borrow.Author.Tests.{eq-eqb, ne-eqb}
+use Rattle.record.specs.declared.Record.{Record}
+use Rattle.store.specs.declared.Answer.{Answer}
+use Rattle.store.specs.declared.Outcome.{Outcome}
+use Rattle.store.specs.Machine.{Machine, Step, numberIn}
+use Rattle.store.specs.Interface.{machineOf, stepOf, blankStepOf}
+use Rattle.recovery.specs.declared.Restart.{Restart}
+use Rattle.recovery.specs.Recovery.{Restarted}
+use Rattle.recovery.specs.Interface.{restartedOf}
+use Rattle.abi.specs.Fields.{wordsOf}
+use Rattle.log.specs.declared.Timestamp.{Timestamp}
+use Rattle.log.specs.declared.Timestamp.the-variants.{None, At}
+use Rattle.store.specs.declared.Answer.the-variants as answers
+use Rattle.recovery.specs.declared.Recovered.{Recovered}
+use Rattle.recovery.specs.declared.Recovered.the-variants as recovereds
+use Rattle.abi.specs.Abi.{finishedWords, noWords, committedWords, recordFits, bothFit, answerWords, whereTaken, leftBy, leaves, replies, recoveredNumber, recoveredWords, recoveredState, restarts, restartReplies}
+
+-- ---- lengths
+pub fits-not : (state : List ℕ) → (length state ≡ 322 → ⊥) → recordFits state ≡ false
+unfolding recordFits
+fits-not state h = ne-eqb (length state) 322 h
+
+pub fits : (state : List ℕ) → length state ≡ 322 → recordFits state ≡ true
+unfolding recordFits
+fits state h = eq-eqb (length state) 322 h
+
+pub both-not-state : (state answer : List ℕ) → (length state ≡ 322 → ⊥) → bothFit state answer ≡ false
+unfolding bothFit
+both-not-state state answer h = rw (fits-not state h)
+
+pub both-not-answer : (state answer : List ℕ) → length state ≡ 322 → (length answer ≡ 3 → ⊥) → bothFit state answer ≡ false
+unfolding bothFit
+both-not-answer state answer e h = rw (fits state e, ne-eqb (length answer) 3 h)
+
+pub both : (state answer : List ℕ) → length state ≡ 322 → length answer ≡ 3 → bothFit state answer ≡ true
+unfolding bothFit
+both state answer e h = rw (fits state e, eq-eqb (length answer) 3 h)
+
+-- ---- words that are written where the call is taken
+pub taken : (k number : ℕ) (words new before : List ℕ) → k ≡ number → k ≡ 0 → words ≡ new → words ≡ whereTaken number new before
+unfolding whereTaken
+taken k number words new before e z w = rw (eq-eqb number 0 (sym e ∙ z), w)
+
+pub not-taken : (k number : ℕ) (new before : List ℕ) → k ≡ number → (k ≡ 0 → ⊥) → before ≡ whereTaken number new before
+unfolding whereTaken
+not-taken k number new before e h = rw (ne-eqb number 0 (λ z. h (e ∙ z)))
+
+-- words stored over as many
+pub over-all : (ws xs ys new : List ℕ) → ys ≡ sets ws 0 xs → xs ≡ new → length ws ≡ 3 → length new ≡ 3 → ys ≡ new
+over-all ws xs ys new e f h k =
+    let n : length xs ≡ length ws = ap length f ∙ k ∙ sym h in
+    e
+    ∙ sets-eq xs ws 0 (omega (arith, n))
+    ∙ ap (λ (l : List ℕ). xs ++ l) (drop-of-length-le ws {i = 0 + length xs} (omega (arith, n)))
+    ∙ append-nil xs
+    ∙ f
+
+pub answer-three : (a : Answer) → length (answerWords a) ≡ 3
+unfolding answerWords noWords committedWords
+answer-three (answers.Refused n) = refl
+answer-three answers.Done = refl
+answer-three answers.NoWrites = refl
+answer-three (answers.Logged a) = refl
+answer-three (answers.Committed s) = refl
+answer-three answers.Stale = refl
+answer-three answers.Changed = refl
+answer-three (answers.Marked a) = refl
+
+finished-three : (b : Timestamp) (undone : ℕ) → length (finishedWords b undone) ≡ 3
+unfolding finishedWords
+finished-three None undone = refl
+finished-three (At b) undone = refl
+
+pub recovered-three : (a : Recovered) → length (recoveredWords a) ≡ 3
+unfolding recoveredWords noWords
+recovered-three (recovereds.Refused n) = refl
+recovered-three recovereds.Cut = refl
+recovered-three (recovereds.Finished f) = finished-three (f .boundary) (f .undone)
+
+-- ---- a call
+module _ (state : List ℕ) (call : Machine → Step) (r : Record) (cache nvm flags : List ℕ) where
+  -- slices that do not fit
+  pub left-unfit : (fits : Bool) → fits ≡ false → leftBy 1 state cache nvm flags ≡ leaves fits state call (machineOf r cache nvm flags)
+  unfolding leaves
+  left-unfit fits e = rw e
+
+  pub left-by : (fits : Bool) (before : Record) (o : Outcome) (cache′ nvm′ flags′ : List ℕ) (number : ℕ) (words : List ℕ) → fits ≡ true → before ≡ r
+      → stepOf o cache′ nvm′ flags′ ≡ call (machineOf before cache nvm flags)
+      → number ≡ numberIn (o .answer) → words ≡ whereTaken (numberIn (o .answer)) (wordsOf (o .state)) state
+      → leftBy number words cache′ nvm′ flags′ ≡ leaves fits state call (machineOf r cache nvm flags)
+  unfolding leaves
+  left-by fits before o cache′ nvm′ flags′ number words e b s n w = rw (e, ← b, ← s, n, w)
+
+module _ (answer : List ℕ) (call : Machine → Step) (r : Record) (cache nvm flags : List ℕ) where
+  pub reply-unfit : (fits : Bool) → fits ≡ false → answer ≡ replies fits answer call (machineOf r cache nvm flags)
+  unfolding replies
+  reply-unfit fits e = rw e
+
+  pub reply-by : (fits : Bool) (before : Record) (o : Outcome) (cache′ nvm′ flags′ : List ℕ) (words : List ℕ) → fits ≡ true → before ≡ r
+      → stepOf o cache′ nvm′ flags′ ≡ call (machineOf before cache nvm flags)
+      → words ≡ whereTaken (numberIn (o .answer)) (answerWords (o .answer)) answer → words ≡ replies fits answer call (machineOf r cache nvm flags)
+  unfolding replies
+  reply-by fits before o cache′ nvm′ flags′ words e b s w = rw (e, ← b, ← s, w)
+
+-- ---- recovery
+module _ (state : List ℕ) (call : Machine → Restarted) (r : Record) (cache nvm flags : List ℕ) where
+  pub restart-unfit : (fits : Bool) → fits ≡ false → leftBy 1 state cache nvm flags ≡ restarts fits state call (machineOf r cache nvm flags)
+  unfolding restarts
+  restart-unfit fits e = rw e
+
+  pub restart-by : (fits : Bool) (o : Restart) (cache′ nvm′ flags′ : List ℕ) (number : ℕ) (words : List ℕ) → fits ≡ true
+      → restartedOf o cache′ nvm′ flags′ ≡ call (machineOf r cache nvm flags)
+      → number ≡ recoveredNumber (o .answer) → words ≡ recoveredState (o .answer) (wordsOf (o .state)) state
+      → leftBy number words cache′ nvm′ flags′ ≡ restarts fits state call (machineOf r cache nvm flags)
+  unfolding restarts
+  restart-by fits o cache′ nvm′ flags′ number words e s n w = rw (e, ← s, n, w)
+
+module _ (answer : List ℕ) (call : Machine → Restarted) (r : Record) (cache nvm flags : List ℕ) where
+  pub restart-reply-unfit : (fits : Bool) → fits ≡ false → answer ≡ restartReplies fits answer call (machineOf r cache nvm flags)
+  unfolding restartReplies
+  restart-reply-unfit fits e = rw e
+
+  pub restart-reply-by : (fits : Bool) (o : Restart) (cache′ nvm′ flags′ : List ℕ) (words : List ℕ) → fits ≡ true
+      → restartedOf o cache′ nvm′ flags′ ≡ call (machineOf r cache nvm flags)
+      → words ≡ whereTaken (recoveredNumber (o .answer)) (recoveredWords (o .answer)) answer → words ≡ restartReplies fits answer call (machineOf r cache nvm flags)
+  unfolding restartReplies
+  restart-reply-by fits o cache′ nvm′ flags′ words e s w = rw (e, ← s, w)
+
+-- ---- write-back, which lends no record
+pub blank-by : (call : Machine → Step) (m : Machine) (said : Answer) (cache′ nvm′ flags′ : List ℕ) (number : ℕ) → blankStepOf said cache′ nvm′ flags′ ≡ call m
+    → number ≡ numberIn said → (number ≡ numberIn (call m .answer)) × (nvm′ ≡ call m .machine .nvm)
+blank-by call m said cache′ nvm′ flags′ number s n = rw (← s) (n, refl)

@@ -1,0 +1,4 @@
+pub mod Fields
+pub mod FieldsLaws
+pub mod Abi
+pub mod AbiLaws

@@ -1,0 +1,98 @@
+/* Vandzulge: a transactional store for persistent memory. Link with libabi.a (x86-64; written by `rt staticlib abi`).
+ *
+ * Every function returns 0 where the call was taken, else the number of its refusal. After a refusal all is as it was, record and answer too.
+ * The library has no heap, no threads and no global state; it uses less than 32 KB of stack, and calls nothing but memcpy and memset.
+ *
+ * What each call is lent, with W = words (1 to 1,024), T = lanes (1 to 8), N = slots a lane (34 to 256):
+ *   cache, nvm   the cached image and the non-volatile memory, VANDZULGE_IMAGE_WORDS(W, T, N) words each: base word, data words, each lane's log
+ *   flags        one byte for each image word; bit L: lane L has flushed this word
+ *   record       VANDZULGE_RECORD_WORDS words that Format or a finished recovery makes and the calls keep: clock, last commit, then 40 words a lane:
+ *                phase (0 idle), first slot, count, timestamp, next slot, wrap bit, floor (0 none), floor's value, 16 pairs of word number and value
+ *   answer       VANDZULGE_ANSWER_WORDS words
+ *   txn          a transaction: 4 words an instruction (code, a, b, k), 1 to 16 instructions; unused fields are 0, a and b are data word numbers
+ *                1 SET a := k   2 COPY a := [b]   3 ADD a := [b] + k   4 POKE word [b] mod W := k   5 SKIP the next k (1 to 15) if [b] is 0
+ *
+ * What the caller owes: no null pointer, also where a length is 0; each pointer has its length in elements, aligned; a buffer that is written overlaps no
+ * other one; nobody else touches them during a call, nor writes them between calls. All else is checked: any words are taken as a record, transaction or image.
+ *
+ * Refusals, the lowest number wins:
+ *    1 a size out of range, or a slice of another length      6 Log on a lane that holds a transaction
+ *    2 a record field out of range                            7 Redo or Validate on an idle lane
+ *    3 lane not below T                                       8 the clock is spent
+ *    4 word not in the image                                  9 the append would overwrite a sequence that recovery may need
+ *    5 transaction not as above                              10 recovery finds an odd base word
+ *
+ * Costs are given in passes: over the flags or the image (1 + W + 2TN), over one lane's log (N slots). Calls with a record read and write it whole.
+ */
+#ifndef VANDZULGE_H
+#define VANDZULGE_H
+
+#include <stddef.h>
+#include <stdint.h>
+
+#define VANDZULGE_RECORD_WORDS 322
+#define VANDZULGE_ANSWER_WORDS 3
+#define VANDZULGE_TXN_WORDS_MAX 64
+#define VANDZULGE_WORDS_MAX 1024
+#define VANDZULGE_LANES_MAX 8
+#define VANDZULGE_SLOTS_MIN 34
+#define VANDZULGE_SLOTS_MAX 256
+#define VANDZULGE_IMAGE_WORDS(words, lanes, slots) (1 + (words) + 2 * (lanes) * (slots))
+#define VANDZULGE_IMAGE_WORDS_MAX 5121
+#define VANDZULGE_NO_LIMIT SIZE_MAX
+
+#ifdef __cplusplus
+extern "C" {
+#endif
+
+/* Format: a new store of W start words; the record's old words are not read. Refusal 1. One pass over the image. */
+uint64_t vandzulge_format(size_t words, size_t lanes, size_t slots, const uint64_t *start, size_t start_len,
+    uint64_t *cache, size_t cache_len, uint64_t *nvm, size_t nvm_len, uint8_t *flags, size_t flags_len, uint64_t *record, size_t record_len);
+
+/* Write-back: copies one image word from cache to nvm. Refusals 1, 4. One word. Not between a power cut and the end of recovery. */
+uint64_t vandzulge_write_back(size_t words, size_t lanes, size_t slots,
+    const uint64_t *cache, size_t cache_len, uint64_t *nvm, size_t nvm_len, const uint8_t *flags, size_t flags_len, size_t word);
+
+/* Drain: copies every word that the lane has flushed to nvm, and clears its bits. Refusals 1 to 3. One pass over the flags, one over the lane's log.
+ * Log, Redo, Validate and Mark begin with it. The pass over the log is repeated for each greatest timestamp in it that is not complete, which no run of calls leaves there. */
+uint64_t vandzulge_drain(size_t words, size_t lanes, size_t slots,
+    const uint64_t *cache, size_t cache_len, uint64_t *nvm, size_t nvm_len, uint8_t *flags, size_t flags_len,
+    uint64_t *record, size_t record_len, size_t lane);
+
+/* Log: runs the transaction, leaves no change, and appends an entry a write and a timestamp to the lane's log.
+ * Answer: count, timestamp, 0; or 0, 0, 0 where it writes nothing, and the lane stays idle. Refusals 1 to 3, 5, 6, 8, 9. A drain, and one more pass over the lane's log. */
+uint64_t vandzulge_log(size_t words, size_t lanes, size_t slots,
+    uint64_t *cache, size_t cache_len, uint64_t *nvm, size_t nvm_len, uint8_t *flags, size_t flags_len,
+    uint64_t *record, size_t record_len, uint64_t *answer, size_t answer_len, size_t lane, const uint64_t *txn, size_t txn_len);
+
+/* Redo: commits the logged transaction with the values that Log found.
+ * Answer: 1, timestamp, 0; or 0, 0, 0 where there is a commit since (stale), and the lane stays logged. Refusals 1 to 3, 7, 8. A drain. */
+uint64_t vandzulge_redo(size_t words, size_t lanes, size_t slots,
+    uint64_t *cache, size_t cache_len, uint64_t *nvm, size_t nvm_len, uint8_t *flags, size_t flags_len,
+    uint64_t *record, size_t record_len, uint64_t *answer, size_t answer_len, size_t lane);
+
+/* Validate: runs the transaction and commits it if it writes the words that were logged, over the values that were logged.
+ * Answer: 1, timestamp, 0; or 0, 0, 0 where it does not (changed), and the lane is idle. Refusals 1 to 3, 5, 7, 8. A drain. */
+uint64_t vandzulge_validate(size_t words, size_t lanes, size_t slots,
+    uint64_t *cache, size_t cache_len, uint64_t *nvm, size_t nvm_len, uint8_t *flags, size_t flags_len,
+    uint64_t *record, size_t record_len, uint64_t *answer, size_t answer_len, size_t lane, const uint64_t *txn, size_t txn_len);
+
+/* Mark: appends a timestamp over no entries; a logged transaction of the lane is dropped.
+ * Answer: 1 where one was dropped, else 0; timestamp; 0. Refusals 1 to 3, 8, 9. A drain, and one more pass over the lane's log. */
+uint64_t vandzulge_mark(size_t words, size_t lanes, size_t slots,
+    uint64_t *cache, size_t cache_len, uint64_t *nvm, size_t nvm_len, uint8_t *flags, size_t flags_len,
+    uint64_t *record, size_t record_len, uint64_t *answer, size_t answer_len, size_t lane);
+
+/* Recovery, after a power cut: from nvm alone, with at most `limit` stores to it, the words at one boundary; the record's old words are not read.
+ * Answer: 0, 0, 0 where stores remain (cut; the record is untouched and lost: recover again, or format); 1, 0, undone where there was no boundary;
+ * 2, boundary, undone. Refusals 1, 10. Some passes over the logs, one over the image, a store for each entry undone,
+ * and for each sequence undone a pass over a list of TN timestamps: docs/PERFORMANCE.md has the worst images. */
+uint64_t vandzulge_recover(size_t words, size_t lanes, size_t slots,
+    uint64_t *cache, size_t cache_len, uint64_t *nvm, size_t nvm_len, uint8_t *flags, size_t flags_len,
+    uint64_t *record, size_t record_len, uint64_t *answer, size_t answer_len, size_t limit);
+
+#ifdef __cplusplus
+}
+#endif
+
+#endif
