@@ -12,9 +12,10 @@ use image::Sizes;
 mod answers;
 mod fields;
 
-// How many words the record and an answer have.
+// How many words the record has: clock, last commit, 40 for each of 8 lanes.
 const RECORD_WORDS: usize = 322;
 
+// How many words an answer has.
 const ANSWER_WORDS: usize = 3;
 
 // Starts the store with these words. The record becomes the start record; its words are not read.
