@@ -1,0 +1,50 @@
+-- `any::fill_pairs` is safe and ends: the loop counts its turns. Assumes nothing.
+use borrow.Author.Needs.{needs}
+use Prim.Native.Nat.{_-_}
+use Rattle.benchsheet.proofs.any.fill_pairs.Statement.{statement}
+use Rattle.benchsheet.proofs.any.fill_pairs.Tie as tie
+
+abbrev Inv-loop : tie.InvT-loop
+Inv-loop seed₀ words record₀ lane i₀ seed «record» i = Unit
+
+abbrev μ-loop : tie.MeasureT-loop
+μ-loop seed₀ words record₀ lane i₀ seed «record» i = 16 - i
+
+loop-holds : tie.Need-loop-holds Inv-loop μ-loop
+loop-holds c = search needs
+
+about-requires : tie.Need-about-requires Inv-loop μ-loop
+about-requires c κs = search needs
+
+value-requires : tie.Need-value-requires Inv-loop μ-loop
+value-requires c κs = search needs
+
+set-pair-requires : tie.Need-set-pair-requires Inv-loop μ-loop
+set-pair-requires c κs = search needs
+
+add-i : tie.Need-add-i Inv-loop μ-loop
+add-i c = search needs
+
+loop-less : tie.Need-loop-less Inv-loop μ-loop
+loop-less c = search needs
+
+loop-again : tie.Need-loop-again Inv-loop μ-loop
+loop-again c = search needs
+
+returns : tie.Need-returns Inv-loop μ-loop
+returns c = search needs
+
+pub fill-pairs-spec : {M : Type 1} → statement M
+fill-pairs-spec =
+    tie.close
+    (tie.spec
+    Inv-loop
+    μ-loop
+    loop-holds
+    about-requires
+    value-requires
+    set-pair-requires
+    add-i
+    loop-less
+    loop-again
+    returns)

@@ -1,0 +1,46 @@
+-- `scenario::write_all_back` is safe and ends: the loop counts its turns. Assumes nothing.
+use borrow.Author.Needs.{needs}
+use Prim.Native.Nat.{_-_}
+use Rattle.benchsheet.proofs.scenario.write_all_back.Statement.{statement}
+use Rattle.benchsheet.proofs.scenario.write_all_back.Tie as tie
+
+abbrev Inv-loop : tie.InvT-loop
+Inv-loop cache₀ nvm₀ flags₀ tally₀ nothing session₀ i₀ i-end cache nvm flags tally session i = Unit
+
+abbrev μ-loop : tie.MeasureT-loop
+μ-loop cache₀ nvm₀ flags₀ tally₀ nothing session₀ i₀ i-end cache nvm flags tally session i = i-end - i
+
+length-requires : tie.Need-length-requires Inv-loop μ-loop
+length-requires c κs = search needs
+
+loop-holds : tie.Need-loop-holds Inv-loop μ-loop
+loop-holds c = search needs
+
+call-requires : tie.Need-call-requires Inv-loop μ-loop
+call-requires c κs = search needs
+
+add-i : tie.Need-add-i Inv-loop μ-loop
+add-i c = search needs
+
+loop-less : tie.Need-loop-less Inv-loop μ-loop
+loop-less c = search needs
+
+loop-again : tie.Need-loop-again Inv-loop μ-loop
+loop-again c = search needs
+
+returns : tie.Need-returns Inv-loop μ-loop
+returns c = search needs
+
+pub write-all-back-spec : {M : Type 1} → statement M
+write-all-back-spec =
+    tie.close
+    (tie.spec
+    Inv-loop
+    μ-loop
+    length-requires
+    loop-holds
+    call-requires
+    add-i
+    loop-less
+    loop-again
+    returns)

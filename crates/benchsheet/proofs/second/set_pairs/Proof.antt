@@ -1,0 +1,54 @@
+-- `second::set_pairs` is safe and ends: the loop counts its turns. Assumes nothing.
+use borrow.Author.Needs.{needs}
+use Prim.Native.Nat.{_-_}
+use Rattle.benchsheet.proofs.second.set_pairs.Statement.{statement}
+use Rattle.benchsheet.proofs.second.set_pairs.Tie as tie
+
+abbrev Inv-loop : tie.InvT-loop
+Inv-loop record₀ lane writes count i₀ «record» i = Unit
+
+abbrev μ-loop : tie.MeasureT-loop
+μ-loop record₀ lane writes count i₀ «record» i = 16 - i
+
+loop-holds : tie.Need-loop-holds Inv-loop μ-loop
+loop-holds c = search needs
+
+cell-requires : tie.Need-cell-requires Inv-loop μ-loop
+cell-requires c κs = search needs
+
+cell-requires-2 : tie.Need-cell-requires-2 Inv-loop μ-loop
+cell-requires-2 c κs = search needs
+
+set-pair-requires : tie.Need-set-pair-requires Inv-loop μ-loop
+set-pair-requires c κs = search needs
+
+set-pair-requires-2 : tie.Need-set-pair-requires-2 Inv-loop μ-loop
+set-pair-requires-2 c κs = search needs
+
+add-i : tie.Need-add-i Inv-loop μ-loop
+add-i c = search needs
+
+loop-less : tie.Need-loop-less Inv-loop μ-loop
+loop-less c = search needs
+
+loop-again : tie.Need-loop-again Inv-loop μ-loop
+loop-again c = search needs
+
+returns : tie.Need-returns Inv-loop μ-loop
+returns c = search needs
+
+pub set-pairs-spec : {M : Type 1} → statement M
+set-pairs-spec =
+    tie.close
+    (tie.spec
+    Inv-loop
+    μ-loop
+    loop-holds
+    cell-requires
+    cell-requires-2
+    set-pair-requires
+    set-pair-requires-2
+    add-i
+    loop-less
+    loop-again
+    returns)
