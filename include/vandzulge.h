@@ -45,7 +45,7 @@
 extern "C" {
 #endif
 
-/* Format: a new store of W start words; the record's old words are not read. Refusal 1. One pass over the image. */
+/* Format: a new store of W start words; the record's old words are not read. Refusal 1. Every word of cache, nvm and flags is written once. */
 uint64_t vandzulge_format(size_t words, size_t lanes, size_t slots, const uint64_t *start, size_t start_len,
     uint64_t *cache, size_t cache_len, uint64_t *nvm, size_t nvm_len, uint8_t *flags, size_t flags_len, uint64_t *record, size_t record_len);
 
@@ -60,7 +60,7 @@ uint64_t vandzulge_drain(size_t words, size_t lanes, size_t slots,
     uint64_t *record, size_t record_len, size_t lane);
 
 /* Log: runs the transaction, leaves no change, and appends an entry a write and a timestamp to the lane's log.
- * Answer: count, timestamp, 0; or 0, 0, 0 where it writes nothing, and the lane stays idle. Refusals 1 to 3, 5, 6, 8, 9. A drain, and one more pass over the lane's log. */
+ * Answer: count, timestamp, 0; or 0, 0, 0 where it writes nothing, and the lane stays idle. Refusals 1 to 3, 5, 6, 8, 9. A drain, and a look at up to 33 slots of the lane's log. */
 uint64_t vandzulge_log(size_t words, size_t lanes, size_t slots,
     uint64_t *cache, size_t cache_len, uint64_t *nvm, size_t nvm_len, uint8_t *flags, size_t flags_len,
     uint64_t *record, size_t record_len, uint64_t *answer, size_t answer_len, size_t lane, const uint64_t *txn, size_t txn_len);
@@ -78,15 +78,15 @@ uint64_t vandzulge_validate(size_t words, size_t lanes, size_t slots,
     uint64_t *record, size_t record_len, uint64_t *answer, size_t answer_len, size_t lane, const uint64_t *txn, size_t txn_len);
 
 /* Mark: appends a timestamp over no entries; a logged transaction of the lane is dropped.
- * Answer: 1 where one was dropped, else 0; timestamp; 0. Refusals 1 to 3, 8, 9. A drain, and one more pass over the lane's log. */
+ * Answer: 1 where one was dropped, else 0; timestamp; 0. Refusals 1 to 3, 8, 9. A drain, and a look at 17 slots of the lane's log. */
 uint64_t vandzulge_mark(size_t words, size_t lanes, size_t slots,
     uint64_t *cache, size_t cache_len, uint64_t *nvm, size_t nvm_len, uint8_t *flags, size_t flags_len,
     uint64_t *record, size_t record_len, uint64_t *answer, size_t answer_len, size_t lane);
 
 /* Recovery, after a power cut: from nvm alone, with at most `limit` stores to it, the words at one boundary; the record's old words are not read.
  * Answer: 0, 0, 0 where stores remain (cut; the record is untouched and lost: recover again, or format); 1, 0, undone where there was no boundary;
- * 2, boundary, undone. Refusals 1, 10. Some passes over the logs, one over the image, a store for each entry undone,
- * and for each sequence undone a pass over a list of TN timestamps: docs/PERFORMANCE.md has the worst images. */
+ * 2, boundary, undone. Refusals 1, 10. One pass over the logs, one over the image, a store for each entry undone,
+ * and for each sequence undone, or timestamp that is not complete, at most 8 steps in a tree and a look at each lane: docs/PERFORMANCE.md has the worst images. */
 uint64_t vandzulge_recover(size_t words, size_t lanes, size_t slots,
     uint64_t *cache, size_t cache_len, uint64_t *nvm, size_t nvm_len, uint8_t *flags, size_t flags_len,
     uint64_t *record, size_t record_len, uint64_t *answer, size_t answer_len, size_t limit);

@@ -29,18 +29,11 @@ pairs-snoc (suc n) ws = ap (λ (l : List Pair). pairOf ws ∷ l)
     (pairs-snoc n (drop 2 ws) ∙ ap (λ (l : List ℕ). pairsFrom n (drop 2 ws) ++ (pairOf l ∷ []))
     (drop-drop (n * 2) 2 ws ∙ ap (λ k. drop k ws) (let e : 2 + n * 2 ≡ suc n * 2 = omega arith in e)))
 
-lanes-snoc : (n : ℕ) (ws : List ℕ) → lanesFrom (suc n) ws ≡ lanesFrom n ws ++ (laneOf (drop (n * 40) ws) ∷ [])
-unfolding lanesFrom
-lanes-snoc zero ws = refl
-lanes-snoc (suc n) ws = ap (λ (l : List Lane). laneOf ws ∷ l)
-    (lanes-snoc n (drop 40 ws) ∙ ap (λ (l : List ℕ). lanesFrom n (drop 40 ws) ++ (laneOf l ∷ []))
-    (drop-drop (n * 40) 40 ws ∙ ap (λ k. drop k ws) (let e : 40 + n * 40 ≡ suc n * 40 = omega arith in e)))
-
 -- the words from k on, as a part of a slice
 pub tail-is : (k : ℕ) (ws : List ℕ) → take (length ws - k) (drop k ws) ≡ drop k ws
 tail-is k ws = take-all (length ws - k) (drop k ws) (omega (arith, length-drop k ws))
 
--- ---- the loops that decode: the first elements are those of the words
+-- ---- the loop that decodes pairs: the first are those of the words
 -- the first i of n elements are done
 pub record Begun {A : Type 0} (n : ℕ) (done : List A) (i : ℕ) (xs : List A) : Type 0 where
   pub in-all : length xs ≡ n
@@ -68,25 +61,21 @@ pairs-on ws i xs b h =
 pub pairs-done : (ws : List ℕ) (i : ℕ) (xs : List Pair) → Begun 16 (pairsFrom i ws) i xs → i ≡ 16 → xs ≡ pairsFrom 16 ws
 pairs-done ws i xs b e = sym (take-all i xs (omega (arith, b .in-all))) ∙ b .so-far ∙ ap (λ n. pairsFrom n ws) e
 
-pub lanes-begun : (ws : List ℕ) (xs : List Lane) → length xs ≡ 8 → Begun 8 (lanesFrom 0 ws) 0 xs
+-- ---- a lane more, from its 40 words
+pub lane-long : (ws : List ℕ) (k : ℕ) → k + 40 ≤ length ws → 40 ≤ length (take (length ws - k) (drop k ws))
+lane-long ws k h = rw (tail-is k ws) (omega (arith, length-drop k ws))
+
+pub lane-next : (ws : List ℕ) (k n : ℕ) (l : Lane) (ls : List Lane) → l ≡ laneOf (take (length ws - k) (drop k ws)) → ls ≡ lanesFrom n (drop (k + 40) ws)
+    → l ∷ ls ≡ lanesFrom (suc n) (drop k ws)
 unfolding lanesFrom
-lanes-begun ws xs e = record { in-all = e; so-far = refl }
+lane-next ws k n l ls e f =
+    let g : l ≡ laneOf (drop k ws) = e ∙ ap laneOf (tail-is k ws) in
+    let h : ls ≡ lanesFrom n (drop 40 (drop k ws)) = f ∙ ap (lanesFrom n) (sym (drop-drop 40 k ws)) in
+    rw (g, h)
 
-pub lanes-on : (ws : List ℕ) (i : ℕ) (xs : List Lane) (l : Lane) → Begun 8 (lanesFrom i (drop 2 ws)) i xs → i < 8 → l ≡ laneOf (drop (2 + 40 * i) ws)
-    → Begun 8 (lanesFrom (i + 1) (drop 2 ws)) (i + 1) (set xs i l)
-lanes-on ws i xs l b h e =
-    record {
-      in-all = length-set xs i l ∙ b .in-all;
-      so-far = rw (add-one i) (take-suc-set xs i l (omega (arith, b .in-all)) ∙ sym (lanes-snoc i (drop 2 ws) ∙ again));
-    }
-  where
-    again : lanesFrom i (drop 2 ws) ++ (laneOf (drop (i * 40) (drop 2 ws)) ∷ []) ≡ take i xs ++ (l ∷ [])
-    again =
-        let f : 2 + i * 40 ≡ 2 + 40 * i = omega arith in
-        rw (b .so-far, drop-drop (i * 40) 2 ws, f, e)
-
-pub lanes-done : (ws : List ℕ) (i : ℕ) (xs : List Lane) → Begun 8 (lanesFrom i ws) i xs → i ≡ 8 → xs ≡ lanesFrom 8 ws
-lanes-done ws i xs b e = sym (take-all i xs (omega (arith, b .in-all))) ∙ b .so-far ∙ ap (λ n. lanesFrom n ws) e
+pub no-lanes : (ws : List ℕ) → [] ≡ lanesFrom 0 ws
+unfolding lanesFrom
+no-lanes ws = refl
 
 -- ---- stores in a row
 sets-append : (ws : List ℕ) (at : ℕ) (xs ys : List ℕ) → sets ws at (xs ++ ys) ≡ sets (sets ws at xs) (at + length xs) ys

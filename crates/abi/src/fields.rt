@@ -68,14 +68,19 @@ pub(crate) fn record_from(words: &[u64]) -> Record
     requires { ⌜ length (now words) ≡ 322 ⌝ }
     ensures { λ r. ⌜ r ≡ recordOf (now (words .entry)) ⌝ }
 {
-    let mut lanes = [record::start_lane(); 8];
-    for l in 0..8 {
-        lanes[l] = lane_from(&words[2 + 40 * l..]);
-    }
     Record {
         clock: words[0],
         last: words[1],
-        lanes,
+        lanes: [
+            lane_from(&words[2..]),
+            lane_from(&words[42..]),
+            lane_from(&words[82..]),
+            lane_from(&words[122..]),
+            lane_from(&words[162..]),
+            lane_from(&words[202..]),
+            lane_from(&words[242..]),
+            lane_from(&words[282..]),
+        ],
     }
 }
 

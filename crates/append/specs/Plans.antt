@@ -9,20 +9,24 @@ use Rattle.txn.specs.declared.Write.{Write}
 use Rattle.txn.specs.declared.Writes.{Writes}
 use Rattle.image.specs.Image.{sizesOk, imageLength}
 use Rattle.image.specs.declared.Sizes.{Sizes}
-use Rattle.log.specs.Log.{completeIn, hits}
+use Rattle.log.specs.Log.{latestIn, completeIn, hits}
 use Rattle.log.specs.AppendEntries.{WordsBelow}
+use Rattle.log.specs.declared.Latest.{Latest}
 use Rattle.record.specs.Record.{laneAt, isLogged, spent, boundOf}
+use Rattle.record.specs.declared.Lane.{Lane}
 use Rattle.record.specs.declared.Record.{Record}
-use Rattle.store.specs.Machine.{Machine, firstCause}
-use Rattle.store.specs.Calls.{badBuffers, badRecord, badLane, badTxn}
+use Rattle.store.specs.declared.Answer.the-variants.{Logged}
+use Rattle.store.specs.Machine.{Machine, Step, firstCause}
+use Rattle.store.specs.Calls.{badBuffers, badRecord, badLane, badTxn, logged}
+use Rattle.store.specs.Interface.{drainedState}
 use Rattle.append.specs.declared.Plan.{Plan}
 
--- refusals 8 and 9 of a call on record r that appends n slots to lane L, whose drain leaves the record d
-unfoldable pub roomRefusal : Sizes → (r d : Record) → (cache : List ℕ) → (L n : ℕ) → ℕ
-roomRefusal z r d cache L n =
+-- refusals 8 and 9 of a call on record r that appends n slots to lane L, floors as after the lane's drain
+unfoldable pub roomRefusal : Sizes → Record → (cache : List ℕ) → (L n : ℕ) → ℕ
+roomRefusal z r cache L n =
     firstCause
     (record { number = 8; holds = spent r }
-    ∷ record { number = 9; holds = hits z.slots (laneAt r L .next) n (boundOf z d) (completeIn z cache L) }
+    ∷ record { number = 9; holds = hits z.slots (laneAt r L .next) n (boundOf z (drainedState z cache L r)) (completeIn z cache L) }
     ∷ [])
 
 -- Log's refusals before it runs the transaction
@@ -36,30 +40,49 @@ logChecks z L f m =
     ∷ record { number = 6; holds = isLogged (laneAt m.state L .phase) }
     ∷ [])
 
--- a plan: the number of the refusal and, where it is 0, the writes and the record after the lane's drain
-pub record Planned (plan : Plan) (refusal : ℕ) (ws : List Write) (after : Record) : Type 0 where
+-- a plan: the number of the refusal and, where it is 0, the writes and the lane's latest sequence
+pub record Planned (plan : Plan) (refusal : ℕ) (ws : List Write) (q : Latest) : Type 0 where
   pub number : plan .number ≡ refusal
   pub writes : plan .number ≡ 0 → plan .writes ≡ writesOf 16 ws
-  pub drained : plan .number ≡ 0 → plan .drained ≡ after
+  pub latest : plan .number ≡ 0 → plan .latest ≡ q
 
--- what the search for a hit needs: n slots from lane L's next one on
-pub record Searchable (z : Sizes) (r : Record) (cache : List ℕ) (L n : ℕ) : Type 0 where
+-- what the search for a hit needs: n slots from lane L's next one on, and the lane's latest sequence
+pub record Searchable (z : Sizes) (r : Record) (latest : Latest) (cache : List ℕ) (L n : ℕ) : Type 0 where
   pub sizes-ok : sizesOk z ≡ true
   pub in-cache : length cache ≡ imageLength z
   pub lane-below : L < z .lanes
+  pub found : latest ≡ latestIn z cache L
   pub next : laneAt r L .next < z .slots
   pub least : 1 ≤ n
   pub most : n ≤ 17
 
--- what an append of these writes to lane L needs
-pub record Appendable (z : Sizes) (r : Record) (cache flags : List ℕ) (L : ℕ) (w : Writes) : Type 0 where
+-- what an append of these writes to lane L, which is drained, needs at timestamp s
+pub record Appendable (z : Sizes) (drained : Lane) (cache flags : List ℕ) (L : ℕ) (w : Writes) (s : ℕ) : Type 0 where
   pub sizes-ok : sizesOk z ≡ true
   pub in-cache : length cache ≡ imageLength z
   pub in-flags : length flags ≡ imageLength z
   pub lane-below : L < z .lanes
+  pub next : drained .next < z .slots
+  pub wrap : drained .wrap ≤ 1
+  pub room : s + 1 < 2 ^ 64
+  pub few : w .count ≤ 16
+  pub full : length (w .list) ≡ 16
+  pub low : WordsBelow 1024 (take (w .count) (w .list))
+
+-- the same of a call on record r, which knows the lane's latest sequence
+pub record Ready (z : Sizes) (r : Record) (latest : Latest) (cache flags : List ℕ) (L : ℕ) (w : Writes) : Type 0 where
+  pub sizes-ok : sizesOk z ≡ true
+  pub in-cache : length cache ≡ imageLength z
+  pub in-flags : length flags ≡ imageLength z
+  pub lane-below : L < z .lanes
+  pub found : latest ≡ latestIn z cache L
   pub next : laneAt r L .next < z .slots
   pub wrap : laneAt r L .wrap ≤ 1
   pub clock : r .clock + 3 < 2 ^ 64
   pub few : w .count ≤ 16
   pub full : length (w .list) ≡ 16
   pub low : WordsBelow 1024 (take (w .count) (w .list))
+
+-- Log of these writes on a drained machine
+unfoldable pub loggedStep : Sizes → ℕ → List Write → Machine → Step
+loggedStep z L ws m = record { answer = Logged (record { count = length ws; stamp = m.state .clock + 2 }); machine = logged z L ws m }

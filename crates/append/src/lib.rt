@@ -1,13 +1,21 @@
 // The calls that append a sequence to a lane's log: Log and Mark.
 ghost use mathlib.Core.Path.{_≡_};
 ghost use mathlib.Core.List.{List, []};
-ghost use Prim.Native.Nat.{ℕ};
+ghost use Prim.Native.Nat.{ℕ, _+_};
 ghost use lib.ListN.{take};
 ghost use Rattle.txn.specs.Txn.{writesOf};
-ghost use Rattle.store.specs.Calls.{writesOn, logRefusal, logStep, markRefusal, markStep, appended as appendedTo};
+ghost use Rattle.image.specs.Image.{logStart};
+ghost use Rattle.image.specs.Flush.{flushAll};
+ghost use Rattle.image.specs.Stores.{stored, places};
+ghost use Rattle.log.specs.Log.{latestIn};
+ghost use Rattle.log.specs.Append.{advance, appendStores};
+ghost use Rattle.record.specs.Record.{cursorOf, appendedLane};
+ghost use Rattle.store.specs.Calls.{writesOn, logRefusal, logStep, markRefusal, markStep};
 ghost use Rattle.store.specs.Interface.{machineOf, stepOf, drainedState};
-ghost use Rattle.append.specs.Plans.{roomRefusal, logChecks, Planned, Searchable, Appendable};
+ghost use Rattle.append.specs.Plans.{roomRefusal, logChecks, Planned, Searchable, Appendable, Ready, loggedStep};
 use image::Sizes;
+use log::Latest;
+use record::Lane;
 use record::Pair;
 use record::Phase;
 use record::Record;
@@ -17,11 +25,12 @@ use store::Marked;
 use store::Outcome;
 use txn::Writes;
 
-// What Log or Mark would do: the number of its refusal or 0, and, where it is 0, the transaction's writes and the record after the lane's drain.
+// What Log or Mark would do: the number of its refusal or 0, and, where it is 0, the transaction's writes and the lane's latest sequence, from which its
+// drain takes the floor.
 struct Plan {
     number: u64,
     writes: Writes,
-    drained: Record,
+    latest: Latest,
 }
 
 // No writes.
@@ -39,25 +48,27 @@ fn none() -> Writes
 }
 
 // Refusals 8 and 9 of a call that appends `count` slots: the clock is spent, or a slot of a sequence at or above the lower bound would be overwritten,
-// where `drained` is the record after the lane's drain. One pass over the lane's log.
+// floors as after the lane's drain, which finds this latest sequence. It looks at the slots that the append writes and 16 more.
 fn append_refusal(
     sizes: Sizes,
     state: Record,
-    drained: Record,
+    latest: Latest,
     cache: &[u64],
     lane: usize,
     count: usize,
 ) -> u64
-    requires { ⌜ Searchable sizes state (now cache) lane count ⌝ }
-    ensures { λ r. ⌜ r ≡ roomRefusal sizes state drained (now (cache .entry)) lane count ⌝ }
+    requires { ⌜ Searchable sizes state latest (now cache) lane count ⌝ }
+    ensures { λ r. ⌜ r ≡ roomRefusal sizes state (now (cache .entry)) lane count ⌝ }
 {
+    // all that is read by index is read from this one copy of the record
+    let drained = record::drained(state, lane, latest);
+    let bound = record::bound_of(sizes, drained);
+    let at = drained.lanes[lane];
     if record::spent(state) {
         return 8;
     }
     let start = image::log_start(sizes, lane);
     let end = start + 2 * sizes.slots;
-    let at = record::lane_of(state, lane);
-    let bound = record::bound_of(sizes, drained);
     if log::search::would_hit(
         &cache[start..end],
         sizes.words,
@@ -91,7 +102,7 @@ fn log_checks(
     if !txn::txn_ok(txn, sizes.words) {
         return 5;
     }
-    let at = record::lane_of(state, lane);
+    let at = state.lanes[lane];
     let phase = at.phase;
     if record::is_logged(phase) {
         return 6;
@@ -108,30 +119,29 @@ fn plan_log(
     lane: usize,
     txn: &[u64],
 ) -> Plan
-    ensures { λ r. ⌜ Planned r (logRefusal sizes lane (now (txn .entry)) (machineOf state (now (cache .entry)) (now (nvm .entry)) (now (flags .entry)))) (writesOn sizes (now (txn .entry)) (machineOf state (now (cache .entry)) (now (nvm .entry)) (now (flags .entry)))) (drainedState sizes (now (cache .entry)) lane state) ⌝ }
+    ensures { λ r. ⌜ Planned r (logRefusal sizes lane (now (txn .entry)) (machineOf state (now (cache .entry)) (now (nvm .entry)) (now (flags .entry)))) (writesOn sizes (now (txn .entry)) (machineOf state (now (cache .entry)) (now (nvm .entry)) (now (flags .entry)))) (latestIn sizes (now (cache .entry)) lane) ⌝ }
 {
     let number = log_checks(sizes, state, cache, nvm, flags, lane, txn);
     if number != 0 {
         return Plan {
             number,
             writes: none(),
-            drained: state,
+            latest: Latest::Nothing,
         };
     }
-    let end = 1 + sizes.words;
-    let writes = txn::run(txn, &cache[1..end]);
-    let drained = store::drained_state(sizes, state, cache, lane);
+    let writes = store::writes_on(sizes, cache, txn);
+    let latest = store::latest_in(sizes, cache, lane);
     if writes.count == 0 {
         return Plan {
             number: 0,
             writes,
-            drained,
+            latest,
         };
     }
     Plan {
-        number: append_refusal(sizes, state, drained, cache, lane, writes.count + 1),
+        number: append_refusal(sizes, state, latest, cache, lane, writes.count + 1),
         writes,
-        drained,
+        latest,
     }
 }
 
@@ -151,24 +161,25 @@ pub fn log_refusal(
     plan.number
 }
 
-// A sequence of these writes at the clock's next timestamp, appended to a drained lane, which then has this phase and redo log.
+// A sequence of these writes at this timestamp, appended to a lane that is drained: the lane then, with this phase and redo log.
 fn appended(
     sizes: Sizes,
-    drained: Record,
+    drained: Lane,
     cache: &mut [u64],
     flags: &mut [u8],
     lane: usize,
     writes: Writes,
+    stamp: u64,
     phase: Phase,
     redo: [Pair; 16],
-) -> Record
-    requires { ⌜ Appendable sizes drained (now cache) (now flags) lane writes ⌝ }
-    ensures { λ r. ⌜ ((nvm : List ℕ) → machineOf r (now (cache .exit)) nvm (now (flags .exit)) ≡ appendedTo sizes lane (take (writes .count) (writes .list)) phase redo (machineOf drained (now (cache .entry)) nvm (now (flags .entry)))) ⌝ }
+) -> Lane
+    requires { ⌜ Appendable sizes drained (now cache) (now flags) lane writes stamp ⌝ }
+    ensures after { λ r. ⌜ r ≡ appendedLane stamp (advance (sizes .slots) (writes .count + 1) (cursorOf drained)) phase redo drained ⌝ }
+    ensures written { λ r. ⌜ now (cache .exit) ≡ stored (appendStores (logStart sizes lane) (sizes .slots) stamp (cursorOf drained) (take (writes .count) (writes .list))) (now (cache .entry)) ⌝ }
+    ensures flushed { λ r. ⌜ now (flags .exit) ≡ flushAll lane (places (appendStores (logStart sizes lane) (sizes .slots) stamp (cursorOf drained) (take (writes .count) (writes .list)))) (now (flags .entry)) ⌝ }
 {
-    let stamp = drained.clock + 2;
     let start = image::log_start(sizes, lane);
-    let at = record::lane_of(drained, lane);
-    let cursor = record::cursor_of(at);
+    let cursor = record::cursor_of(drained);
     let end = log::tail::append(
         cache,
         flags,
@@ -179,15 +190,41 @@ fn appended(
         stamp,
         cursor,
     );
-    record::with_lane(
-        record::with_clock(drained, stamp),
-        lane,
-        record::appended_lane(stamp, end, phase, redo, at),
-    )
+    record::appended_lane(stamp, end, phase, redo, drained)
+}
+
+// Log of a transaction that writes, once its lane is drained. The record is still the one before the drain.
+fn log_writes(
+    sizes: Sizes,
+    state: Record,
+    latest: Latest,
+    cache: &mut [u64],
+    flags: &mut [u8],
+    lane: usize,
+    writes: Writes,
+) -> Outcome
+    requires { ⌜ Ready sizes state latest (now cache) (now flags) lane writes ⌝ }
+    ensures { λ r. ⌜ ((nvm : List ℕ) → stepOf r (now (cache .exit)) nvm (now (flags .exit)) ≡ loggedStep sizes lane (take (writes .count) (writes .list)) (machineOf (drainedState sizes (now (cache .entry)) lane state) (now (cache .entry)) nvm (now (flags .entry)))) ⌝ }
+{
+    let old = state.lanes[lane];
+    let at = record::drained_lane(latest, old);
+    let count = writes.count;
+    let stamp = state.clock + 2;
+    let phase = Phase::Holds(record::Logged {
+        first: at.next,
+        count,
+        stamp,
+    });
+    let redo = record::pairs_of(writes);
+    let after = appended(sizes, at, cache, flags, lane, writes, stamp, phase, redo);
+    Outcome {
+        answer: Answer::Logged(Appended { count, stamp }),
+        state: record::stamped(state, stamp, lane, after),
+    }
 }
 
 // Logs a transaction: its run on the cached words is left as undo entries in the log and as the redo log in the record. One run, one pass over
-// the flags; the lane's log is searched for its latest sequence and, where the transaction writes, once more for a hit.
+// the flags, one over the lane's log for its latest sequence and, where the transaction writes, a look at up to 33 slots for a hit.
 pub fn log(
     sizes: Sizes,
     state: Record,
@@ -202,38 +239,18 @@ pub fn log(
     let plan = plan_log(sizes, state, cache, nvm, flags, lane, txn);
     let number = plan.number;
     let writes = plan.writes;
-    let drained = plan.drained;
+    let latest = plan.latest;
     if number != 0 {
         return store::refused(number, state);
     }
     image::flush::drain(lane, cache, nvm, flags);
-    let count = writes.count;
-    if count == 0 {
+    if writes.count == 0 {
         return Outcome {
             answer: Answer::NoWrites,
-            state: drained,
+            state: record::drained(state, lane, latest),
         };
     }
-    let stamp = drained.clock + 2;
-    let at = record::lane_of(drained, lane);
-    let phase = Phase::Holds(record::Logged {
-        first: at.next,
-        count,
-        stamp,
-    });
-    Outcome {
-        answer: Answer::Logged(Appended { count, stamp }),
-        state: appended(
-            sizes,
-            drained,
-            cache,
-            flags,
-            lane,
-            writes,
-            phase,
-            record::pairs_of(writes),
-        ),
-    }
+    log_writes(sizes, state, latest, cache, flags, lane, writes)
 }
 
 fn plan_mark(
@@ -244,21 +261,21 @@ fn plan_mark(
     flags: &[u8],
     lane: usize,
 ) -> Plan
-    ensures { λ r. ⌜ Planned r (markRefusal sizes lane (machineOf state (now (cache .entry)) (now (nvm .entry)) (now (flags .entry)))) [] (drainedState sizes (now (cache .entry)) lane state) ⌝ }
+    ensures { λ r. ⌜ Planned r (markRefusal sizes lane (machineOf state (now (cache .entry)) (now (nvm .entry)) (now (flags .entry)))) [] (latestIn sizes (now (cache .entry)) lane) ⌝ }
 {
     let number = store::drain_refusal(sizes, state, cache, nvm, flags, lane);
     if number != 0 {
         return Plan {
             number,
             writes: none(),
-            drained: state,
+            latest: Latest::Nothing,
         };
     }
-    let drained = store::drained_state(sizes, state, cache, lane);
+    let latest = store::latest_in(sizes, cache, lane);
     Plan {
-        number: append_refusal(sizes, state, drained, cache, lane, 1),
+        number: append_refusal(sizes, state, latest, cache, lane, 1),
         writes: none(),
-        drained,
+        latest,
     }
 }
 
@@ -277,7 +294,7 @@ pub fn mark_refusal(
     plan.number
 }
 
-// Appends a timestamp over no entries; a logged transaction of the lane is dropped. One pass over the flags, two searches of the lane's log as for Log.
+// Appends a timestamp over no entries; a logged transaction of the lane is dropped. One pass over the flags, one over the lane's log, and a look at 17 slots.
 pub fn mark(
     sizes: Sizes,
     state: Record,
@@ -291,27 +308,30 @@ pub fn mark(
     let plan = plan_mark(sizes, state, cache, nvm, flags, lane);
     let number = plan.number;
     let writes = plan.writes;
-    let drained = plan.drained;
+    let latest = plan.latest;
     if number != 0 {
         return store::refused(number, state);
     }
     image::flush::drain(lane, cache, nvm, flags);
-    let at = record::lane_of(drained, lane);
+    let old = state.lanes[lane];
+    let at = record::drained_lane(latest, old);
     let phase = at.phase;
     let redo = at.redo;
-    let stamp = drained.clock + 2;
     let dropped = record::is_logged(phase);
+    let stamp = state.clock + 2;
+    let after = appended(
+        sizes,
+        at,
+        cache,
+        flags,
+        lane,
+        writes,
+        stamp,
+        Phase::Idle,
+        redo,
+    );
     Outcome {
         answer: Answer::Marked(Marked { stamp, dropped }),
-        state: appended(
-            sizes,
-            drained,
-            cache,
-            flags,
-            lane,
-            writes,
-            Phase::Idle,
-            redo,
-        ),
+        state: record::stamped(state, stamp, lane, after),
     }
 }

@@ -1,41 +1,31 @@
 // A call on the store and on the second implementation, from the same state, and the comparison of all that the two leave.
 use crate::convert;
 use crate::second;
-use crate::second::Lengths;
-use crate::second::Reply;
-use crate::session;
+use crate::words::Bench;
+use crate::words::CACHE;
+use crate::words::CACHE_LENGTH;
+use crate::words::CODE;
+use crate::words::FLAGS;
+use crate::words::FLAGS_LENGTH;
+use crate::words::NUMBER;
+use crate::words::NVM;
+use crate::words::NVM_LENGTH;
+use crate::words::RECORD;
 use crate::words::ROOM;
-use crate::words::copy;
-use crate::words::copy_bytes;
+use crate::words::START;
+use crate::words::STATE;
+use crate::words::STORED;
+use crate::words::TXN;
+use crate::words::USED;
 use crate::words::get;
-use crate::words::wide;
-use image::Sizes;
+use crate::words::put;
+use crate::words::same;
 use log::Timestamp;
-use record::Record;
 use recovery::Recovered;
+use recovery::Restart;
 use store::Answer;
+use store::Outcome;
 ghost use Prim.Native.Nat.{_≤_};
-ghost use lib.ListN.{length};
-
-// What the store answered, its record, and whether the second implementation leaves the same.
-pub(crate) struct Ran {
-    pub(crate) reply: Reply,
-    pub(crate) state: Record,
-    pub(crate) same: bool,
-}
-
-struct Called {
-    reply: Reply,
-    state: Record,
-}
-
-fn stamped(kind: u64, number: u64, stamp: u64) -> Reply {
-    Reply {
-        kind,
-        number,
-        stamp,
-    }
-}
 
 fn bit(is: bool) -> u64 {
     if is {
@@ -44,242 +34,281 @@ fn bit(is: bool) -> u64 {
     0
 }
 
-fn reply_of(answer: Answer) -> Reply {
+fn put_answer(bench: &mut Bench, answer: Answer) {
     match answer {
-        Answer::Refused(number) => second::refused(number),
-        Answer::Done => second::plain(second::DONE),
-        Answer::NoWrites => second::plain(second::NO_WRITES),
-        Answer::Logged(appended) => stamped(second::LOGGED, appended.count as u64, appended.stamp),
-        Answer::Committed(stamp) => stamped(second::COMMITTED, 0, stamp),
-        Answer::Stale => second::plain(second::STALE),
-        Answer::Changed => second::plain(second::CHANGED),
-        Answer::Marked(marked) => stamped(second::MARKED, bit(marked.dropped), marked.stamp),
+        Answer::Refused(number) => convert::put_answer(bench, second::REFUSED, number, 0),
+        Answer::Done => convert::put_answer(bench, second::DONE, 0, 0),
+        Answer::NoWrites => convert::put_answer(bench, second::NO_WRITES, 0, 0),
+        Answer::Logged(appended) => convert::put_answer(
+            bench,
+            second::LOGGED,
+            appended.count as u64,
+            appended.stamp,
+        ),
+        Answer::Committed(stamp) => convert::put_answer(bench, second::COMMITTED, 0, stamp),
+        Answer::Stale => convert::put_answer(bench, second::STALE, 0, 0),
+        Answer::Changed => convert::put_answer(bench, second::CHANGED, 0, 0),
+        Answer::Marked(marked) => convert::put_answer(
+            bench,
+            second::MARKED,
+            bit(marked.dropped),
+            marked.stamp,
+        ),
     }
 }
 
-fn finished(boundary: Timestamp, undone: u64) -> Reply {
+fn put_finished(bench: &mut Bench, boundary: Timestamp, undone: u64) {
     match boundary {
-        Timestamp::None => stamped(second::UNBOUNDED, undone, 0),
-        Timestamp::At(stamp) => stamped(second::RECOVERED, undone, stamp),
+        Timestamp::None => convert::put_answer(bench, second::UNBOUNDED, undone, 0),
+        Timestamp::At(stamp) => convert::put_answer(bench, second::RECOVERED, undone, stamp),
     }
 }
 
-fn reply_of_recovery(answer: Recovered) -> Reply {
+fn put_recovered(bench: &mut Bench, answer: Recovered) {
     match answer {
-        Recovered::Refused(number) => second::refused(number),
-        Recovered::Cut => second::plain(second::CUT),
+        Recovered::Refused(number) => convert::put_answer(bench, second::REFUSED, number, 0),
+        Recovered::Cut => convert::put_answer(bench, second::CUT, 0, 0),
         Recovered::Finished(end) => {
             let boundary = end.boundary;
-            finished(boundary, end.undone as u64)
+            put_finished(bench, boundary, end.undone as u64);
         }
     }
 }
 
-// The call on the store.
-fn call(
-    code: u64,
-    sizes: Sizes,
-    state: Record,
-    cache: &mut [u64],
-    nvm: &mut [u64],
-    flags: &mut [u8],
-    number: usize,
-    words: &[u64],
-) -> Called {
-    match code {
-        second::LOG => stepped(append::log(sizes, state, cache, nvm, flags, number, words)),
-        second::REDO => stepped(commit::redo(sizes, state, cache, nvm, flags, number)),
-        second::VALIDATE => stepped(commit::validate(
-            sizes,
-            state,
-            cache,
-            nvm,
-            flags,
-            number,
-            words,
-        )),
-        second::MARK => stepped(append::mark(sizes, state, cache, nvm, flags, number)),
-        second::DRAIN => stepped(store::drain(sizes, state, cache, nvm, flags, number)),
-        second::WRITE_BACK => Called {
-            reply: reply_of(store::write_back(sizes, cache, nvm, flags, number)),
-            state,
-        },
-        second::RECOVER => restarted(recovery::recover(sizes, cache, nvm, flags, number)),
-        _ => stepped(store::format(sizes, words, cache, nvm, flags)),
-    }
-}
-
-fn stepped(outcome: store::Outcome) -> Called {
+// What a call leaves.
+fn put_outcome(bench: &mut Bench, outcome: Outcome) {
     let answer = outcome.answer;
     let state = outcome.state;
-    Called {
-        reply: reply_of(answer),
-        state,
-    }
+    convert::put_record(bench, state);
+    put_answer(bench, answer);
 }
 
-fn restarted(restart: recovery::Restart) -> Called {
+fn put_restart(bench: &mut Bench, restart: Restart) {
     let answer = restart.answer;
     let state = restart.state;
-    Called {
-        reply: reply_of_recovery(answer),
-        state,
+    convert::put_record(bench, state);
+    put_recovered(bench, answer);
+}
+
+fn number(bench: &Bench) -> usize {
+    get(bench, STATE, NUMBER) as usize
+}
+
+// ---- the number that the store says beforehand a call will be refused with, or 0
+fn lane_refusal(bench: &Bench, cache: &[u64], nvm: &[u64], flags: &[u8]) -> u64 {
+    let sizes = convert::sizes(bench);
+    let state = convert::record(bench);
+    let lane = number(bench);
+    match get(bench, STATE, CODE) {
+        second::REDO => commit::redo_refusal(sizes, state, cache, nvm, flags, lane),
+        second::MARK => append::mark_refusal(sizes, state, cache, nvm, flags, lane),
+        _ => store::drain_refusal(sizes, state, cache, nvm, flags, lane),
     }
 }
 
-// The number that the store says beforehand the call will be refused with, or 0.
-fn refusal(
-    code: u64,
-    sizes: Sizes,
-    state: Record,
-    cache: &[u64],
-    nvm: &[u64],
-    flags: &[u8],
-    number: usize,
-    words: &[u64],
-) -> u64 {
-    match code {
-        second::LOG => append::log_refusal(sizes, state, cache, nvm, flags, number, words),
-        second::REDO => commit::redo_refusal(sizes, state, cache, nvm, flags, number),
-        second::VALIDATE => commit::validate_refusal(
-            sizes,
-            state,
-            cache,
-            nvm,
-            flags,
-            number,
-            words,
-        ),
-        second::MARK => append::mark_refusal(sizes, state, cache, nvm, flags, number),
-        second::DRAIN => store::drain_refusal(sizes, state, cache, nvm, flags, number),
-        second::WRITE_BACK => store::write_back_refusal(sizes, cache, nvm, flags, number),
+fn txn_refusal(bench: &Bench, cache: &[u64], nvm: &[u64], flags: &[u8], txn: &[u64]) -> u64 {
+    let sizes = convert::sizes(bench);
+    let state = convert::record(bench);
+    let lane = number(bench);
+    if get(bench, STATE, CODE) == second::LOG {
+        return append::log_refusal(sizes, state, cache, nvm, flags, lane, txn);
+    }
+    commit::validate_refusal(sizes, state, cache, nvm, flags, lane, txn)
+}
+
+fn refusal(bench: &Bench, cache: &[u64], nvm: &[u64], flags: &[u8], words: &[u64]) -> u64 {
+    let sizes = convert::sizes(bench);
+    match get(bench, STATE, CODE) {
+        second::LOG | second::VALIDATE => txn_refusal(bench, cache, nvm, flags, words),
+        second::WRITE_BACK => store::write_back_refusal(sizes, cache, nvm, flags, number(bench)),
         second::RECOVER => recovery::recover_refusal(sizes, cache, nvm, flags),
-        _ => store::format_refusal(sizes, words, cache, nvm, flags),
+        second::FORMAT => store::format_refusal(sizes, words, cache, nvm, flags),
+        _ => lane_refusal(bench, cache, nvm, flags),
     }
 }
 
-fn same_reply(a: Reply, b: Reply) -> bool {
-    a.kind == b.kind && a.number == b.number && a.stamp == b.stamp
-}
-
-fn same_words(a: &[u64], b: &[u64; ROOM]) -> bool {
-    for i in 0..a.len() {
-        if a[i] != get(b, i as u64) {
-            return false;
-        }
+// ---- the calls on the store
+// Redo, Mark, Drain.
+fn on_lane(bench: &Bench, cache: &mut [u64], nvm: &mut [u64], flags: &mut [u8]) -> Outcome {
+    let sizes = convert::sizes(bench);
+    let state = convert::record(bench);
+    let lane = number(bench);
+    match get(bench, STATE, CODE) {
+        second::REDO => commit::redo(sizes, state, cache, nvm, flags, lane),
+        second::MARK => append::mark(sizes, state, cache, nvm, flags, lane),
+        _ => store::drain(sizes, state, cache, nvm, flags, lane),
     }
-    true
 }
 
-fn same_bytes(a: &[u8], b: &[u64; ROOM]) -> bool {
-    for i in 0..a.len() {
-        if wide(a[i]) != get(b, i as u64) {
-            return false;
-        }
-    }
-    true
-}
-
-fn same_fields(a: &[u64; 322], b: &[u64; 322]) -> bool {
-    for i in 0..322 {
-        if get(a, i) != get(b, i) {
-            return false;
-        }
-    }
-    true
-}
-
-fn same_record(state: Record, b: &[u64; 322]) -> bool {
-    let mut a = [0u64; 322];
-    convert::to_words(state, &mut a);
-    same_fields(&a, b)
-}
-
-// The call on both. Format and recovery take no record: what they return beside a refusal or a cut is compared all the same.
-fn run(
-    code: u64,
-    sizes: Sizes,
-    state: Record,
+// Log and Validate.
+fn with_txn(
+    bench: &Bench,
     cache: &mut [u64],
     nvm: &mut [u64],
     flags: &mut [u8],
-    number: usize,
+    txn: &[u64],
+) -> Outcome {
+    let sizes = convert::sizes(bench);
+    let state = convert::record(bench);
+    let lane = number(bench);
+    if get(bench, STATE, CODE) == second::LOG {
+        return append::log(sizes, state, cache, nvm, flags, lane, txn);
+    }
+    commit::validate(sizes, state, cache, nvm, flags, lane, txn)
+}
+
+// It takes no record, so the record stays.
+fn write_back(bench: &Bench, cache: &[u64], nvm: &mut [u64], flags: &[u8]) -> Outcome {
+    let state = convert::record(bench);
+    let answer = store::write_back(convert::sizes(bench), cache, nvm, flags, number(bench));
+    Outcome { answer, state }
+}
+
+fn step(
+    bench: &Bench,
+    cache: &mut [u64],
+    nvm: &mut [u64],
+    flags: &mut [u8],
     words: &[u64],
-) -> Ran {
-    let mut twin_record = [0u64; 322];
-    let mut twin_cache = [0u64; ROOM];
-    let mut twin_nvm = [0u64; ROOM];
-    let mut twin_flags = [0u64; ROOM];
-    convert::to_words(state, &mut twin_record);
-    copy(cache, &mut twin_cache);
-    copy(nvm, &mut twin_nvm);
-    copy_bytes(flags, &mut twin_flags);
-    let expected = second::call(
-        code,
-        session::shape(sizes),
-        Lengths {
-            cache: cache.len() as u64,
-            nvm: nvm.len() as u64,
-            flags: flags.len() as u64,
-        },
-        &mut twin_record,
-        &mut twin_cache,
-        &mut twin_nvm,
-        &mut twin_flags,
-        number as u64,
-        words,
-    );
-    let asked = refusal(code, sizes, state, cache, nvm, flags, number, words);
-    let called = call(code, sizes, state, cache, nvm, flags, number, words);
-    let reply = called.reply;
-    let after = called.state;
-    let same = same_reply(reply, expected)
-        && asked == session::number_in(reply)
-        && same_record(after, &twin_record)
-        && same_words(cache, &twin_cache)
-        && same_words(nvm, &twin_nvm)
-        && same_bytes(flags, &twin_flags);
-    Ran {
-        reply,
-        state: after,
-        same,
+) -> Outcome {
+    match get(bench, STATE, CODE) {
+        second::LOG | second::VALIDATE => with_txn(bench, cache, nvm, flags, words),
+        second::WRITE_BACK => write_back(bench, cache, nvm, flags),
+        second::FORMAT => store::format(convert::sizes(bench), words, cache, nvm, flags),
+        _ => on_lane(bench, cache, nvm, flags),
     }
 }
 
-fn shorter(a: usize, b: usize) -> usize
-    ensures { λ r. ⌜ r ≤ b ⌝ }
+fn recover(bench: &mut Bench, cache: &mut [u64], nvm: &mut [u64], flags: &mut [u8]) {
+    let restart = recovery::recover(convert::sizes(bench), cache, nvm, flags, number(bench));
+    put_restart(bench, restart);
+}
+
+fn act(bench: &mut Bench, cache: &mut [u64], nvm: &mut [u64], flags: &mut [u8], words: &[u64]) {
+    if get(bench, STATE, CODE) == second::RECOVER {
+        recover(bench, cache, nvm, flags);
+    } else {
+        let outcome = step(bench, cache, nvm, flags, words);
+        put_outcome(bench, outcome);
+    }
+}
+
+// The call on the store; what it leaves beside the buffers is put into STORED.
+fn call(bench: &mut Bench, cache: &mut [u64], nvm: &mut [u64], flags: &mut [u8], words: &[u64]) {
+    let asked = refusal(bench, cache, nvm, flags, words);
+    act(bench, cache, nvm, flags, words);
+    put(bench, STORED, second::REFUSAL, asked);
+}
+
+fn load(bench: &Bench, region: u64, to: &mut [u64]) {
+    for i in 0..to.len() {
+        to[i] = get(bench, region, i as u64);
+    }
+}
+
+fn byte(word: u64) -> u8 {
+    (word % 256) as u8
+}
+
+fn load_bytes(bench: &Bench, to: &mut [u8]) {
+    for i in 0..to.len() {
+        to[i] = byte(get(bench, FLAGS, i as u64));
+    }
+}
+
+fn same_words(bench: &Bench, region: u64, words: &[u64]) -> bool {
+    for i in 0..words.len() {
+        if words[i] != get(bench, region, i as u64) {
+            return false;
+        }
+    }
+    true
+}
+
+fn wide(byte: u8) -> u64 {
+    byte as u64
+}
+
+fn same_bytes(bench: &Bench, bytes: &[u8]) -> bool {
+    for i in 0..bytes.len() {
+        if wide(bytes[i]) != get(bench, FLAGS, i as u64) {
+            return false;
+        }
+    }
+    true
+}
+
+// Is what the store left what the second implementation left: record, answer, refusal asked beforehand, cache, non-volatile memory, flags?
+fn same_all(bench: &Bench, cache: &[u64], nvm: &[u64], flags: &[u8]) -> bool {
+    same(bench, RECORD, STORED, second::LENGTH)
+        && same_words(bench, CACHE, cache)
+        && same_words(bench, NVM, nvm)
+        && same_bytes(bench, flags)
+}
+
+fn load_all(
+    bench: &Bench,
+    cache: &mut [u64],
+    nvm: &mut [u64],
+    flags: &mut [u8],
+    words: &mut [u64],
+) {
+    load(bench, CACHE, cache);
+    load(bench, NVM, nvm);
+    load_bytes(bench, flags);
+    load(bench, TXN, words);
+}
+
+// The call on both, with buffers of these lengths. Format and recovery take no record: what they return beside a refusal or a cut is compared all the same.
+fn run_in(
+    bench: &mut Bench,
+    cache: &mut [u64],
+    nvm: &mut [u64],
+    flags: &mut [u8],
+    words: &mut [u64],
+) -> bool {
+    load_all(bench, cache, nvm, flags, words);
+    call(bench, cache, nvm, flags, words);
+    second::call(bench);
+    same_all(bench, cache, nvm, flags)
+}
+
+// A length of STATE, at most that of the room for it.
+fn length(bench: &Bench, number: u64, most: usize) -> usize
+    ensures { λ r. ⌜ r ≤ most ⌝ }
 {
-    if a < b {
-        return a;
+    let length = get(bench, STATE, number) as usize;
+    if length < most {
+        return length;
     }
-    b
+    most
 }
 
-// The call on both, with the first words of the buffers and of `words`.
-pub(crate) fn run_on(
-    code: u64,
-    sizes: Sizes,
-    lengths: Lengths,
-    state: Record,
+fn run_on(
+    bench: &mut Bench,
     cache: &mut [u64],
     nvm: &mut [u64],
     flags: &mut [u8],
-    number: usize,
-    words: &[u64],
-    count: usize,
-) -> Ran {
-    let cache_end = shorter(lengths.cache as usize, cache.len());
-    let nvm_end = shorter(lengths.nvm as usize, nvm.len());
-    let flags_end = shorter(lengths.flags as usize, flags.len());
-    let words_end = shorter(count, words.len());
-    run(
-        code,
-        sizes,
-        state,
+    words: &mut [u64],
+) -> bool {
+    let cache_end = length(bench, CACHE_LENGTH, cache.len());
+    let nvm_end = length(bench, NVM_LENGTH, nvm.len());
+    let flags_end = length(bench, FLAGS_LENGTH, flags.len());
+    let words_end = length(bench, USED, words.len());
+    run_in(
+        bench,
         &mut cache[..cache_end],
         &mut nvm[..nvm_end],
         &mut flags[..flags_end],
-        number,
-        &words[..words_end],
+        &mut words[..words_end],
     )
+}
+
+// The call that STATE says, on both; does the store leave the same? What the second implementation leaves goes on.
+pub(crate) fn run(bench: &mut Bench) -> bool {
+    let mut cache = [0u64; ROOM];
+    let mut nvm = [0u64; ROOM];
+    let mut flags = [0u8; ROOM];
+    let mut words = [0u64; START];
+    run_on(bench, &mut cache, &mut nvm, &mut flags, &mut words)
 }

@@ -1,35 +1,45 @@
 // Refusals together: for each call every set of causes that it knows, of which the lowest number wins; and refusal 9 at each slot.
 use crate::edges;
 use crate::second;
-use crate::second::Lengths;
-use crate::second::Reply;
 use crate::second::fields;
 use crate::second::fields::set_field;
-use crate::second::reading;
 use crate::session;
+use crate::words::Bench;
+use crate::words::CACHE;
+use crate::words::CACHE_LENGTH;
 use crate::words::MOST;
-use crate::words::ROOM;
-use crate::words::WORDS;
-use crate::words::instruct;
+use crate::words::RECORD;
+use crate::words::STATE;
+use crate::words::TXN;
 use crate::words::minus;
 use crate::words::plus;
 use crate::words::put;
+use crate::words::set_row;
 
 // A set of causes is a number: cause n is bit n.
-fn has(set: u64, n: u64) -> bool {
-    match n {
-        1 => set / 2 % 2 == 1,
-        2 => set / 4 % 2 == 1,
-        3 => set / 8 % 2 == 1,
-        4 => set / 16 % 2 == 1,
-        5 => set / 32 % 2 == 1,
-        6 => set / 64 % 2 == 1,
-        7 => set / 128 % 2 == 1,
-        8 => set / 256 % 2 == 1,
-        9 => set / 512 % 2 == 1,
-        _ => set / 1024 % 2 == 1,
-    }
+fn has(set: u64, cause: u64) -> bool {
+    set & cause != 0
 }
+
+const LENGTHS: u64 = 2;
+
+const RECORDS: u64 = 4;
+
+const NO_LANE: u64 = 8;
+
+const NO_WORD: u64 = 16;
+
+const BAD_TXN: u64 = 32;
+
+const HOLDS: u64 = 64;
+
+const IDLE: u64 = 128;
+
+const SPENT: u64 = 256;
+
+const OVERWRITES: u64 = 512;
+
+const ODD: u64 = 1024;
 
 // The causes that a call knows. 01, "Refused calls".
 fn known(code: u64) -> u64 {
@@ -55,10 +65,12 @@ fn known(code: u64) -> u64 {
 
 // The lowest number of a set, or 0.
 fn lowest(set: u64) -> u64 {
-    for n in 1..11 {
-        if has(set, n) {
+    let mut rest = set;
+    for n in 0..11 {
+        if rest % 2 == 1 {
             return n;
         }
+        rest = rest / 2;
     }
     0
 }
@@ -68,139 +80,78 @@ fn number_for(code: u64, set: u64) -> u64 {
     if code == second::RECOVER {
         return MOST;
     }
-    if code == second::WRITE_BACK && has(set, 4) {
+    if has(set, NO_WORD) {
         return 139;
     }
-    if has(set, 3) {
+    if has(set, NO_LANE) {
         return 2;
     }
     0
 }
 
-// The lane's log has a timestamp in the slot that the next append would write.
-fn block(record: &mut [u64; 322], image: &mut [u64; ROOM], lane: u64) {
-    let at = reading::place(session::shape(edges::small()), lane, 2);
-    put(image, at, reading::stamp_address(0, 1));
-    put(image, plus(at, 1), reading::stamp_value(6, 1));
-    set_field(record, lane, fields::FLOOR, 2);
-}
-
-fn txn_for(set: u64, txn: &mut [u64; WORDS]) {
-    instruct(txn, 0, 1, 0, 0, 3);
-    if has(set, 5) {
-        put(txn, 0, 0);
+// Puts the causes 1, 2 and 5 into lengths, record and transaction.
+fn spoil_arguments(bench: &mut Bench, set: u64) {
+    if has(set, LENGTHS) {
+        put(bench, STATE, CACHE_LENGTH, 138);
+    }
+    if has(set, RECORDS) {
+        set_field(bench, 1, fields::PRESENT, 2);
+    }
+    if has(set, BAD_TXN) {
+        put(bench, TXN, 0, 0);
     }
 }
 
-fn used_for(code: u64) -> u64 {
-    if code == second::FORMAT {
-        return 2;
+// Puts the causes 8, 9 and 10 into record and image. For 9 the lane's log has a timestamp, 6 over no entries, in the slot that the next append would write.
+fn spoil_state(bench: &mut Bench, set: u64, lane: u64) {
+    if has(set, SPENT) {
+        put(bench, RECORD, fields::CLOCK, 18446744073709551614);
     }
-    4
-}
-
-fn lengths_for(set: u64) -> Lengths {
-    let lengths = session::lengths(edges::small());
-    if has(set, 1) {
-        return Lengths {
-            cache: minus(lengths.cache, 1),
-            ..lengths
-        };
+    if has(set, OVERWRITES) {
+        edges::put_slot(bench, lane, 2, 32769, 7);
     }
-    lengths
-}
-
-// Puts the causes 2, 8, 9 and 10 of the set into record and image.
-fn spoil(set: u64, record: &mut [u64; 322], image: &mut [u64; ROOM], lane: u64) {
-    if has(set, 2) {
-        set_field(record, 1, fields::PRESENT, 2);
-    }
-    if has(set, 8) {
-        put(record, fields::CLOCK, 18446744073709551614);
-    }
-    if has(set, 9) {
-        block(record, image, lane);
-    }
-    if has(set, 10) {
-        put(image, 0, 1);
+    if has(set, ODD) {
+        put(bench, CACHE, 0, 1);
     }
 }
 
 // Is the lane to hold a transaction? Log wants none, Redo and Validate want one.
 fn held(code: u64, set: u64) -> bool {
-    has(set, 6) || (edges::commits(code) && !has(set, 7))
+    has(set, HOLDS) || (second::commits(code) && !has(set, IDLE))
 }
 
 // A call in whose state and arguments just these causes hold.
-fn call_with(code: u64, set: u64, tally: &mut [u64; 32]) -> Reply {
-    let mut record = [0u64; 322];
-    let mut image = [0u64; ROOM];
-    let mut txn = [0u64; WORDS];
+fn call_with(bench: &mut Bench, code: u64, set: u64) {
     let number = number_for(code, set);
-    fields::set_start(&mut record, 0);
-    edges::prepare(&mut record, &mut image, number, held(code, set));
-    spoil(set, &mut record, &mut image, number);
-    txn_for(set, &mut txn);
-    edges::probe(
-        edges::small(),
-        lengths_for(set),
-        &record,
-        &image,
-        code,
-        number,
-        &txn,
-        used_for(code),
-        tally,
-    )
+    edges::start(bench);
+    edges::prepare(bench, number, held(code, set));
+    spoil_arguments(bench, set);
+    spoil_state(bench, set, number);
+    let mut used = 4;
+    if code == second::FORMAT {
+        used = 2;
+    }
+    edges::probe(bench, code, number, used);
+    edges::expect(bench, lowest(set));
 }
 
-// The set is tried where the call knows all its causes.
-fn set_case(code: u64, set: u64, tally: &mut [u64; 32]) {
+// Each call with each set of which it knows all causes.
+pub(crate) fn every_set(bench: &mut Bench, i: u64) {
+    let code = i / 1024 + 1;
+    let set = i % 1024 * 2;
     if set & known(code) == set {
-        let reply = call_with(code, set, tally);
-        session::expect(reply, lowest(set), tally);
-    }
-}
-
-fn sets(code: u64, tally: &mut [u64; 32]) {
-    for i in 0..1024 {
-        set_case(code, 2 * i, tally);
-    }
-}
-
-pub(crate) fn every_set(tally: &mut [u64; 32]) {
-    for code in 1..9 {
-        sets(code, tally);
+        call_with(bench, code, set);
     }
 }
 
 // ---- refusal 9. Lane 0's log has a sequence of two entries at slots 10 to 12 with timestamp 4, and one of an entry at slot 33 and timestamp 10 at slot 0, over the wrap.
-fn put_entry(image: &mut [u64; ROOM], slot: u64, wrap: u64) {
-    let at = reading::place(session::shape(edges::small()), 0, slot);
-    put(image, at, reading::entry_address(1, 5, wrap));
-    put(image, plus(at, 1), reading::entry_value(5, wrap));
-}
-
-fn put_stamp(image: &mut [u64; ROOM], slot: u64, count: u64, stamp: u64) {
-    let at = reading::place(session::shape(edges::small()), 0, slot);
-    put(image, at, reading::stamp_address(count, 0));
-    put(image, plus(at, 1), reading::stamp_value(stamp, 0));
-}
-
-// A lane's floor; 0 is none.
-fn put_floor(record: &mut [u64; 322], lane: u64, floor: u64) {
-    if floor != 0 {
-        set_field(record, lane, fields::FLOORED, 1);
-        set_field(record, lane, fields::FLOOR, floor);
-    }
-}
-
-fn two_sequences(image: &mut [u64; ROOM]) {
-    put_entry(image, 10, 0);
-    put_entry(image, 11, 0);
-    put_stamp(image, 12, 2, 4);
-    put_entry(image, 33, 1);
-    put_stamp(image, 0, 1, 10);
+// The entries are of word 1, old value 5.
+fn two_sequences(bench: &mut Bench) {
+    edges::put_slot(bench, 0, 10, 18, 4);
+    edges::put_slot(bench, 0, 11, 18, 4);
+    edges::put_slot(bench, 0, 12, 32784, 4);
+    edges::put_slot(bench, 0, 33, 19, 5);
+    edges::put_slot(bench, 0, 0, 32776, 10);
 }
 
 // Would the call write slot `slot`, where it appends `count` from `next` on?
@@ -216,60 +167,61 @@ fn hits(next: u64, count: u64, other: u64) -> bool {
     let older = writes_slot(next, count, 10)
         || writes_slot(next, count, 11)
         || writes_slot(next, count, 12);
-    newer || (older && 1 <= other && other <= 4)
+    newer || (older && other <= 4)
+}
+
+fn three_sets(bench: &mut Bench) {
+    set_row(bench, TXN, 0, 1, 0, 0, 3);
+    set_row(bench, TXN, 1, 1, 1, 0, 3);
+    set_row(bench, TXN, 2, 1, 0, 0, 4);
+}
+
+// The state of a case: lane 0's next slot, its floor and the other lane's, at clock 20.
+fn set_case(bench: &mut Bench, next: u64, own: u64, other: u64) {
+    edges::start(bench);
+    three_sets(bench);
+    two_sequences(bench);
+    fields::set_time(bench, 20, 20);
+    fields::set_log(bench, 0, next, 1, own);
+    fields::set_log(bench, 1, 0, 1, other);
 }
 
 // A Mark, or a Log of `writes` SETs.
-fn append(next: u64, own: u64, other: u64, writes: u64, tally: &mut [u64; 32]) {
-    let mut record = [0u64; 322];
-    let mut image = [0u64; ROOM];
-    let mut txn = [0u64; WORDS];
-    instruct(&mut txn, 0, 1, 0, 0, 3);
-    instruct(&mut txn, 1, 1, 1, 0, 3);
-    instruct(&mut txn, 2, 1, 0, 0, 4);
+fn append(bench: &mut Bench, next: u64, other: u64, writes: u64) {
     let mut code = second::LOG;
     if writes == 0 {
         code = second::MARK;
     }
-    fields::set_start(&mut record, 20);
-    two_sequences(&mut image);
-    set_field(&mut record, 0, fields::NEXT, next);
-    put_floor(&mut record, 0, own);
-    put_floor(&mut record, 1, other);
-    let lengths = session::lengths(edges::small());
-    let used = 4 * (writes % 4);
-    let reply = edges::probe(
-        edges::small(),
-        lengths,
-        &record,
-        &image,
-        code,
-        0,
-        &txn,
-        used,
-        tally,
-    );
-    let refused = session::number_in(reply) == 9;
-    session::expect_that(refused == hits(next, plus(writes, 1), other), tally);
+    edges::probe(bench, code, 0, writes << 2);
+    let refused = session::refusal(bench) == 9;
+    session::expect(bench, refused == hits(next, plus(writes, 1), other));
 }
 
-fn append_case(next: u64, other: u64, tally: &mut [u64; 32]) {
-    append(next, 0, other, 0, tally);
-    append(next, 2, other, 0, tally);
-    append(next, 2, other, 1, tally);
-    append(next, 0, other, 3, tally);
-}
-
-fn appends(other: u64, tally: &mut [u64; 32]) {
-    for next in 0..34 {
-        append_case(next, other, tally);
+// None, below, at, and above the older sequence's timestamp.
+fn floor_case(i: u64) -> u64 {
+    match i {
+        0 => fields::NONE,
+        _ => i << 1,
     }
 }
 
-// The other lane's floor: none, below, at, and above the older sequence's timestamp.
-pub(crate) fn overwriting(tally: &mut [u64; 32]) {
-    appends(0, tally);
-    appends(2, tally);
-    appends(4, tally);
-    appends(6, tally);
+// How many writes: none for a Mark.
+fn writes_case(i: u64) -> u64 {
+    match i {
+        2 => 1,
+        3 => 3,
+        _ => 0,
+    }
+}
+
+// The other lane's floor in four ways, each slot, and four appends: a Mark with and without a floor of its own, a Log of one write and one of three.
+pub(crate) fn overwriting(bench: &mut Bench, i: u64) {
+    let other = floor_case(i / 136);
+    let next = i / 4 % 34;
+    let mut own = fields::NONE;
+    if i % 4 == 1 || i % 4 == 2 {
+        own = 2;
+    }
+    set_case(bench, next, own, other);
+    append(bench, next, other, writes_case(i % 4));
 }

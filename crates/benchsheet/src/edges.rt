@@ -1,478 +1,390 @@
 // Both sides of the ends of each range, one call a case, on a small store of two lanes unless the case is about sizes. Where 01 gives the number of the refusal, it is expected too.
-use crate::convert;
 use crate::print;
 use crate::second;
-use crate::second::Lengths;
-use crate::second::Reply;
 use crate::second::fields;
-use crate::second::fields::set_field;
 use crate::second::reading;
+use crate::second::restart;
 use crate::session;
-use crate::session::Session;
+use crate::words::Bench;
+use crate::words::CACHE;
+use crate::words::FLAGS;
 use crate::words::MOST;
-use crate::words::ROOM;
+use crate::words::NVM;
+use crate::words::RECORD;
+use crate::words::STATE;
+use crate::words::TXN;
 use crate::words::WORDS;
-use crate::words::copy_image;
-use crate::words::instruct;
+use crate::words::clear;
+use crate::words::copy;
+use crate::words::get;
 use crate::words::minus;
+use crate::words::only;
 use crate::words::plus;
 use crate::words::put;
-use crate::words::times;
-use image::Sizes;
+use crate::words::set_row;
 
-fn sizes_of(words: u64, lanes: u64, slots: u64) -> Sizes {
-    Sizes {
-        words: words as usize,
-        lanes: lanes as usize,
-        slots: slots as usize,
-    }
+// An empty store of W 2, T 2, N 34, whose image has 139 words, and a transaction that sets word 0 to 3.
+pub(crate) fn start(bench: &mut Bench) {
+    session::set_sizes(bench, 2, 2, 34);
+    session::fit(bench);
+    clear(bench, CACHE, 5122);
+    clear(bench, FLAGS, 5122);
+    clear(bench, TXN, 1025);
+    fields::set_start(bench, 0);
+    set_row(bench, TXN, 0, 1, 0, 0, 3);
 }
 
-// W 2, T 2, N 34: an image of 139 words.
-pub(crate) fn small() -> Sizes {
-    sizes_of(2, 2, 34)
+// A call. Non-volatile memory lags behind the cache by data word 0, which every lane has flushed.
+pub(crate) fn probe(bench: &mut Bench, code: u64, number: u64, used: u64) {
+    copy(bench, CACHE, NVM, 0, 5122);
+    put(bench, NVM, 1, 9);
+    put(bench, FLAGS, 1, 255);
+    session::call_with(bench, code, number, used);
 }
 
-fn lag(nvm: &mut [u64; ROOM], flags: &mut [u8; ROOM]) {
-    nvm[1] = 9;
-    flags[1] = 255;
+// Counts a difference unless the call was refused with this number, or not at all where it is 0.
+pub(crate) fn expect(bench: &mut Bench, number: u64) {
+    session::expect(bench, session::refusal(bench) == number);
 }
 
-// A call on this record and this image. Non-volatile memory lags behind the cache by data word 0, which every lane has flushed.
-pub(crate) fn probe(
-    sizes: Sizes,
-    lengths: Lengths,
-    record: &[u64; 322],
-    image: &[u64; ROOM],
-    code: u64,
-    number: u64,
-    words: &[u64; WORDS],
-    used: u64,
-    tally: &mut [u64; 32],
-) -> Reply {
-    let mut cache = [0u64; ROOM];
-    let mut nvm = [0u64; ROOM];
-    let mut flags = [0u8; ROOM];
-    copy_image(image, &mut cache);
-    copy_image(image, &mut nvm);
-    lag(&mut nvm, &mut flags);
-    let session = Session {
-        sizes,
-        state: convert::from_words(record),
-        reply: second::plain(second::DONE),
-    };
-    let after = session::call_with(
-        session,
-        lengths,
-        code,
-        number,
-        words,
-        used,
-        &mut cache,
-        &mut nvm,
-        &mut flags,
-        tally,
-    );
-    after.reply
+// A call at an edge, printed with what stands there.
+fn probe_at(bench: &mut Bench, code: u64, number: u64, refusal: u64, what: &[u8], n: u64) {
+    probe(bench, code, number, 4);
+    expect(bench, refusal);
+    print::edge(bench, what, n);
 }
 
-// The clock is 8, and in a lane's log there is one sequence: an entry of word 0 with old value 0, and timestamp 2. The transaction set word 0 to 3, and is logged where `held` is set.
-pub(crate) fn prepare(record: &mut [u64; 322], image: &mut [u64; ROOM], lane: u64, held: bool) {
-    let at = reading::place(session::shape(small()), lane, 0);
-    put(image, at, reading::entry_address(0, 0, 1));
-    put(image, plus(at, 1), reading::entry_value(0, 1));
-    put(image, plus(at, 2), reading::stamp_address(1, 1));
-    put(image, plus(at, 3), reading::stamp_value(2, 1));
-    put(record, fields::CLOCK, 8);
-    set_field(record, lane, fields::NEXT, 2);
-    set_field(record, lane, fields::PRESENT, 1);
-    set_field(record, lane, fields::FLOORED, 1);
-    set_field(record, lane, fields::FLOOR, 2);
+// The two words of a slot in the cached log.
+pub(crate) fn put_slot(bench: &mut Bench, lane: u64, slot: u64, address: u64, value: u64) {
+    let at = reading::place(bench, lane, slot);
+    put(bench, CACHE, at, address);
+    put(bench, CACHE, plus(at, 1), value);
+}
+
+// The lane holds that transaction.
+fn hold(bench: &mut Bench, lane: u64) {
+    fields::set_held(bench, lane, 1, 0, 1, 2);
+    set_row(bench, RECORD, fields::pair(lane, 0), 0, 0, 3, 0);
+}
+
+// The clock is 8, and in a lane's log there is one sequence, with wrap bit 1: an entry of word 0 with old value 0, and timestamp 2. The transaction set word 0 to 3, and is logged
+// where `held` is set.
+pub(crate) fn prepare(bench: &mut Bench, lane: u64, held: bool) {
+    put_slot(bench, lane, 0, 9, 1);
+    put_slot(bench, lane, 1, 32777, 3);
+    fields::set_time(bench, 8, 0);
+    fields::set_log(bench, lane, 2, 1, 2);
     if held {
-        hold(record, lane);
+        hold(bench, lane);
     }
 }
 
-fn hold(record: &mut [u64; 322], lane: u64) {
-    set_field(record, lane, fields::HELD, 1);
-    set_field(record, lane, fields::COUNT, 1);
-    set_field(record, lane, fields::STAMPED, 2);
-    fields::set_pair(record, lane, 0, 0, 3);
+// A start with a lane prepared for a call.
+fn start_for(bench: &mut Bench, code: u64, lane: u64) {
+    start(bench);
+    prepare(bench, lane, second::commits(code));
 }
 
-fn edit_record(record: &mut [u64; 322], place: u64, word: u64) {
-    put(record, place, word);
-}
-
-// A transaction that sets word 0 to 3.
-fn one_set() -> [u64; WORDS] {
-    let mut txn = [0u64; WORDS];
-    instruct(&mut txn, 0, 1, 0, 0, 3);
-    txn
-}
-
-// Does the call want a logged transaction?
-pub(crate) fn commits(code: u64) -> bool {
-    code == second::REDO || code == second::VALIDATE
-}
-
-// A call on a prepared lane of the small store; `edit` is put into the record's word `place`.
-fn probe_edited(
-    code: u64,
-    lane: u64,
-    number: u64,
-    place: u64,
-    edit: u64,
-    words: &[u64; WORDS],
-    used: u64,
-    tally: &mut [u64; 32],
-) -> Reply {
-    let mut record = [0u64; 322];
-    let mut image = [0u64; ROOM];
-    fields::set_start(&mut record, 0);
-    prepare(&mut record, &mut image, lane, commits(code));
-    edit_record(&mut record, place, edit);
-    let lengths = session::lengths(small());
-    probe(
-        small(),
-        lengths,
-        &record,
-        &image,
-        code,
-        number,
-        words,
-        used,
-        tally,
-    )
-}
-
-// The same with the clock unedited and a transaction that sets word 0 to 3.
-fn probe_plain(code: u64, lane: u64, number: u64, tally: &mut [u64; 32]) -> Reply {
-    let txn = one_set();
-    probe_edited(code, lane, number, fields::CLOCK, 8, &txn, 4, tally)
-}
-
-// ---- sizes. The first seven are in range.
-fn size_case(i: u64) -> Sizes {
+// ---- sizes. The first seven cases are in range.
+fn words_case(i: u64) -> u64 {
     match i {
-        0 => sizes_of(1, 1, 34),
-        1 => sizes_of(1024, 1, 34),
-        2 => sizes_of(1, 8, 34),
-        3 => sizes_of(1, 1, 256),
-        4 => sizes_of(1024, 8, 256),
-        5 => sizes_of(1023, 7, 255),
-        6 => sizes_of(2, 2, 35),
-        7 => sizes_of(0, 1, 34),
-        8 => sizes_of(1025, 1, 34),
-        9 => sizes_of(1, 0, 34),
-        10 => sizes_of(1, 9, 34),
-        11 => sizes_of(1, 1, 33),
-        12 => sizes_of(1, 1, 257),
-        13 => sizes_of(MOST, 1, 34),
-        14 => sizes_of(1, MOST, 34),
-        _ => sizes_of(1, 1, MOST),
+        1 | 4 => 1024,
+        5 => 1023,
+        6 => 2,
+        7 => 0,
+        8 => 1025,
+        13 => MOST,
+        _ => 1,
     }
 }
 
-// Lane 0, word 0, or no limit.
-fn number_for(code: u64) -> u64 {
-    if code == second::RECOVER {
-        return MOST;
+fn lanes_case(i: u64) -> u64 {
+    match i {
+        2 | 4 => 8,
+        5 => 7,
+        6 => 2,
+        9 => 0,
+        10 => 9,
+        14 => MOST,
+        _ => 1,
     }
-    0
 }
 
-// As many words as Format wants, or a transaction of four.
-fn used_for(code: u64, sizes: Sizes) -> u64 {
+fn slots_case(i: u64) -> u64 {
+    match i {
+        3 | 4 => 256,
+        5 => 255,
+        6 => 35,
+        11 => 33,
+        12 => 257,
+        15 => MOST,
+        _ => 34,
+    }
+}
+
+fn set_size_case(bench: &mut Bench, i: u64) {
+    session::set_sizes(bench, words_case(i), lanes_case(i), slots_case(i));
+    session::fit(bench);
+}
+
+// Lane 0, word 0, or no limit; as many words as Format wants, or a transaction of four.
+fn probe_empty(bench: &mut Bench, code: u64) {
+    let mut used = 4;
     if code == second::FORMAT {
-        return sizes.words as u64;
+        used = get(bench, STATE, WORDS);
     }
-    4
+    probe(bench, code, only(code == second::RECOVER, MOST), used);
 }
 
-// A call on an empty store.
-fn probe_empty(
-    sizes: Sizes,
-    lengths: Lengths,
-    code: u64,
-    used: u64,
-    tally: &mut [u64; 32],
-) -> Reply {
-    let mut record = [0u64; 322];
-    let image = [0u64; ROOM];
-    let words = one_set();
-    fields::set_start(&mut record, 0);
-    let number = number_for(code);
-    probe(
-        sizes,
-        lengths,
-        &record,
-        &image,
-        code,
-        number,
-        &words,
-        used,
-        tally,
-    )
-}
-
-fn every_call(sizes: Sizes, bad: bool, tally: &mut [u64; 32]) {
-    for code in 1..9 {
-        let used = used_for(code, sizes);
-        let reply = probe_empty(sizes, session::lengths(sizes), code, used, tally);
-        session::expect_that((session::number_in(reply) == 1) == bad, tally);
-        if code == second::FORMAT {
-            print::sizes(sizes, reply);
-        }
+// Each size case with each call.
+pub(crate) fn sizes(bench: &mut Bench, i: u64) {
+    let code = i % 8 + 1;
+    start(bench);
+    set_size_case(bench, i / 8);
+    probe_empty(bench, code);
+    session::expect(bench, (session::refusal(bench) == 1) == (56 <= i));
+    if code == second::FORMAT {
+        print::sizes(bench);
     }
 }
 
-pub(crate) fn sizes(tally: &mut [u64; 32]) {
-    for i in 0..16 {
-        every_call(size_case(i), 7 <= i, tally);
-    }
-}
-
-// ---- buffers. One of them is a word too short or too long.
-fn length_case(i: u64, all: u64) -> Lengths {
-    let wrong = minus(plus(all, 2 * (i % 2)), 1);
+// ---- buffers. One of them is a word too short or too long; with each call. Then Format with 1, 2 and 3 start words.
+fn wrong_length(bench: &mut Bench, i: u64) {
+    let all = restart::length(bench);
+    let wrong = minus(plus(all, i % 2 * 2), 1);
     match i / 2 {
-        0 => Lengths {
-            cache: wrong,
-            nvm: all,
-            flags: all,
-        },
-        1 => Lengths {
-            cache: all,
-            nvm: wrong,
-            flags: all,
-        },
-        _ => Lengths {
-            cache: all,
-            nvm: all,
-            flags: wrong,
-        },
+        0 => session::set_lengths(bench, wrong, all, all),
+        1 => session::set_lengths(bench, all, wrong, all),
+        _ => session::set_lengths(bench, all, all, wrong),
     }
 }
 
-fn wrong_lengths(i: u64, tally: &mut [u64; 32]) {
-    let sizes = small();
-    let lengths = length_case(i, session::length(sizes));
-    for code in 1..9 {
-        let used = used_for(code, sizes);
-        let reply = probe_empty(sizes, lengths, code, used, tally);
-        session::expect(reply, 1, tally);
+pub(crate) fn buffers(bench: &mut Bench, i: u64) {
+    start(bench);
+    if i < 48 {
+        wrong_length(bench, i / 8);
+        probe_empty(bench, i % 8 + 1);
+        expect(bench, 1);
+    } else {
+        probe(bench, second::FORMAT, 0, i - 47);
+        expect(bench, only(i != 49, 1));
     }
-}
-
-fn start_words(used: u64, number: u64, tally: &mut [u64; 32]) {
-    let lengths = session::lengths(small());
-    let reply = probe_empty(small(), lengths, second::FORMAT, used, tally);
-    session::expect(reply, number, tally);
-}
-
-pub(crate) fn buffers(tally: &mut [u64; 32]) {
-    for i in 0..6 {
-        wrong_lengths(i, tally);
-    }
-    start_words(1, 1, tally);
-    start_words(2, 0, tally);
-    start_words(3, 1, tally);
 }
 
 // ---- words and lanes
-fn write_back(word: u64, number: u64, tally: &mut [u64; 32]) {
-    let reply = probe_plain(second::WRITE_BACK, 0, word, tally);
-    session::expect(reply, number, tally);
-    print::edge(second::WRITE_BACK, b", word ", word, reply);
-}
-
-pub(crate) fn words(tally: &mut [u64; 32]) {
-    write_back(0, 0, tally);
-    write_back(138, 0, tally);
-    write_back(139, 4, tally);
-    write_back(MOST, 4, tally);
-}
-
-fn lane(number: u64, refusal: u64, tally: &mut [u64; 32]) {
-    for code in 1..6 {
-        let reply = probe_plain(code, number, number, tally);
-        session::expect(reply, refusal, tally);
-        print::edge(code, b", lane ", number, reply);
+fn word_case(i: u64) -> u64 {
+    match i {
+        0 => 0,
+        1 => 138,
+        2 => 139,
+        _ => MOST,
     }
 }
 
-pub(crate) fn lanes(tally: &mut [u64; 32]) {
-    lane(1, 0, tally);
-    lane(2, 3, tally);
-    lane(MOST, 3, tally);
+pub(crate) fn words(bench: &mut Bench, i: u64) {
+    start_for(bench, second::WRITE_BACK, 0);
+    let word = word_case(i);
+    probe_at(
+        bench,
+        second::WRITE_BACK,
+        word,
+        only(2 <= i, 4),
+        b", word ",
+        word,
+    );
+}
+
+fn lane_case(i: u64) -> u64 {
+    match i {
+        0 => 1,
+        1 => 2,
+        _ => MOST,
+    }
+}
+
+// Each lane case with each call on a lane.
+pub(crate) fn lanes(bench: &mut Bench, i: u64) {
+    let code = i % 5 + 1;
+    let lane = lane_case(i / 5);
+    start_for(bench, code, lane);
+    probe_at(bench, code, lane, only(5 <= i, 3), b", lane ", lane);
 }
 
 // ---- transactions
-fn put_sets(txn: &mut [u64; WORDS]) {
+fn put_sets(bench: &mut Bench) {
     for at in 0..20 {
-        instruct(txn, at, 1, 0, 0, 3);
+        set_row(bench, TXN, at, 1, 0, 0, 3);
     }
+}
+
+fn is_bad_length(used: u64) -> bool {
+    used % 4 != 0 || used < 4 || 64 < used
 }
 
 // A transaction of so many words of SETs.
-fn length_of_txn(code: u64, used: u64, tally: &mut [u64; 32]) {
-    let mut txn = [0u64; WORDS];
-    put_sets(&mut txn);
-    let reply = probe_edited(code, 0, 0, fields::CLOCK, 8, &txn, used, tally);
-    let bad = used % 4 != 0 || used < 4 || 64 < used;
-    session::expect_that((session::number_in(reply) == 5) == bad, tally);
+fn length_of_txn(bench: &mut Bench, code: u64, used: u64) {
+    start_for(bench, code, 0);
+    put_sets(bench);
+    probe(bench, code, 0, used);
+    session::expect(bench, (session::refusal(bench) == 5) == is_bad_length(used));
     if used == 64 || used == 68 {
-        print::edge(code, b", instructions ", used / 4, reply);
+        print::edge(bench, b", instructions ", used / 4);
     }
 }
 
-fn lengths_of_txns(code: u64, tally: &mut [u64; 32]) {
-    for used in 0..70 {
-        length_of_txn(code, used, tally);
-    }
-}
-
-// An operand: 0, below W, W, or far from it; and then k at its ends.
+// An operand: 0, below W, W, or far from it; and k at its ends.
 fn operand_case(i: u64) -> u64 {
     match i {
-        0 => 0,
-        1 => 1,
-        2 => 2,
-        _ => MOST,
+        3 => MOST,
+        _ => i,
     }
 }
 
 fn k_case(i: u64) -> u64 {
     match i {
-        0 => 0,
-        1 => 1,
-        2 => 2,
         3 => 15,
         4 => 16,
-        _ => MOST,
+        5 => MOST,
+        _ => i,
     }
 }
 
-// An instruction with each field at its ends, last in its transaction or followed by one or fifteen SETs.
-fn instruction_case(i: u64, used: u64, tally: &mut [u64; 32]) {
-    let mut txn = [0u64; WORDS];
-    put_sets(&mut txn);
+// An instruction of codes 0 to 6 with each field at its ends, last in its transaction or followed by one or fifteen SETs.
+fn instruction_case(bench: &mut Bench, i: u64, used: u64) {
+    start_for(bench, second::LOG, 0);
+    put_sets(bench);
     let a = operand_case(i % 4);
     let b = operand_case(i / 4 % 4);
-    let k = k_case(i / 16 % 6);
-    instruct(&mut txn, 0, i / 96, a, b, k);
-    probe_edited(second::LOG, 0, 0, fields::CLOCK, 8, &txn, used, tally);
+    set_row(bench, TXN, 0, i / 96, a, b, k_case(i / 16 % 6));
+    probe(bench, second::LOG, 0, used);
 }
 
-// Codes 0 to 6.
-fn instructions(used: u64, tally: &mut [u64; 32]) {
-    for i in 0..672 {
-        instruction_case(i, used, tally);
+// 0 to 69 words for Log and for Validate, then 672 instructions three times.
+pub(crate) fn txns(bench: &mut Bench, i: u64) {
+    if i < 70 {
+        length_of_txn(bench, second::LOG, i);
+    } else if i < 140 {
+        length_of_txn(bench, second::VALIDATE, i - 70);
+    } else if i < 812 {
+        instruction_case(bench, i - 140, 4);
+    } else if i < 1484 {
+        instruction_case(bench, i - 812, 8);
+    } else {
+        instruction_case(bench, i - 1484, 64);
     }
-}
-
-pub(crate) fn txns(tally: &mut [u64; 32]) {
-    lengths_of_txns(second::LOG, tally);
-    lengths_of_txns(second::VALIDATE, tally);
-    instructions(4, tally);
-    instructions(8, tally);
-    instructions(64, tally);
 }
 
 // ---- the clock
-fn clock_case(code: u64, clock: u64, number: u64, tally: &mut [u64; 32]) {
-    let txn = one_set();
-    let reply = probe_edited(code, 0, 0, fields::CLOCK, clock, &txn, 4, tally);
-    session::expect(reply, number, tally);
-    print::edge(code, b", clock ", clock, reply);
+const LATE: u64 = 18446744073709551612;
+
+const END: u64 = 18446744073709551614;
+
+fn clock_case(bench: &mut Bench, code: u64, clock: u64, number: u64) {
+    start_for(bench, code, 0);
+    put(bench, RECORD, fields::CLOCK, clock);
+    probe_at(bench, code, 0, number, b", clock ", clock);
 }
 
 // A Log that writes nothing takes no timestamp: the SKIP passes over the SET.
-fn no_writes(clock: u64, tally: &mut [u64; 32]) {
-    let mut txn = [0u64; WORDS];
-    instruct(&mut txn, 0, 5, 0, 1, 1);
-    instruct(&mut txn, 1, 1, 0, 0, 3);
-    let reply = probe_edited(second::LOG, 0, 0, fields::CLOCK, clock, &txn, 8, tally);
-    session::expect(reply, 0, tally);
-    print::edge(second::LOG, b" without writes, clock ", clock, reply);
+fn no_writes(bench: &mut Bench) {
+    start_for(bench, second::LOG, 0);
+    put(bench, RECORD, fields::CLOCK, END);
+    put_skip(bench);
+    probe(bench, second::LOG, 0, 8);
+    expect(bench, 0);
+    print::edge(bench, b" without writes, clock ", END);
 }
 
-pub(crate) fn clocks(tally: &mut [u64; 32]) {
-    for code in 1..5 {
-        clock_case(code, 18446744073709551612, 0, tally);
-        clock_case(code, 18446744073709551614, 8, tally);
+fn put_skip(bench: &mut Bench) {
+    set_row(bench, TXN, 0, 5, 0, 1, 1);
+    set_row(bench, TXN, 1, 1, 0, 0, 3);
+}
+
+pub(crate) fn clocks(bench: &mut Bench, i: u64) {
+    if i == 8 {
+        no_writes(bench);
+    } else if i % 2 == 0 {
+        clock_case(bench, i / 2 + 1, LATE, 0);
+    } else {
+        clock_case(bench, i / 2 + 1, END, 8);
     }
-    no_writes(18446744073709551614, tally);
 }
 
-// ---- the record. Each case puts one field out of its range; the last two are in range: a pair past the count, and a floor at the clock.
-fn bad_field(lane: u64, case: u64, edit: &mut [u64; 2]) {
-    let at = plus(2, times(40, lane));
+// ---- the record. Each of twelve cases puts one field out of its range; the last two are in range: a pair past the count, and a floor at the clock.
+fn field_case(i: u64) -> u64 {
+    match i {
+        0 => fields::NEXT,
+        1 => fields::PRESENT,
+        4 => fields::FIRST,
+        5 | 6 => fields::COUNT,
+        7 | 8 => fields::STAMPED,
+        9 => 1024,
+        10 => 1028,
+        _ => fields::FLOOR,
+    }
+}
+
+fn value_case(i: u64) -> u64 {
+    match i {
+        0 | 4 => 34,
+        2 => 1,
+        3 | 8 => 10,
+        5 => 0,
+        6 => 17,
+        7 => 3,
+        11 => 8,
+        _ => 2,
+    }
+}
+
+// A field of a lane, or a word of its first two pairs, which stand 64 words apart too.
+fn edit_field(bench: &mut Bench, lane: u64, case: u64) {
+    put(
+        bench,
+        RECORD,
+        lane << 6 | field_case(case),
+        value_case(case),
+    );
+}
+
+// Then the clock odd, and last commits odd, above the clock and at it.
+fn edit_time(bench: &mut Bench, case: u64) {
     match case {
-        0 => place_edit(edit, plus(at, fields::NEXT), 34),
-        1 => place_edit(edit, plus(at, fields::PRESENT), 2),
-        2 => place_edit(edit, plus(at, fields::FLOOR), 1),
-        3 => place_edit(edit, plus(at, fields::FLOOR), 10),
-        4 => place_edit(edit, plus(at, fields::FIRST), 34),
-        5 => place_edit(edit, plus(at, fields::COUNT), 0),
-        6 => place_edit(edit, plus(at, fields::COUNT), 17),
-        7 => place_edit(edit, plus(at, fields::STAMPED), 3),
-        8 => place_edit(edit, plus(at, fields::STAMPED), 10),
-        9 => place_edit(edit, plus(at, fields::PAIRS), 2),
-        10 => place_edit(edit, plus(at, plus(fields::PAIRS, 2)), 2),
-        _ => place_edit(edit, plus(at, fields::FLOOR), 8),
+        0 => put(bench, RECORD, fields::CLOCK, 9),
+        1 => put(bench, RECORD, fields::LAST, 1),
+        2 => put(bench, RECORD, fields::LAST, 10),
+        _ => put(bench, RECORD, fields::LAST, 8),
     }
 }
 
-fn place_edit(edit: &mut [u64; 2], at: u64, word: u64) {
-    edit[0] = at;
-    edit[1] = word;
+fn edit(bench: &mut Bench, case: u64) {
+    if case < 36 {
+        edit_field(bench, case / 12, case % 12);
+    } else {
+        edit_time(bench, case - 36);
+    }
+}
+
+// Is the record out of range? Lane 2 is not in use.
+fn is_bad(case: u64) -> bool {
+    if case < 24 {
+        return case % 12 < 10;
+    }
+    36 <= case && case < 39
 }
 
 // All lanes of the small store, and one that is not in use, hold a transaction.
-fn probe_record(code: u64, place: u64, word: u64, number: u64, tally: &mut [u64; 32]) {
-    let mut record = [0u64; 322];
-    let mut image = [0u64; ROOM];
-    let txn = one_set();
-    fields::set_start(&mut record, 0);
-    prepare(&mut record, &mut image, 0, true);
-    prepare(&mut record, &mut image, 1, true);
-    prepare(&mut record, &mut image, 2, true);
-    edit_record(&mut record, place, word);
-    let lengths = session::lengths(small());
-    let reply = probe(small(), lengths, &record, &image, code, 0, &txn, 4, tally);
-    session::expect_that((session::number_in(reply) == 2) == (number == 2), tally);
+fn hold_all(bench: &mut Bench) {
+    prepare(bench, 0, true);
+    prepare(bench, 1, true);
+    prepare(bench, 2, true);
 }
 
-fn every_step(place: u64, word: u64, number: u64, tally: &mut [u64; 32]) {
-    for code in 1..6 {
-        probe_record(code, place, word, number, tally);
-    }
-}
-
-fn field_case(lane: u64, case: u64, tally: &mut [u64; 32]) {
-    let mut edit = [0u64; 2];
-    bad_field(lane, case, &mut edit);
-    let mut number = 0;
-    if lane < 2 && case < 10 {
-        number = 2;
-    }
-    every_step(edit[0], edit[1], number, tally);
-}
-
-fn field_cases(lane: u64, tally: &mut [u64; 32]) {
-    for case in 0..12 {
-        field_case(lane, case, tally);
-    }
-}
-
-pub(crate) fn records(tally: &mut [u64; 32]) {
-    field_cases(0, tally);
-    field_cases(1, tally);
-    field_cases(2, tally);
-    every_step(fields::CLOCK, 9, 2, tally);
-    every_step(fields::LAST, 1, 2, tally);
-    every_step(fields::LAST, 10, 2, tally);
-    every_step(fields::LAST, 8, 0, tally);
+// Each case with each call on a lane.
+pub(crate) fn records(bench: &mut Bench, i: u64) {
+    start(bench);
+    hold_all(bench);
+    edit(bench, i / 5);
+    probe(bench, i % 5 + 1, 0, 4);
+    session::expect(bench, (session::refusal(bench) == 2) == is_bad(i / 5));
 }

@@ -4,306 +4,223 @@ use crate::generator::once_in;
 use crate::generator::value;
 use crate::power;
 use crate::second;
+use crate::second::restart;
 use crate::session;
-use crate::session::Session;
+use crate::words::Bench;
+use crate::words::KEPT;
+use crate::words::LANES;
 use crate::words::MOST;
-use crate::words::ROOM;
+use crate::words::SEED;
+use crate::words::STATE;
+use crate::words::TXN;
 use crate::words::WORDS;
+use crate::words::clear;
 use crate::words::get;
 use crate::words::least;
 use crate::words::minus;
+use crate::words::only;
 use crate::words::plus;
 use crate::words::put;
 use crate::words::set_row;
-use crate::words::times;
-use image::Sizes;
 
-// Instruction `at` of `count`, well formed.
-fn make_instruction(seed: &mut [u64; 1], words: u64, txn: &mut [u64; WORDS], at: u64, count: u64) {
-    let after = minus(minus(count, at), 1);
-    let a = below(seed, words);
-    let b = below(seed, words);
-    let k = value(seed);
-    let distance = plus(1, below(seed, least(after, 15)));
-    match below(seed, 5) {
-        1 => set_row(txn, at, 2, a, b, 0),
-        2 => set_row(txn, at, 3, a, b, k),
-        3 => set_row(txn, at, 4, 0, b, k),
-        4 => {
-            if after == 0 {
-                set_row(txn, at, 1, a, 0, k);
-            } else {
-                set_row(txn, at, 5, 0, b, distance);
-            }
-        }
-        _ => set_row(txn, at, 1, a, 0, k),
+// SET, COPY, ADD, POKE or SKIP; a SKIP has an instruction after it.
+fn code_for(pick: u64, after: u64) -> u64 {
+    if pick == 4 && after == 0 {
+        return 1;
+    }
+    plus(pick, 1)
+}
+
+fn k_for(code: u64, k: u64, distance: u64) -> u64 {
+    match code {
+        2 => 0,
+        5 => distance,
+        _ => k,
     }
 }
 
-fn instructions(seed: &mut [u64; 1]) -> u64 {
-    if once_in(seed, 4) {
-        return plus(1, below(seed, 16));
+// Instruction `at`, well formed, with `after` instructions after it.
+fn make_instruction(bench: &mut Bench, at: u64, after: u64) {
+    let words = get(bench, STATE, WORDS);
+    let a = below(bench, words);
+    let b = below(bench, words);
+    let k = value(bench);
+    let distance = plus(1, below(bench, least(after, 15)));
+    let code = code_for(below(bench, 5), after);
+    set_row(
+        bench,
+        TXN,
+        at,
+        code,
+        only(code <= 3, a),
+        only(code != 1, b),
+        k_for(code, k, distance),
+    );
+}
+
+fn instructions(bench: &mut Bench) -> u64 {
+    if once_in(bench, 4) {
+        return plus(1, below(bench, 16));
     }
-    plus(1, below(seed, 4))
+    plus(1, below(bench, 4))
 }
 
 // A word that an instruction may not have there.
-fn damage(seed: &mut [u64; 1], words: u64) -> u64 {
-    match below(seed, 4) {
-        0 => words,
+fn damage(bench: &mut Bench) -> u64 {
+    match below(bench, 4) {
+        0 => get(bench, STATE, WORDS),
         1 => MOST,
         2 => 0,
-        _ => below(seed, 18),
+        _ => below(bench, 18),
     }
 }
 
 // Makes a transaction, now and then one that is damaged; its length in words.
-pub(crate) fn make_txn(seed: &mut [u64; 1], words: u64, txn: &mut [u64; WORDS]) -> u64 {
-    let count = instructions(seed);
+pub(crate) fn make_txn(bench: &mut Bench) -> u64 {
+    clear(bench, TXN, 1025);
+    let count = instructions(bench);
     for at in 0..count {
-        make_instruction(seed, words, txn, at, count);
+        make_instruction(bench, at, minus(count, plus(at, 1)));
     }
-    if once_in(seed, 12) {
-        let at = below(seed, times(4, count));
-        put(txn, at, damage(seed, words));
+    spoil_txn(bench, count << 2)
+}
+
+fn spoil_txn(bench: &mut Bench, length: u64) -> u64 {
+    if once_in(bench, 12) {
+        let at = below(bench, length);
+        let word = damage(bench);
+        put(bench, TXN, at, word);
     }
-    if once_in(seed, 50) {
-        return below(seed, 70);
+    if once_in(bench, 50) {
+        return below(bench, 70);
     }
-    times(4, count)
+    length
 }
 
 // A lane: mostly lane 0, so that its log wraps while others lag behind, and now and then none.
-fn pick_lane(seed: &mut [u64; 1], sizes: Sizes) -> u64 {
-    match below(seed, 128) {
-        0 => sizes.lanes as u64,
+fn pick_lane(bench: &mut Bench) -> u64 {
+    let lanes = get(bench, STATE, LANES);
+    match below(bench, 128) {
+        0 => lanes,
         1..=80 => 0,
-        _ => below(seed, sizes.lanes as u64),
+        _ => below(bench, lanes),
     }
 }
 
 // A Log of a new transaction; the seed that makes it again is kept for the lane.
-fn log(
-    session: Session,
-    seed: &mut [u64; 1],
-    kept: &mut [u64; 8],
-    lane: u64,
-    cache: &mut [u64; ROOM],
-    nvm: &mut [u64; ROOM],
-    flags: &mut [u8; ROOM],
-    tally: &mut [u64; 32],
-) -> Session {
-    let mut txn = [0u64; WORDS];
-    put(kept, lane, seed[0]);
-    let used = make_txn(seed, session.sizes.words as u64, &mut txn);
-    session::call(
-        session,
-        second::LOG,
-        lane,
-        &txn,
-        used,
-        cache,
-        nvm,
-        flags,
-        tally,
-    )
+fn log(bench: &mut Bench, lane: u64) {
+    let seed = get(bench, STATE, SEED);
+    put(bench, KEPT, lane, seed);
+    let used = make_txn(bench);
+    session::call(bench, second::LOG, lane, used);
 }
 
-// A Validate of the lane's transaction, now and then of another one.
-fn validate(
-    session: Session,
-    seed: &mut [u64; 1],
-    kept: &[u64; 8],
-    lane: u64,
-    cache: &mut [u64; ROOM],
-    nvm: &mut [u64; ROOM],
-    flags: &mut [u8; ROOM],
-    tally: &mut [u64; 32],
-) -> Session {
-    let mut txn = [0u64; WORDS];
-    let mut again = [get(kept, lane)];
-    if once_in(seed, 8) {
-        again[0] = value(seed);
+// The seed of the lane's transaction, now and then of another one; 1 where there is none yet.
+fn seed_again(bench: &mut Bench, lane: u64) -> u64 {
+    if once_in(bench, 8) {
+        return value(bench);
     }
-    let used = make_txn(&mut again, session.sizes.words as u64, &mut txn);
-    session::call(
-        session,
-        second::VALIDATE,
-        lane,
-        &txn,
-        used,
-        cache,
-        nvm,
-        flags,
-        tally,
-    )
+    let seed = get(bench, KEPT, lane);
+    if seed == 0 {
+        return 1;
+    }
+    seed
 }
 
-fn fill(seed: &mut [u64; 1], start: &mut [u64; WORDS]) {
+fn validate(bench: &mut Bench, lane: u64) {
+    let again = seed_again(bench, lane);
+    let seed = get(bench, STATE, SEED);
+    put(bench, STATE, SEED, again);
+    let used = make_txn(bench);
+    put(bench, STATE, SEED, seed);
+    session::call(bench, second::VALIDATE, lane, used);
+}
+
+// Format, with any start words.
+fn format(bench: &mut Bench) {
     for i in 0..1024 {
-        put(start, i, value(seed));
+        let word = value(bench);
+        put(bench, TXN, i, word);
     }
-}
-
-// Format again, with other start words.
-fn format(
-    session: Session,
-    seed: &mut [u64; 1],
-    cache: &mut [u64; ROOM],
-    nvm: &mut [u64; ROOM],
-    flags: &mut [u8; ROOM],
-    tally: &mut [u64; 32],
-) -> Session {
-    let mut start = [0u64; WORDS];
-    fill(seed, &mut start);
-    let words = session.sizes.words as u64;
-    session::call(
-        session,
-        second::FORMAT,
-        0,
-        &start,
-        words,
-        cache,
-        nvm,
-        flags,
-        tally,
-    )
+    let words = get(bench, STATE, WORDS);
+    session::call(bench, second::FORMAT, 0, words);
 }
 
 // Recovery without a failure before it; if it is cut, that is one.
-fn recover(
-    session: Session,
-    seed: &mut [u64; 1],
-    cache: &mut [u64; ROOM],
-    nvm: &mut [u64; ROOM],
-    flags: &mut [u8; ROOM],
-    tally: &mut [u64; 32],
-) -> Session {
-    let nothing = [0u64; WORDS];
-    let limit = below(seed, times(2, session::length(session.sizes)));
-    let now = session::call(
-        session,
-        second::RECOVER,
-        limit,
-        &nothing,
-        0,
-        cache,
-        nvm,
-        flags,
-        tally,
-    );
-    if now.reply.kind == second::CUT {
-        return power::recover(now, seed, cache, nvm, flags, tally);
+fn recover(bench: &mut Bench) {
+    let limit = below(bench, restart::length(bench) << 1);
+    session::call(bench, second::RECOVER, limit, 0);
+    if session::kind(bench) == second::CUT {
+        power::recover(bench);
     }
-    now
-}
-
-// The other calls, by their code: none takes a transaction.
-fn plain(
-    session: Session,
-    code: u64,
-    number: u64,
-    cache: &mut [u64; ROOM],
-    nvm: &mut [u64; ROOM],
-    flags: &mut [u8; ROOM],
-    tally: &mut [u64; 32],
-) -> Session {
-    let nothing = [0u64; WORDS];
-    session::call(session, code, number, &nothing, 0, cache, nvm, flags, tally)
 }
 
 // A start in the middle of a list: by a failure, by recovery, or by Format.
-fn restart(
-    session: Session,
-    seed: &mut [u64; 1],
-    lane: u64,
-    cache: &mut [u64; ROOM],
-    nvm: &mut [u64; ROOM],
-    flags: &mut [u8; ROOM],
-    tally: &mut [u64; 32],
-) -> Session {
-    match below(seed, 6) {
-        0 => format(session, seed, cache, nvm, flags, tally),
-        1 => recover(session, seed, cache, nvm, flags, tally),
-        _ => power::cut(session, seed, lane, cache, nvm, flags, tally),
+fn start(bench: &mut Bench, lane: u64) {
+    match below(bench, 6) {
+        0 => format(bench),
+        1 => recover(bench),
+        _ => power::cut(bench, lane),
+    }
+}
+
+// Which call is made how often.
+fn code_of(pick: u64) -> u64 {
+    match pick {
+        0..=23 => second::LOG,
+        24..=35 => second::VALIDATE,
+        36..=48 => second::REDO,
+        49..=50 => second::MARK,
+        51..=55 => second::DRAIN,
+        _ => second::WRITE_BACK,
+    }
+}
+
+fn step(bench: &mut Bench, lane: u64, word: u64) {
+    let code = code_of(below(bench, 64));
+    match code {
+        second::LOG => log(bench, lane),
+        second::VALIDATE => validate(bench, lane),
+        second::WRITE_BACK => session::call(bench, code, word, 0),
+        _ => session::call(bench, code, lane, 0),
     }
 }
 
 // One event of a list: once in `calm` times a start.
-fn event(
-    session: Session,
-    seed: &mut [u64; 1],
-    calm: u64,
-    kept: &mut [u64; 8],
-    cache: &mut [u64; ROOM],
-    nvm: &mut [u64; ROOM],
-    flags: &mut [u8; ROOM],
-    tally: &mut [u64; 32],
-) -> Session {
-    let lane = pick_lane(seed, session.sizes);
-    let word = below(seed, plus(session::length(session.sizes), 1));
-    if once_in(seed, calm) {
-        return restart(session, seed, lane, cache, nvm, flags, tally);
-    }
-    match below(seed, 64) {
-        0..=23 => log(session, seed, kept, lane, cache, nvm, flags, tally),
-        24..=35 => validate(session, seed, kept, lane, cache, nvm, flags, tally),
-        36..=48 => plain(session, second::REDO, lane, cache, nvm, flags, tally),
-        49..=50 => plain(session, second::MARK, lane, cache, nvm, flags, tally),
-        51..=55 => plain(session, second::DRAIN, lane, cache, nvm, flags, tally),
-        _ => plain(session, second::WRITE_BACK, word, cache, nvm, flags, tally),
+fn event(bench: &mut Bench, calm: u64) {
+    let lane = pick_lane(bench);
+    let word = below(bench, plus(restart::length(bench), 1));
+    if once_in(bench, calm) {
+        start(bench, lane);
+    } else {
+        step(bench, lane, word);
     }
 }
 
 // A list of 1,000 events.
-fn list(seed: &mut [u64; 1], sizes: Sizes, calm: u64, tally: &mut [u64; 32]) {
-    let mut cache = [0u64; ROOM];
-    let mut nvm = [0u64; ROOM];
-    let mut flags = [0u8; ROOM];
-    let mut kept = [1u64; 8];
-    let start = session::fresh(sizes);
-    let mut session = format(start, seed, &mut cache, &mut nvm, &mut flags, tally);
+fn list(bench: &mut Bench, calm: u64) {
+    clear(bench, KEPT, 9);
+    format(bench);
     for _ in 0..1000u64 {
-        session = event(
-            session,
-            seed,
-            calm,
-            &mut kept,
-            &mut cache,
-            &mut nvm,
-            &mut flags,
-            tally,
-        );
+        event(bench, calm);
     }
 }
 
 // Sizes at which logs wrap often.
-pub(crate) fn small_sizes(seed: &mut [u64; 1]) -> Sizes {
-    Sizes {
-        words: plus(1, below(seed, 6)) as usize,
-        lanes: plus(1, below(seed, 3)) as usize,
-        slots: plus(34, below(seed, 7)) as usize,
-    }
+pub(crate) fn small_sizes(bench: &mut Bench) {
+    let words = plus(1, below(bench, 6));
+    let lanes = plus(1, below(bench, 3));
+    let slots = plus(34, below(bench, 7));
+    session::set_sizes(bench, words, lanes, slots);
+}
+
+pub(crate) fn small_list(bench: &mut Bench) {
+    small_sizes(bench);
+    list(bench, 64);
 }
 
 // The greatest sizes.
-pub(crate) fn full_sizes() -> Sizes {
-    Sizes {
-        words: 1024,
-        lanes: 8,
-        slots: 256,
-    }
-}
-
-pub(crate) fn small_lists(seed: &mut [u64; 1], lists: u64, tally: &mut [u64; 32]) {
-    for _ in 0..lists {
-        let sizes = small_sizes(seed);
-        list(seed, sizes, 64, tally);
-    }
-}
-
-pub(crate) fn full_lists(seed: &mut [u64; 1], lists: u64, tally: &mut [u64; 32]) {
-    for _ in 0..lists {
-        list(seed, full_sizes(), 500, tally);
-    }
+pub(crate) fn full_list(bench: &mut Bench) {
+    session::set_sizes(bench, 1024, 8, 256);
+    list(bench, 500);
 }

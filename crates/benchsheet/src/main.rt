@@ -13,63 +13,132 @@ mod second;
 mod session;
 mod words;
 
-// Edges, each with the calls that it tries.
-fn edge_groups() {
-    let mut tally = [0u64; 32];
-    edges::sizes(&mut tally);
-    print::group(b"sizes", &tally);
-    let mut tally = [0u64; 32];
-    edges::buffers(&mut tally);
-    print::group(b"buffers", &tally);
-    let mut tally = [0u64; 32];
-    edges::words(&mut tally);
-    print::group(b"words, image of 139", &tally);
-    let mut tally = [0u64; 32];
-    edges::lanes(&mut tally);
-    print::group(b"lanes, T 2", &tally);
+use words::ALL;
+use words::Bench;
+use words::SEED;
+use words::STATE;
+use words::TALLY;
+use words::clear;
+use words::put;
+
+// The groups.
+const SIZES: u64 = 0;
+
+const BUFFERS: u64 = 1;
+
+const WORDS: u64 = 2;
+
+const LANES: u64 = 3;
+
+const TXNS: u64 = 4;
+
+const CLOCKS: u64 = 5;
+
+const RECORDS: u64 = 6;
+
+const SETS: u64 = 7;
+
+const OVERWRITING: u64 = 8;
+
+const TWO_LANES: u64 = 9;
+
+const CUTS: u64 = 10;
+
+const SMALL_LISTS: u64 = 11;
+
+const FULL_LISTS: u64 = 12;
+
+const SMALL_STATES: u64 = 13;
+
+const FULL_STATES: u64 = 14;
+
+// Case i of an edge.
+fn edge(bench: &mut Bench, group: u64, i: u64) {
+    match group {
+        SIZES => edges::sizes(bench, i),
+        BUFFERS => edges::buffers(bench, i),
+        WORDS => edges::words(bench, i),
+        LANES => edges::lanes(bench, i),
+        TXNS => edges::txns(bench, i),
+        CLOCKS => edges::clocks(bench, i),
+        _ => edges::records(bench, i),
+    }
 }
 
-fn more_edge_groups() {
-    let mut tally = [0u64; 32];
-    edges::txns(&mut tally);
-    print::group(b"transactions", &tally);
-    let mut tally = [0u64; 32];
-    edges::clocks(&mut tally);
-    print::group(b"clocks", &tally);
-    let mut tally = [0u64; 32];
-    edges::records(&mut tally);
-    print::group(b"records", &tally);
+// Case i of a group.
+fn case(bench: &mut Bench, group: u64, i: u64) {
+    match group {
+        SETS => causes::every_set(bench, i),
+        OVERWRITING => causes::overwriting(bench, i),
+        TWO_LANES => scenario::run(bench),
+        CUTS => scenario::run_cut(bench, i),
+        SMALL_LISTS => lists::small_list(bench),
+        FULL_LISTS => lists::full_list(bench),
+        SMALL_STATES => any::small_state(bench),
+        _ => any::full_state(bench),
+    }
 }
 
-fn refusal_groups() {
-    let mut tally = [0u64; 32];
-    causes::every_set(&mut tally);
-    print::group(b"sets of causes", &tally);
-    let mut tally = [0u64; 32];
-    causes::overwriting(&mut tally);
-    print::group(b"overwriting", &tally);
+// All cases of a group, counted anew.
+fn cases(bench: &mut Bench, group: u64, count: u64) {
+    clear(bench, TALLY, 32);
+    for i in 0..count {
+        if group <= RECORDS {
+            edge(bench, group, i);
+        } else {
+            case(bench, group, i);
+        }
+    }
 }
 
-fn random_groups() {
-    let mut seed = [88172645463325252u64; 1];
-    let mut tally = [0u64; 32];
-    lists::small_lists(&mut seed, 50, &mut tally);
-    print::whole_group(b"small lists", &tally);
-    let mut tally = [0u64; 32];
-    lists::full_lists(&mut seed, 10, &mut tally);
-    print::whole_group(b"full lists", &tally);
-    let mut tally = [0u64; 32];
-    any::small_states(&mut seed, 6000, &mut tally);
-    print::whole_group(b"small states", &tally);
-    let mut tally = [0u64; 32];
-    any::full_states(&mut seed, 300, &mut tally);
-    print::whole_group(b"full states", &tally);
+// A group, and the lines about it.
+fn run(bench: &mut Bench, group: u64, count: u64, name: &[u8]) {
+    cases(bench, group, count);
+    print::group(name, bench);
+    if SMALL_LISTS <= group {
+        print::kinds(bench);
+    }
+}
+
+// Both sides of the ends of each range.
+fn first_edges(bench: &mut Bench) {
+    run(bench, SIZES, 128, b"sizes");
+    run(bench, BUFFERS, 51, b"buffers");
+    run(bench, WORDS, 4, b"words, image of 139");
+    run(bench, LANES, 15, b"lanes, T 2");
+}
+
+fn more_edges(bench: &mut Bench) {
+    run(bench, TXNS, 2156, b"transactions");
+    run(bench, CLOCKS, 9, b"clocks");
+    run(bench, RECORDS, 200, b"records");
+}
+
+fn refusals_and_scenario(bench: &mut Bench) {
+    run(bench, SETS, 8192, b"sets of causes");
+    run(bench, OVERWRITING, 544, b"overwriting");
+    run(bench, TWO_LANES, 1, b"two lanes");
+    run(
+        bench,
+        CUTS,
+        142,
+        b"two lanes, recovery cut after each store",
+    );
+}
+
+// Pseudo-random lists and states.
+fn random(bench: &mut Bench) {
+    put(bench, STATE, SEED, 88172645463325252);
+    run(bench, SMALL_LISTS, 50, b"small lists");
+    run(bench, FULL_LISTS, 10, b"full lists");
+    run(bench, SMALL_STATES, 6000, b"small states");
+    run(bench, FULL_STATES, 300, b"full states");
 }
 
 fn main() {
-    edge_groups();
-    more_edge_groups();
-    refusal_groups();
-    scenario::run();
-    random_groups();
+    let mut bench = [0u64; ALL];
+    first_edges(&mut bench);
+    more_edges(&mut bench);
+    refusals_and_scenario(&mut bench);
+    random(&mut bench);
 }

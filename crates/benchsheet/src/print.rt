@@ -1,46 +1,68 @@
 // Lines of output.
 use crate::second;
-use crate::second::Reply;
 use crate::session;
+use crate::words::Bench;
+use crate::words::CODE;
+use crate::words::LANES;
+use crate::words::RECORD;
+use crate::words::SLOTS;
+use crate::words::STATE;
+use crate::words::TALLY;
+use crate::words::WORDS;
 use crate::words::get;
 use crate::words::plus;
-use image::Sizes;
 use libc::STDOUT_FILENO;
 
-pub(crate) fn text(bytes: &[u8]) {
+fn text(bytes: &[u8]) {
     io::write_all(STDOUT_FILENO, bytes);
-}
-
-pub(crate) fn number(n: u64) {
-    io::print_decimal(STDOUT_FILENO, n);
 }
 
 fn counted(name: &[u8], n: u64) {
     text(name);
-    number(n);
+    io::print_decimal(STDOUT_FILENO, n);
 }
 
-fn answer(reply: Reply) {
-    let kind = reply.kind;
+// The numbers of an answer.
+fn logged(bench: &Bench) {
+    answered(bench, b"count ");
+    stamped(bench, b" stamp ");
+}
+
+fn stamped(bench: &Bench, name: &[u8]) {
+    counted(name, get(bench, RECORD, second::STAMP));
+}
+
+fn answered(bench: &Bench, name: &[u8]) {
+    counted(name, get(bench, RECORD, second::ANSWER));
+}
+
+fn recovered(bench: &Bench) {
+    stamped(bench, b"boundary ");
+    answered(bench, b", undone ");
+}
+
+// An answer without numbers.
+fn word(kind: u64) {
     match kind {
-        second::REFUSED => counted(b"refused ", reply.number),
         second::DONE => text(b"done"),
         second::NO_WRITES => text(b"count 0"),
-        second::LOGGED => {
-            counted(b"count ", reply.number);
-            counted(b" stamp ", reply.stamp);
-        }
-        second::COMMITTED => counted(b"stamp ", reply.stamp),
         second::STALE => text(b"stale"),
         second::CHANGED => text(b"changed"),
-        second::MARKED => counted(b"stamp ", reply.stamp),
-        second::CUT => text(b"cut"),
-        second::RECOVERED => {
-            counted(b"boundary ", reply.stamp);
-            counted(b", undone ", reply.number);
-        }
-        _ => counted(b"boundary none, undone ", reply.number),
+        _ => text(b"cut"),
     }
+}
+
+fn answer(bench: &Bench) {
+    let kind = session::kind(bench);
+    match kind {
+        second::REFUSED => answered(bench, b"refused "),
+        second::LOGGED => logged(bench),
+        second::COMMITTED | second::MARKED => stamped(bench, b"stamp "),
+        second::RECOVERED => recovered(bench),
+        second::UNBOUNDED => answered(bench, b"boundary none, undone "),
+        _ => word(kind),
+    }
+    text(b"\n");
 }
 
 fn call(code: u64) {
@@ -51,28 +73,25 @@ fn call(code: u64) {
         second::MARK => text(b"Mark"),
         second::DRAIN => text(b"Drain"),
         second::WRITE_BACK => text(b"write-back"),
-        second::RECOVER => text(b"recovery"),
         _ => text(b"Format"),
     }
 }
 
 // A call at an edge, and its answer.
-pub(crate) fn edge(code: u64, what: &[u8], n: u64, reply: Reply) {
-    call(code);
+pub(crate) fn edge(bench: &Bench, what: &[u8], n: u64) {
+    call(get(bench, STATE, CODE));
     counted(what, n);
     text(b": ");
-    answer(reply);
-    text(b"\n");
+    answer(bench);
 }
 
 // A Format with these sizes, and its answer.
-pub(crate) fn sizes(sizes: Sizes, reply: Reply) {
-    counted(b"Format, W ", sizes.words as u64);
-    counted(b", T ", sizes.lanes as u64);
-    counted(b", N ", sizes.slots as u64);
+pub(crate) fn sizes(bench: &Bench) {
+    counted(b"Format, W ", get(bench, STATE, WORDS));
+    counted(b", T ", get(bench, STATE, LANES));
+    counted(b", N ", get(bench, STATE, SLOTS));
     text(b": ");
-    answer(reply);
-    text(b"\n");
+    answer(bench);
 }
 
 // Two numbers behind a name.
@@ -83,77 +102,54 @@ pub(crate) fn pair(name: &[u8], a: u64, b: u64) {
 }
 
 // What was called, and its answer.
-pub(crate) fn row(name: &[u8], reply: Reply) {
+pub(crate) fn row(name: &[u8], bench: &Bench) {
     text(name);
     text(b": ");
-    answer(reply);
-    text(b"\n");
+    answer(bench);
 }
 
 // A group's name, how many calls it made, and how many differed.
-pub(crate) fn group(name: &[u8], tally: &[u64; 32]) {
+pub(crate) fn group(name: &[u8], bench: &Bench) {
     text(name);
-    counted(b": ", get(tally, session::CALLS));
-    counted(b" calls, ", get(tally, session::DIFFER));
+    counted(b": ", get(bench, TALLY, session::CALLS));
+    counted(b" calls, ", get(bench, TALLY, session::DIFFER));
     text(b" differ\n");
 }
 
-// How often there was each answer of steps.
-fn step_kinds(tally: &[u64; 32]) {
-    counted(b"  done ", get(tally, plus(session::BY_KIND, second::DONE)));
-    counted(
-        b", no writes ",
-        get(tally, plus(session::BY_KIND, second::NO_WRITES)),
-    );
-    counted(
-        b", logged ",
-        get(tally, plus(session::BY_KIND, second::LOGGED)),
-    );
-    counted(
-        b", committed ",
-        get(tally, plus(session::BY_KIND, second::COMMITTED)),
-    );
-    counted(
-        b", stale ",
-        get(tally, plus(session::BY_KIND, second::STALE)),
-    );
-    counted(
-        b", changed ",
-        get(tally, plus(session::BY_KIND, second::CHANGED)),
-    );
-    counted(
-        b", marked ",
-        get(tally, plus(session::BY_KIND, second::MARKED)),
-    );
+fn kind(bench: &Bench, name: &[u8], kind: u64) {
+    counted(name, get(bench, TALLY, plus(session::BY_KIND, kind)));
 }
 
-fn recovery_kinds(tally: &[u64; 32]) {
-    counted(b", cut ", get(tally, plus(session::BY_KIND, second::CUT)));
-    counted(
-        b", recovered ",
-        get(tally, plus(session::BY_KIND, second::RECOVERED)),
-    );
-    counted(
-        b", no boundary ",
-        get(tally, plus(session::BY_KIND, second::UNBOUNDED)),
-    );
-    text(b"\n");
+// How often there was each answer of steps, and of recoveries.
+fn step_kinds(bench: &Bench) {
+    kind(bench, b"  done ", second::DONE);
+    kind(bench, b", no writes ", second::NO_WRITES);
+    kind(bench, b", logged ", second::LOGGED);
+    kind(bench, b", committed ", second::COMMITTED);
+    kind(bench, b", stale ", second::STALE);
+}
+
+fn more_kinds(bench: &Bench) {
+    kind(bench, b", changed ", second::CHANGED);
+    kind(bench, b", marked ", second::MARKED);
+    kind(bench, b", cut ", second::CUT);
+    kind(bench, b", recovered ", second::RECOVERED);
+    kind(bench, b", no boundary ", second::UNBOUNDED);
 }
 
 // How often there was each refusal.
-fn refusals(tally: &[u64; 32]) {
-    text(b"  refused");
+fn refusals(bench: &Bench) {
+    text(b"\n  refused");
     for n in 1..11 {
         counted(b", ", n);
-        counted(b": ", get(tally, plus(session::BY_NUMBER, n)));
+        counted(b": ", get(bench, TALLY, plus(session::BY_NUMBER, n)));
     }
     text(b"\n");
 }
 
-// The group with what its calls answered.
-pub(crate) fn whole_group(name: &[u8], tally: &[u64; 32]) {
-    group(name, tally);
-    step_kinds(tally);
-    recovery_kinds(tally);
-    refusals(tally);
+// What a group's calls answered.
+pub(crate) fn kinds(bench: &Bench) {
+    step_kinds(bench);
+    more_kinds(bench);
+    refusals(bench);
 }

@@ -1,21 +1,42 @@
-// The second implementation of the calls, written from 01 alone and in another way than the store: numbers in words, every slot decoded, causes of refusal taken all
-// together and the lowest picked. It shares no code with the store.
+// The second implementation of the calls, written from 01 alone and in another way than the store: all numbers in words of one array, every slot decoded, causes of
+// refusal taken all together and the lowest picked. It shares no code with the store.
 pub(crate) mod fields;
 pub(crate) mod reading;
 pub(crate) mod restart;
 pub(crate) mod running;
 
-use crate::words::ROOM;
+use crate::words::Bench;
+use crate::words::CACHE;
+use crate::words::CACHE_LENGTH;
+use crate::words::CODE;
+use crate::words::DECODED;
+use crate::words::FLAGS;
+use crate::words::FLAGS_LENGTH;
+use crate::words::FOUND;
+use crate::words::LANES;
+use crate::words::NUMBER;
+use crate::words::NVM;
+use crate::words::NVM_LENGTH;
+use crate::words::OWNERS;
+use crate::words::RECORD;
+use crate::words::SLOTS;
+use crate::words::STATE;
+use crate::words::TXN;
+use crate::words::USED;
+use crate::words::WORDS;
+use crate::words::WRITES;
 use crate::words::cell;
+use crate::words::clear;
+use crate::words::copy;
 use crate::words::get;
 use crate::words::minus;
+use crate::words::move_word;
+use crate::words::only;
 use crate::words::plus;
 use crate::words::put;
 use crate::words::set_row;
-use fields::Bound;
 use fields::field;
 use fields::set_field;
-use reading::Shape;
 ghost use Prim.Native.Nat.{_≤_};
 
 // The calls.
@@ -35,14 +56,20 @@ pub(crate) const RECOVER: u64 = 7;
 
 pub(crate) const FORMAT: u64 = 8;
 
-// An answer: what was answered, and its numbers. `number` is the refusal, the count of writes, whether Mark dropped a transaction, or how many entries recovery undid; `stamp` the
-// timestamp or the boundary.
-pub(crate) struct Reply {
-    pub(crate) kind: u64,
-    pub(crate) number: u64,
-    pub(crate) stamp: u64,
-}
+// An answer, behind the record: what was answered, and its numbers. ANSWER is the refusal, the count of writes, whether Mark dropped a transaction, or how many entries
+// recovery undid; STAMP the timestamp or the boundary; REFUSAL the number of the refusal, or 0.
+pub(crate) const KIND: u64 = 1536;
 
+pub(crate) const ANSWER: u64 = 1537;
+
+pub(crate) const STAMP: u64 = 1538;
+
+pub(crate) const REFUSAL: u64 = 1539;
+
+// All words of record and answer.
+pub(crate) const LENGTH: u64 = 1540;
+
+// What was answered.
 pub(crate) const REFUSED: u64 = 0;
 
 pub(crate) const DONE: u64 = 1;
@@ -65,43 +92,44 @@ pub(crate) const RECOVERED: u64 = 9;
 
 pub(crate) const UNBOUNDED: u64 = 10;
 
-// The lengths of the buffers that a call is given.
-pub(crate) struct Lengths {
-    pub(crate) cache: u64,
-    pub(crate) nvm: u64,
-    pub(crate) flags: u64,
-}
-
-pub(crate) fn refused(number: u64) -> Reply {
-    Reply {
-        kind: REFUSED,
-        number,
-        stamp: 0,
-    }
-}
-
-// An answer without numbers.
-pub(crate) fn plain(kind: u64) -> Reply {
-    Reply {
+fn answer(bench: &mut Bench, kind: u64, number: u64, stamp: u64) {
+    set_row(
+        bench,
+        RECORD,
+        384,
         kind,
-        number: 0,
-        stamp: 0,
-    }
+        number,
+        stamp,
+        only(kind == REFUSED, number),
+    );
+}
+
+fn refuse(bench: &mut Bench, number: u64) {
+    answer(bench, REFUSED, number, 0);
 }
 
 // Refusal 1: a size, or the length of a buffer.
-fn sizes_ok(shape: Shape) -> bool {
-    1 <= shape.words
-        && shape.words <= 1024
-        && 1 <= shape.lanes
-        && shape.lanes <= 8
-        && 34 <= shape.slots
-        && shape.slots <= 256
+fn sizes_ok(words: u64, lanes: u64, slots: u64) -> bool {
+    1 <= words && words <= 1024 && 1 <= lanes && lanes <= 8 && 34 <= slots && slots <= 256
 }
 
-fn buffers_ok(shape: Shape, lengths: Lengths) -> bool {
-    let length = restart::length(shape);
-    sizes_ok(shape) && lengths.cache == length && lengths.nvm == length && lengths.flags == length
+fn buffers_ok(bench: &Bench) -> bool {
+    let length = restart::length(bench);
+    get(bench, STATE, CACHE_LENGTH) == length
+        && get(bench, STATE, NVM_LENGTH) == length
+        && get(bench, STATE, FLAGS_LENGTH) == length
+}
+
+// Format has as many start words as data words.
+fn start_ok(bench: &Bench) -> bool {
+    get(bench, STATE, CODE) != FORMAT || get(bench, STATE, USED) == get(bench, STATE, WORDS)
+}
+
+fn lent_ok(bench: &Bench) -> bool {
+    let words = get(bench, STATE, WORDS);
+    sizes_ok(words, get(bench, STATE, LANES), get(bench, STATE, SLOTS))
+        && buffers_ok(bench)
+        && start_ok(bench)
 }
 
 // What bit `lane` of a flag byte weighs.
@@ -124,89 +152,54 @@ pub(crate) fn is_flushed(byte: u64, lane: u64) -> bool {
     byte / weight(lane) % 2 == 1
 }
 
-fn flush(flags: &mut [u64; ROOM], i: u64, lane: u64) {
-    let byte = get(flags, i);
-    if !is_flushed(byte, lane) {
-        put(flags, i, plus(byte, weight(lane)));
-    }
-}
-
 // A cached store that the lane flushes.
-fn store(cache: &mut [u64; ROOM], flags: &mut [u64; ROOM], i: u64, word: u64, lane: u64) {
-    put(cache, i, word);
-    flush(flags, i, lane);
-}
-
-// Every word that the lane has flushed reaches non-volatile memory.
-fn drain_words(
-    shape: Shape,
-    cache: &[u64; ROOM],
-    nvm: &mut [u64; ROOM],
-    flags: &mut [u64; ROOM],
-    lane: u64,
-) {
-    for i in 0..restart::length(shape) {
-        let byte = get(flags, i);
-        if is_flushed(byte, lane) {
-            put(nvm, i, get(cache, i));
-            put(flags, i, minus(byte, weight(lane)));
-        }
+fn store(bench: &mut Bench, i: u64, word: u64, lane: u64) {
+    put(bench, CACHE, i, word);
+    let byte = get(bench, FLAGS, i);
+    if !is_flushed(byte, lane) {
+        put(bench, FLAGS, i, plus(byte, weight(lane)));
     }
 }
 
-// A lane's floor after a drain, where its sequences are the first n of the table.
-fn floor_after(record: &[u64; 322], lane: u64, found: &[u64; 8192], n: u64) -> Bound {
+// A word that the lane has flushed reaches non-volatile memory.
+fn drain_word(bench: &mut Bench, i: u64, lane: u64) {
+    let byte = get(bench, FLAGS, i);
+    if is_flushed(byte, lane) {
+        move_word(bench, CACHE, NVM, i);
+        put(bench, FLAGS, i, minus(byte, weight(lane)));
+    }
+}
+
+fn drain_words(bench: &mut Bench, lane: u64) {
+    for i in 0..restart::length(bench) {
+        drain_word(bench, i, lane);
+    }
+}
+
+// A lane's floor after a drain, where its n sequences are in the table.
+fn floor_after(bench: &Bench, lane: u64, n: u64) -> u64 {
     if n == 0 {
-        return fields::floor_of(record, lane);
+        return field(bench, lane, fields::FLOOR);
     }
-    Bound {
-        is: true,
-        stamp: cell(found, 0, reading::OF_STAMP),
-    }
+    cell(bench, FOUND, 0, reading::OF_STAMP)
 }
 
-fn mark_slots(shape: Shape, slot: u64, count: u64, taken: &mut [u64; 256]) {
-    for k in 0..plus(count, 1) {
-        put(taken, reading::behind(shape, slot, k), 1);
-    }
+// Does a slot belong to a sequence at or above the bound?
+fn is_owned(bench: &Bench, slot: u64, bound: u64) -> bool {
+    let owner = get(bench, OWNERS, slot);
+    owner != 0 && bound <= owner
 }
 
-// Marks the slots of the sequences at or above the bound.
-fn mark_sequences(shape: Shape, found: &[u64; 8192], n: u64, bound: u64, taken: &mut [u64; 256]) {
-    for row in 0..n {
-        if bound <= cell(found, row, reading::OF_STAMP) {
-            let slot = cell(found, row, reading::OF_SLOT);
-            mark_slots(shape, slot, cell(found, row, reading::OF_COUNT), taken);
-        }
-    }
-}
-
-fn any_taken(shape: Shape, taken: &[u64; 256], next: u64, count: u64) -> bool {
+// Refusal 9, of an append of `count` slots, where the lane's n sequences are in the table.
+fn overwrites(bench: &Bench, lane: u64, n: u64, count: u64) -> bool {
+    let bound = fields::least_floor(bench, lane, floor_after(bench, lane, n));
+    let next = field(bench, lane, fields::NEXT);
     for k in 0..count {
-        if get(taken, reading::ahead(shape, next, k)) == 1 {
+        if is_owned(bench, reading::ahead(bench, next, k), bound) {
             return true;
         }
     }
     false
-}
-
-// Refusal 9, of an append of `count` slots.
-fn overwrites(
-    shape: Shape,
-    record: &[u64; 322],
-    lane: u64,
-    found: &[u64; 8192],
-    n: u64,
-    count: u64,
-) -> bool {
-    let own = floor_after(record, lane, found, n);
-    let bound = fields::least_floor(shape, record, lane, own);
-    if !bound.is {
-        return false;
-    }
-    let mut taken = [0u64; 256];
-    mark_sequences(shape, found, n, bound.stamp, &mut taken);
-    any_taken(shape, &taken, field(record, lane, fields::NEXT), count)
 }
 
 // The lowest number of those whose cause holds, 0 where none does.
@@ -220,372 +213,275 @@ fn lower(found: u64, number: u64, holds: bool) -> u64 {
     found
 }
 
-// Causes 2 and 3, of every step.
-fn lane_refusal(shape: Shape, record: &[u64; 322], lane: u64) -> u64 {
-    let number = lower(0, 3, shape.lanes <= lane);
-    lower(number, 2, !fields::in_range(shape, record))
-}
-
-// Is the call given a transaction?
+// Is the call given a transaction? Does it commit one?
 fn takes_txn(code: u64) -> bool {
     code == LOG || code == VALIDATE
 }
 
-// Causes 5 to 8. Where a Log writes nothing it needs no timestamp.
-fn step_refusal(code: u64, record: &[u64; 322], lane: u64, well_formed: bool, writes: u64) -> u64 {
-    let held = field(record, lane, fields::HELD) != 0;
-    let commits = code == REDO || code == VALIDATE;
-    let stamps = commits || code == MARK || (code == LOG && writes != 0);
-    let spent = 18446744073709551614 <= get(record, fields::CLOCK);
-    let number = lower(0, 8, stamps && spent);
-    let number = lower(number, 7, commits && !held);
+pub(crate) fn commits(code: u64) -> bool {
+    code == REDO || code == VALIDATE
+}
+
+// Does it append? A Log that writes nothing does not.
+fn appends(code: u64, writes: u64) -> bool {
+    code == MARK || (code == LOG && writes != 0)
+}
+
+fn spent(bench: &Bench) -> bool {
+    18446744073709551614 <= get(bench, RECORD, fields::CLOCK)
+}
+
+// Causes 5 to 7.
+fn phase_refusal(code: u64, held: bool, well_formed: bool) -> u64 {
+    let number = lower(0, 7, commits(code) && !held);
     let number = lower(number, 6, code == LOG && held);
     lower(number, 5, takes_txn(code) && !well_formed)
 }
 
-// Cause 9, of the calls that append.
-fn append_refusal(
-    code: u64,
-    shape: Shape,
-    record: &[u64; 322],
-    lane: u64,
-    found: &[u64; 8192],
-    n: u64,
-    writes: u64,
-) -> u64 {
-    let appends = code == MARK || (code == LOG && writes != 0);
-    lower(
-        0,
-        9,
-        appends && overwrites(shape, record, lane, found, n, plus(writes, 1)),
-    )
+// Causes 8 and 9.
+fn append_refusal(bench: &Bench, lane: u64, code: u64, n: u64, writes: u64) -> u64 {
+    let append = appends(code, writes);
+    let number = lower(0, 9, append && overwrites(bench, lane, n, plus(writes, 1)));
+    lower(number, 8, (append || commits(code)) && spent(bench))
 }
 
 // A slot at the lane's cursor, which moves on; after the last slot the wrap bit flips.
-fn append_slot(
-    shape: Shape,
-    record: &mut [u64; 322],
-    cache: &mut [u64; ROOM],
-    flags: &mut [u64; ROOM],
-    lane: u64,
-    address: u64,
-    value: u64,
-) {
-    let slot = field(record, lane, fields::NEXT);
-    let at = reading::place(shape, lane, slot);
-    store(cache, flags, at, address, lane);
-    store(cache, flags, plus(at, 1), value, lane);
-    let next = reading::ahead(shape, slot, 1);
-    set_field(record, lane, fields::NEXT, next);
+fn append_slot(bench: &mut Bench, lane: u64, address: u64, value: u64) {
+    let slot = field(bench, lane, fields::NEXT);
+    let at = reading::place(bench, lane, slot);
+    store(bench, at, address, lane);
+    store(bench, plus(at, 1), value, lane);
+    let next = reading::ahead(bench, slot, 1);
+    set_field(bench, lane, fields::NEXT, next);
     if next == 0 {
-        let wrap = field(record, lane, fields::PRESENT);
-        set_field(record, lane, fields::PRESENT, minus(1, wrap));
+        let wrap = field(bench, lane, fields::PRESENT);
+        set_field(bench, lane, fields::PRESENT, minus(1, wrap));
     }
 }
 
-fn append_entries(
-    shape: Shape,
-    record: &mut [u64; 322],
-    cache: &mut [u64; ROOM],
-    flags: &mut [u64; ROOM],
-    lane: u64,
-    writes: &[u64; 64],
-    count: u64,
-) {
+fn append_entry(bench: &mut Bench, lane: u64, write: u64) {
+    let wrap = field(bench, lane, fields::PRESENT);
+    let word = cell(bench, WRITES, write, running::WORD);
+    let old = cell(bench, WRITES, write, running::OLD);
+    let address = reading::entry_address(word, old, wrap);
+    append_slot(bench, lane, address, reading::entry_value(old, wrap));
+}
+
+// An entry for each write.
+fn append_entries(bench: &mut Bench, lane: u64, count: u64) {
     for i in 0..count {
-        let wrap = field(record, lane, fields::PRESENT);
-        let old = cell(writes, i, running::OLD);
-        let address = reading::entry_address(cell(writes, i, running::WORD), old, wrap);
-        let value = reading::entry_value(old, wrap);
-        append_slot(shape, record, cache, flags, lane, address, value);
+        append_entry(bench, lane, i);
     }
 }
 
-// The timestamp behind the entries: it is the clock's next, and a first floor.
-fn append_stamp(
-    shape: Shape,
-    record: &mut [u64; 322],
-    cache: &mut [u64; ROOM],
-    flags: &mut [u64; ROOM],
-    lane: u64,
-    count: u64,
-) -> u64 {
-    let stamp = plus(get(record, fields::CLOCK), 2);
-    let wrap = field(record, lane, fields::PRESENT);
+// All sixteen pairs: the writes' words and new values, then 0s.
+fn set_pairs(bench: &mut Bench, lane: u64, count: u64) {
+    for i in 0..16 {
+        let word = cell(bench, WRITES, i, running::WORD);
+        let new = cell(bench, WRITES, i, running::NEW);
+        let is = i < count;
+        set_row(
+            bench,
+            RECORD,
+            fields::pair(lane, i),
+            only(is, word),
+            0,
+            only(is, new),
+            0,
+        );
+    }
+}
+
+// The clock's next timestamp.
+fn tick(bench: &mut Bench) -> u64 {
+    let stamp = plus(get(bench, RECORD, fields::CLOCK), 2);
+    put(bench, RECORD, fields::CLOCK, stamp);
+    stamp
+}
+
+// The timestamp behind the entries, which is a first floor.
+fn append_stamp(bench: &mut Bench, lane: u64, count: u64) -> u64 {
+    let stamp = tick(bench);
+    let wrap = field(bench, lane, fields::PRESENT);
     let address = reading::stamp_address(count, wrap);
-    let value = reading::stamp_value(stamp, wrap);
-    append_slot(shape, record, cache, flags, lane, address, value);
-    put(record, fields::CLOCK, stamp);
-    if field(record, lane, fields::FLOORED) == 0 {
-        fields::set_floor(record, lane, Bound { is: true, stamp });
+    append_slot(bench, lane, address, reading::stamp_value(stamp, wrap));
+    if field(bench, lane, fields::FLOOR) == fields::NONE {
+        set_field(bench, lane, fields::FLOOR, stamp);
     }
     stamp
 }
 
-// All sixteen pairs: the writes' words and new values, then 0s.
-fn set_pairs(record: &mut [u64; 322], lane: u64, writes: &[u64; 64], count: u64) {
-    for i in 0..16 {
-        if i < count {
-            let word = cell(writes, i, running::WORD);
-            fields::set_pair(record, lane, i, word, cell(writes, i, running::NEW));
-        } else {
-            fields::set_pair(record, lane, i, 0, 0);
-        }
-    }
-}
-
-fn log(
-    shape: Shape,
-    record: &mut [u64; 322],
-    cache: &mut [u64; ROOM],
-    flags: &mut [u64; ROOM],
-    lane: u64,
-    writes: &[u64; 64],
-    count: u64,
-) -> Reply {
+fn log(bench: &mut Bench, lane: u64, count: u64) {
     if count == 0 {
-        return plain(NO_WRITES);
+        answer(bench, NO_WRITES, 0, 0);
+        return;
     }
-    let first = field(record, lane, fields::NEXT);
-    append_entries(shape, record, cache, flags, lane, writes, count);
-    let stamp = append_stamp(shape, record, cache, flags, lane, count);
-    set_field(record, lane, fields::HELD, 1);
-    set_field(record, lane, fields::FIRST, first);
-    set_field(record, lane, fields::COUNT, count);
-    set_field(record, lane, fields::STAMPED, stamp);
-    set_pairs(record, lane, writes, count);
-    Reply {
-        kind: LOGGED,
-        number: count,
-        stamp,
-    }
+    let first = field(bench, lane, fields::NEXT);
+    append_entries(bench, lane, count);
+    let stamp = append_stamp(bench, lane, count);
+    fields::set_held(bench, lane, 1, first, count, stamp);
+    set_pairs(bench, lane, count);
+    answer(bench, LOGGED, count, stamp);
 }
 
-fn mark(
-    shape: Shape,
-    record: &mut [u64; 322],
-    cache: &mut [u64; ROOM],
-    flags: &mut [u64; ROOM],
-    lane: u64,
-) -> Reply {
-    let dropped = field(record, lane, fields::HELD);
-    fields::set_idle(record, lane);
-    let stamp = append_stamp(shape, record, cache, flags, lane, 0);
-    Reply {
-        kind: MARKED,
-        number: dropped,
-        stamp,
-    }
+fn mark(bench: &mut Bench, lane: u64) {
+    let dropped = field(bench, lane, fields::HELD);
+    fields::set_idle(bench, lane);
+    let stamp = append_stamp(bench, lane, 0);
+    answer(bench, MARKED, dropped, stamp);
 }
 
-fn write_data(
-    cache: &mut [u64; ROOM],
-    flags: &mut [u64; ROOM],
-    lane: u64,
-    writes: &[u64; 64],
-    count: u64,
-) {
+// Writes to the data words what a table of writes says, from a row on.
+fn write_data(bench: &mut Bench, lane: u64, table: u64, row: u64, count: u64) {
     for i in 0..count {
-        let at = plus(1, cell(writes, i, running::WORD));
-        store(cache, flags, at, cell(writes, i, running::NEW), lane);
+        let word = cell(bench, table, plus(row, i), running::WORD);
+        let new = cell(bench, table, plus(row, i), running::NEW);
+        store(bench, plus(1, word), new, lane);
     }
 }
 
-// Writes to the data words, and gives the logged sequence a new timestamp.
-fn commit(
-    shape: Shape,
-    record: &mut [u64; 322],
-    cache: &mut [u64; ROOM],
-    flags: &mut [u64; ROOM],
-    lane: u64,
-    writes: &[u64; 64],
-) -> Reply {
-    let count = field(record, lane, fields::COUNT);
-    let slot = reading::ahead(shape, field(record, lane, fields::FIRST), count);
-    let at = reading::place(shape, lane, slot);
-    let stamp = plus(get(record, fields::CLOCK), 2);
-    write_data(cache, flags, lane, writes, count);
-    let value = reading::stamp_value(stamp, get(cache, at) % 2);
-    store(cache, flags, plus(at, 1), value, lane);
-    put(record, fields::CLOCK, stamp);
-    put(record, fields::LAST, stamp);
-    fields::set_idle(record, lane);
-    Reply {
-        kind: COMMITTED,
-        number: 0,
-        stamp,
+// Gives the logged sequence a new timestamp.
+fn restamp(bench: &mut Bench, lane: u64, stamp: u64) {
+    let first = field(bench, lane, fields::FIRST);
+    let slot = reading::ahead(bench, first, field(bench, lane, fields::COUNT));
+    let at = reading::place(bench, lane, slot);
+    let value = reading::stamp_value(stamp, get(bench, CACHE, at) % 2);
+    store(bench, plus(at, 1), value, lane);
+}
+
+// Commits the writes of a table, from a row on.
+fn commit(bench: &mut Bench, lane: u64, table: u64, row: u64) {
+    let count = field(bench, lane, fields::COUNT);
+    write_data(bench, lane, table, row, count);
+    let stamp = tick(bench);
+    restamp(bench, lane, stamp);
+    put(bench, RECORD, fields::LAST, stamp);
+    fields::set_idle(bench, lane);
+    answer(bench, COMMITTED, 0, stamp);
+}
+
+fn redo(bench: &mut Bench, lane: u64) {
+    if field(bench, lane, fields::STAMPED) < get(bench, RECORD, fields::LAST) {
+        answer(bench, STALE, 0, 0);
+    } else {
+        commit(bench, lane, RECORD, fields::pair(lane, 0));
     }
 }
 
-// The pairs as a table of writes.
-fn pairs(record: &[u64; 322], lane: u64, writes: &mut [u64; 64]) {
-    for i in 0..16 {
-        let word = fields::pair_word(record, lane, i);
-        set_row(writes, i, word, 0, fields::pair_value(record, lane, i), 0);
-    }
-}
-
-fn redo(
-    shape: Shape,
-    record: &mut [u64; 322],
-    cache: &mut [u64; ROOM],
-    flags: &mut [u64; ROOM],
-    lane: u64,
-) -> Reply {
-    if field(record, lane, fields::STAMPED) < get(record, fields::LAST) {
-        return plain(STALE);
-    }
-    let mut writes = [0u64; 64];
-    pairs(record, lane, &mut writes);
-    commit(shape, record, cache, flags, lane, &writes)
-}
-
-// Does write i find the entry that was logged for it?
-fn entry_matches(
-    shape: Shape,
-    record: &[u64; 322],
-    slots: &[u64; 8192],
-    lane: u64,
-    writes: &[u64; 64],
-    i: u64,
-) -> bool {
-    let slot = reading::ahead(shape, field(record, lane, fields::FIRST), i);
-    let row = reading::row_of(lane, slot);
-    cell(slots, row, reading::KIND) == reading::ENTRY
-        && cell(slots, row, reading::NUMBER) == cell(writes, i, running::WORD)
-        && cell(slots, row, reading::VALUE) == cell(writes, i, running::OLD)
+// Does a write find the entry that was logged for it?
+fn entry_matches(bench: &Bench, lane: u64, i: u64) -> bool {
+    let first = field(bench, lane, fields::FIRST);
+    let row = reading::row_of(lane, reading::ahead(bench, first, i));
+    cell(bench, DECODED, row, reading::KIND) == reading::ENTRY
+        && cell(bench, DECODED, row, reading::WORD) == cell(bench, WRITES, i, running::WORD)
+        && cell(bench, DECODED, row, reading::VALUE) == cell(bench, WRITES, i, running::OLD)
 }
 
 // How many writes find their entry?
-fn matching(
-    shape: Shape,
-    record: &[u64; 322],
-    slots: &[u64; 8192],
-    lane: u64,
-    writes: &[u64; 64],
-    count: u64,
-) -> u64 {
+fn matching(bench: &Bench, lane: u64, count: u64) -> u64 {
     let mut matched = 0;
     for i in 0..count {
-        if entry_matches(shape, record, slots, lane, writes, i) {
+        if entry_matches(bench, lane, i) {
             matched = plus(matched, 1);
         }
     }
     matched
 }
 
-fn validate(
-    shape: Shape,
-    record: &mut [u64; 322],
-    cache: &mut [u64; ROOM],
-    flags: &mut [u64; ROOM],
-    lane: u64,
-    slots: &[u64; 8192],
-    writes: &[u64; 64],
-    count: u64,
-) -> Reply {
-    let same = count == field(record, lane, fields::COUNT);
-    if same && matching(shape, record, slots, lane, writes, count) == count {
-        return commit(shape, record, cache, flags, lane, writes);
+fn validate(bench: &mut Bench, lane: u64, count: u64) {
+    let same = count == field(bench, lane, fields::COUNT);
+    if same && matching(bench, lane, count) == count {
+        commit(bench, lane, WRITES, 0);
+    } else {
+        fields::set_idle(bench, lane);
+        answer(bench, CHANGED, 0, 0);
     }
-    fields::set_idle(record, lane);
-    plain(CHANGED)
 }
 
-// Log, Redo, Validate, Mark and Drain.
-fn step(
-    code: u64,
-    shape: Shape,
-    record: &mut [u64; 322],
-    cache: &mut [u64; ROOM],
-    nvm: &mut [u64; ROOM],
-    flags: &mut [u64; ROOM],
-    lane: u64,
-    txn: &[u64],
-) -> Reply {
-    let number = lane_refusal(shape, record, lane);
-    if number != 0 {
-        return refused(number);
+// What a call does on a lane that is not refused: a drain, and its own part. Its transaction makes `count` writes.
+fn do_step(bench: &mut Bench, code: u64, lane: u64, count: u64) {
+    drain_words(bench, lane);
+    match code {
+        LOG => log(bench, lane, count),
+        REDO => redo(bench, lane),
+        VALIDATE => validate(bench, lane, count),
+        MARK => mark(bench, lane),
+        _ => answer(bench, DONE, 0, 0),
     }
-    let mut slots = [0u64; 8192];
-    let mut found = [0u64; 8192];
-    let mut writes = [0u64; 64];
-    let n = reading::read(shape, cache, lane, plus(lane, 1), &mut slots, &mut found);
-    let well_formed = running::txn_ok(shape.words, txn);
+}
+
+// A call on a lane unless cause 8 or 9 holds. Its transaction is well formed, where it has one.
+fn appending(bench: &mut Bench, code: u64, lane: u64) {
+    let n = reading::read(bench, CACHE, lane, plus(lane, 1));
     let mut count = 0;
-    if takes_txn(code) && well_formed {
-        count = running::run(shape.words, cache, txn, &mut writes);
+    if takes_txn(code) {
+        count = running::run(bench);
     }
-    let number = step_refusal(code, record, lane, well_formed, count);
+    let number = append_refusal(bench, lane, code, n, count);
     if number != 0 {
-        return refused(number);
+        refuse(bench, number);
+    } else {
+        let floor = floor_after(bench, lane, n);
+        set_field(bench, lane, fields::FLOOR, floor);
+        do_step(bench, code, lane, count);
     }
-    let number = append_refusal(code, shape, record, lane, &found, n, count);
+}
+
+// Log, Redo, Validate, Mark and Drain: causes 2 and 3, then 5 to 7.
+fn step(bench: &mut Bench, code: u64, lane: u64) {
+    let number = lower(0, 3, get(bench, STATE, LANES) <= lane);
+    let number = lower(number, 2, !fields::in_range(bench));
     if number != 0 {
-        return refused(number);
+        refuse(bench, number);
+        return;
     }
-    let floor = floor_after(record, lane, &found, n);
-    fields::set_floor(record, lane, floor);
-    drain_words(shape, cache, nvm, flags, lane);
+    let held = field(bench, lane, fields::HELD) != 0;
+    let number = phase_refusal(code, held, running::txn_ok(bench));
+    if number != 0 {
+        refuse(bench, number);
+    } else {
+        appending(bench, code, lane);
+    }
+}
+
+fn write_back(bench: &mut Bench, word: u64) {
+    if restart::length(bench) <= word {
+        refuse(bench, 4);
+    } else {
+        move_word(bench, CACHE, NVM, word);
+        answer(bench, DONE, 0, 0);
+    }
+}
+
+fn format(bench: &mut Bench) {
+    let length = restart::length(bench);
+    let words = get(bench, STATE, WORDS);
+    clear(bench, CACHE, length);
+    clear(bench, FLAGS, length);
+    copy(bench, TXN, CACHE, 1, words);
+    copy(bench, CACHE, NVM, 0, length);
+    answer(bench, DONE, 0, 0);
+}
+
+fn act(bench: &mut Bench, code: u64, number: u64) {
     match code {
-        LOG => log(shape, record, cache, flags, lane, &writes, count),
-        REDO => redo(shape, record, cache, flags, lane),
-        VALIDATE => validate(shape, record, cache, flags, lane, &slots, &writes, count),
-        MARK => mark(shape, record, cache, flags, lane),
-        _ => plain(DONE),
+        WRITE_BACK => write_back(bench, number),
+        RECOVER => restart::recover(bench),
+        FORMAT => format(bench),
+        _ => step(bench, code, number),
     }
 }
 
-fn write_back(shape: Shape, cache: &[u64; ROOM], nvm: &mut [u64; ROOM], word: u64) -> Reply {
-    if restart::length(shape) <= word {
-        return refused(4);
-    }
-    put(nvm, word, get(cache, word));
-    plain(DONE)
-}
-
-fn format(
-    shape: Shape,
-    cache: &mut [u64; ROOM],
-    nvm: &mut [u64; ROOM],
-    flags: &mut [u64; ROOM],
-    start: &[u64],
-) -> Reply {
-    for i in 0..restart::length(shape) {
-        // past the start words this is 0
-        let word = get(start, minus(i, 1));
-        put(cache, i, word);
-        put(nvm, i, word);
-        put(flags, i, 0);
-    }
-    plain(DONE)
-}
-
-// A call. `number` is the lane, the word or the limit, `words` the transaction or the start words. Format and recovery take no record, and beside a refusal leave that of an empty start.
-pub(crate) fn call(
-    code: u64,
-    shape: Shape,
-    lengths: Lengths,
-    record: &mut [u64; 322],
-    cache: &mut [u64; ROOM],
-    nvm: &mut [u64; ROOM],
-    flags: &mut [u64; ROOM],
-    number: u64,
-    words: &[u64],
-) -> Reply {
+// The call that STATE says. Format and recovery take no record, and beside a refusal leave that of an empty start.
+pub(crate) fn call(bench: &mut Bench) {
+    let code = get(bench, STATE, CODE);
+    let number = get(bench, STATE, NUMBER);
     if code == FORMAT || code == RECOVER {
-        fields::set_start(record, 0);
+        fields::set_start(bench, 0);
     }
-    if !buffers_ok(shape, lengths) {
-        return refused(1);
-    }
-    if code == FORMAT && words.len() as u64 != shape.words {
-        return refused(1);
-    }
-    match code {
-        WRITE_BACK => write_back(shape, cache, nvm, number),
-        RECOVER => restart::recover(shape, record, cache, nvm, flags, number),
-        FORMAT => format(shape, cache, nvm, flags, words),
-        _ => step(code, shape, record, cache, nvm, flags, number, words),
+    if lent_ok(bench) {
+        act(bench, code, number);
+    } else {
+        refuse(bench, 1);
     }
 }

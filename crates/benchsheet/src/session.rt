@@ -1,25 +1,18 @@
-// A list of calls, each on both implementations: the store's state goes on to the next call, and each call is counted.
+// A list of calls, each on both implementations, and the tally of what they answered.
 use crate::both;
-use crate::both::Ran;
 use crate::second;
-use crate::second::Lengths;
-use crate::second::Reply;
-use crate::second::reading::Shape;
+use crate::second::fields;
 use crate::second::restart;
-use crate::words::ROOM;
-use crate::words::WORDS;
+use crate::words::Bench;
+use crate::words::RECORD;
+use crate::words::SAVED;
+use crate::words::STATE;
+use crate::words::TALLY;
+use crate::words::copy;
 use crate::words::get;
 use crate::words::plus;
 use crate::words::put;
-use image::Sizes;
-use record::Record;
-
-// The sizes and the record that the next call is given, and what the last one answered.
-pub(crate) struct Session {
-    pub(crate) sizes: Sizes,
-    pub(crate) state: Record,
-    pub(crate) reply: Reply,
-}
+use crate::words::set_row;
 
 // The tally of a group: how many calls, how many of them differed, and from `BY_KIND` and `BY_NUMBER` on how many had which kind of answer and which refusal.
 pub(crate) const CALLS: u64 = 0;
@@ -30,144 +23,63 @@ pub(crate) const BY_KIND: u64 = 2;
 
 pub(crate) const BY_NUMBER: u64 = 16;
 
-fn add(tally: &mut [u64; 32], at: u64, is: bool) {
+fn add(bench: &mut Bench, at: u64, is: bool) {
     if is {
-        let count = get(tally, at);
-        put(tally, at, plus(count, 1));
+        let count = get(bench, TALLY, at);
+        put(bench, TALLY, at, plus(count, 1));
     }
 }
 
-fn count(tally: &mut [u64; 32], reply: Reply, same: bool) {
-    let number = number_in(reply);
-    add(tally, CALLS, true);
-    add(tally, DIFFER, !same);
-    add(tally, plus(BY_KIND, reply.kind), true);
-    add(tally, plus(BY_NUMBER, number), number != 0);
+fn count(bench: &mut Bench, same: bool) {
+    let number = refusal(bench);
+    let kind = kind(bench);
+    add(bench, CALLS, true);
+    add(bench, DIFFER, !same);
+    add(bench, plus(BY_KIND, kind), true);
+    add(bench, plus(BY_NUMBER, number), number != 0);
 }
 
-// The number of the refusal in an answer, or 0.
-pub(crate) fn number_in(reply: Reply) -> u64 {
-    if reply.kind == second::REFUSED {
-        return reply.number;
-    }
-    0
+// The kind of the last answer, and the number of its refusal, or 0.
+pub(crate) fn kind(bench: &Bench) -> u64 {
+    get(bench, RECORD, second::KIND)
+}
+
+pub(crate) fn refusal(bench: &Bench) -> u64 {
+    get(bench, RECORD, second::REFUSAL)
 }
 
 // Counts a difference where something does not hold.
-pub(crate) fn expect_that(holds: bool, tally: &mut [u64; 32]) {
-    add(tally, DIFFER, !holds);
+pub(crate) fn expect(bench: &mut Bench, holds: bool) {
+    add(bench, DIFFER, !holds);
 }
 
-// Counts a difference unless an answer is the refusal of this number, or none where it is 0.
-pub(crate) fn expect(reply: Reply, number: u64, tally: &mut [u64; 32]) {
-    expect_that(number_in(reply) == number, tally);
+pub(crate) fn set_sizes(bench: &mut Bench, words: u64, lanes: u64, slots: u64) {
+    set_row(bench, STATE, 2, words, lanes, slots, 0);
 }
 
-// The sizes of the second implementation.
-pub(crate) fn shape(sizes: Sizes) -> Shape {
-    Shape {
-        words: sizes.words as u64,
-        lanes: sizes.lanes as u64,
-        slots: sizes.slots as u64,
+pub(crate) fn set_lengths(bench: &mut Bench, cache: u64, nvm: u64, flags: u64) {
+    set_row(bench, STATE, 3, cache, nvm, flags, 0);
+}
+
+// Buffers as long as the image.
+pub(crate) fn fit(bench: &mut Bench) {
+    let all = restart::length(bench);
+    set_lengths(bench, all, all, all);
+}
+
+// A call, with buffers of the lengths that are set: `number` is the lane, the word or the limit, and the first `used` words of TXN are the transaction or the start words.
+// A refusal or a cut leaves the record as it was.
+pub(crate) fn call_with(bench: &mut Bench, code: u64, number: u64, used: u64) {
+    set_row(bench, STATE, 1, code, number, used, 0);
+    copy(bench, RECORD, SAVED, 0, fields::LENGTH);
+    let same = both::run(bench);
+    count(bench, same);
+    if kind(bench) == second::REFUSED || kind(bench) == second::CUT {
+        copy(bench, SAVED, RECORD, 0, fields::LENGTH);
     }
 }
 
-// The words of an image of these sizes.
-pub(crate) fn length(sizes: Sizes) -> u64 {
-    restart::length(shape(sizes))
-}
-
-pub(crate) fn lengths(sizes: Sizes) -> Lengths {
-    let all = length(sizes);
-    Lengths {
-        cache: all,
-        nvm: all,
-        flags: all,
-    }
-}
-
-// A refusal or a cut leaves the session its record.
-fn after(session: Session, ran: Ran) -> Session {
-    let reply = ran.reply;
-    let kept = session.state;
-    let state = ran.state;
-    let sizes = session.sizes;
-    if reply.kind == second::REFUSED || reply.kind == second::CUT {
-        return Session {
-            sizes,
-            state: kept,
-            reply,
-        };
-    }
-    Session {
-        sizes,
-        state,
-        reply,
-    }
-}
-
-// A call with buffers of these lengths.
-pub(crate) fn call_with(
-    session: Session,
-    lengths: Lengths,
-    code: u64,
-    number: u64,
-    words: &[u64; WORDS],
-    used: u64,
-    cache: &mut [u64; ROOM],
-    nvm: &mut [u64; ROOM],
-    flags: &mut [u8; ROOM],
-    tally: &mut [u64; 32],
-) -> Session {
-    let state = session.state;
-    let ran = both::run_on(
-        code,
-        session.sizes,
-        lengths,
-        state,
-        cache,
-        nvm,
-        flags,
-        number as usize,
-        words,
-        used as usize,
-    );
-    count(tally, ran.reply, ran.same);
-    after(session, ran)
-}
-
-// A call: `number` is the lane, the word or the limit, and the first `used` of `words` are the transaction or the start words.
-pub(crate) fn call(
-    session: Session,
-    code: u64,
-    number: u64,
-    words: &[u64; WORDS],
-    used: u64,
-    cache: &mut [u64; ROOM],
-    nvm: &mut [u64; ROOM],
-    flags: &mut [u8; ROOM],
-    tally: &mut [u64; 32],
-) -> Session {
-    call_with(
-        session,
-        lengths(session.sizes),
-        code,
-        number,
-        words,
-        used,
-        cache,
-        nvm,
-        flags,
-        tally,
-    )
-}
-
-// A session before its first call: a record of 0s.
-pub(crate) fn fresh(sizes: Sizes) -> Session {
-    let words = [0u64; 322];
-    Session {
-        sizes,
-        state: crate::convert::from_words(&words),
-        reply: second::plain(second::DONE),
-    }
+pub(crate) fn call(bench: &mut Bench, code: u64, number: u64, used: u64) {
+    fit(bench);
+    call_with(bench, code, number, used);
 }

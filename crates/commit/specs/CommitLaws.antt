@@ -1,5 +1,5 @@
 -- Laws of Redo and Validate: their refusals, the stores of a commit, comparing writes with entries, and each way in which a call ends. Assumes nothing.
-use Prim.Native.Nat.{ℕ, _+_, _-_, _*_, _≤_, _<_}
+use Prim.Native.Nat.{ℕ, _+_, _*_, _≤_, _<_}
 use mathlib.Core.Path.{_≡_, refl, sym, _∙_, ap}
 use mathlib.Core.Bool.{Bool, true, false, cond, _&&_}
 use mathlib.Core.List.{List, [], _∷_, _++_}
@@ -8,17 +8,14 @@ use native.Mathlib.Numerals.{add-one}
 use lib.Dec.{eqb, ltb}
 use lib.ListN.{length, getD, set, take, drop, length-set}
 use lib.Seq.{take-suc, drop-cons, drop-length, length-take-le, getD-take, getD-set-other}
-use borrow.Author.Tests.{eqb-true, eqb-false, eq-eqb, ne-eqb, lt-ltb, le-ltb, ltb-true, ltb-false, not-false}
-use Rattle.laws.specs.Tests.{split, and-left, and-right}
+use borrow.Author.Tests.{eq-eqb, ne-eqb, lt-ltb, le-ltb, ltb-true, not-false}
+use Rattle.laws.specs.Tests.{and-left, and-right}
 use Rattle.laws.specs.Lists.{none, more}
 use Rattle.slot.specs.declared.Content.{Content}
-use Rattle.txn.specs.Txn.{txnOk, run, noWrite, writesOf}
-use Rattle.txn.specs.TxnLaws.{few-writes, run-low}
-use Rattle.txn.specs.WritesLaws.{length-padded, take-padded}
+use Rattle.txn.specs.Txn.{txnOk, run, noWrite}
 use Rattle.txn.specs.declared.Write.{Write}
-use Rattle.txn.specs.declared.Writes.{Writes}
-use Rattle.image.specs.Image.{sizesOk, imageLength, dataOf, logStart, logOf}
-use Rattle.image.specs.ImageLaws.{sizes-in, log-fits, length-data}
+use Rattle.image.specs.Image.{imageLength, dataOf, logStart, logOf}
+use Rattle.image.specs.ImageLaws.{sizes-in, log-fits}
 use Rattle.image.specs.Flush.{flush, flushAll, drainedNvm, drainedFlags}
 use Rattle.image.specs.FlushLaws.{length-flushAll, flushAll-append, flushAll-snoc, length-drainedFlags}
 use Rattle.image.specs.Stores.{Store, stored, places}
@@ -27,7 +24,8 @@ use Rattle.image.specs.declared.Sizes.{Sizes}
 use Rattle.log.specs.Log.{slotAt}
 use Rattle.log.specs.Append.{circular, restampStore}
 use Rattle.log.specs.AppendEntries.{WordsBelow}
-use Rattle.record.specs.Record.{noPair, laneAt, isLogged, loggedIn, pairsOk, spent, idleLane, withLane, withClock, withLast, pairsOf}
+use Rattle.log.specs.SearchLaws.{circular-low}
+use Rattle.record.specs.Record.{noPair, laneAt, isLogged, loggedIn, pairsOk, spent, idleLane, withLane, pairsOf}
 use Rattle.record.specs.RecordLaws.{LoggedIn, record-in, lane-in, phase-in, clock-room, pair-below, pairs-cut}
 use Rattle.record.specs.declared.Lane.{Lane}
 use Rattle.record.specs.declared.Logged.{Logged}
@@ -35,33 +33,30 @@ use Rattle.record.specs.declared.Pair.{Pair}
 use Rattle.record.specs.declared.Phase.{Phase}
 use Rattle.record.specs.declared.Record.{Record}
 use Rattle.store.specs.declared.Answer.the-variants.{Committed, Stale, Changed}
-use Rattle.store.specs.Machine.{Machine, Step, Cause, firstCause}
-use Rattle.store.specs.Calls.{badBuffers, badRecord, badLane, badTxn, notLogged, clockSpent, drainRefusal, drained, changed, writesOn, pairStores, commitStores, committed}
+use Rattle.store.specs.Machine.{Machine, Step, firstCause}
+use Rattle.store.specs.Calls.{badTxn, notLogged, clockSpent, drainRefusal, drained, changed, writesOn, pairStores, commitStores, committed}
 use Rattle.store.specs.Calls.{redoRefusal, isStale, redoPairs, redoStep, validateRefusal, entryMatches, entriesMatch, matches, released, validateStep}
 use Rattle.store.specs.Interface.{machineOf, Checked, drainedState}
-use Rattle.store.specs.StoreLaws.{first-end, first-none, refuses-txn, passes-txn, refuses-idle, passes-idle, refuses-spent, passes-spent, checked, at-lane, after-lane, step-taken}
+use Rattle.store.specs.StoreLaws.{first-holds, first-fails, first-end, first-none, refuses-txn, passes-txn, checked, at-lane, after-lane, lane-passed, step-taken}
 use Rattle.store.specs.StoreLaws.{drained-by, drained-state, drained-clock, drained-last, drained-keeps}
-use Rattle.commit.specs.Commit.{commitRefusal, stampSlot, committedState, Ready, redoDrained, validateDrained}
+use Rattle.commit.specs.Commit.{commitRefusal, committedState, commitWords, matchesHeld, Restampable, Ready, redoDrained, validateDrained}
 
 -- ---- refusals 7 and 8
-module _ (L : ℕ) (r : Record) (l : Lane) (e : l ≡ laneAt r L) (b : Bool) (f : b ≡ isLogged (l .phase)) where
-  logs : (t : Bool) → b ≡ t → isLogged (laneAt r L .phase) ≡ t
-  logs t k = rw (← e, ← f) k
-
-  pub commit-idle : b ≡ false → 7 ≡ commitRefusal L r
+module _ (phase : Phase) (spent b : Bool) (f : b ≡ isLogged phase) where
+  pub commit-idle : b ≡ false → 7 ≡ commitRefusal phase spent
   unfolding commitRefusal
-  commit-idle k = sym (refuses-idle _ L _ (logs false k))
+  commit-idle k = sym (first-holds _ _ (rw (← f, k)))
 
-  pub commit-spent : (s : Bool) → b ≡ true → s ≡ spent r → s ≡ true → 8 ≡ commitRefusal L r
+  pub commit-spent : b ≡ true → spent ≡ true → 8 ≡ commitRefusal phase spent
   unfolding commitRefusal
-  commit-spent s k g h = sym (passes-idle _ L _ (logs true k) ∙ refuses-spent [] _ (sym g ∙ h))
+  commit-spent k g = sym (first-fails _ _ (rw (← f, k)) ∙ first-holds _ _ g)
 
-  pub commit-free : (s : Bool) → b ≡ true → s ≡ spent r → s ≡ false → 0 ≡ commitRefusal L r
+  pub commit-free : b ≡ true → spent ≡ false → 0 ≡ commitRefusal phase spent
   unfolding commitRefusal
-  commit-free s k g h = sym (passes-idle _ L _ (logs true k) ∙ passes-spent [] _ (sym g ∙ h) ∙ first-end)
+  commit-free k g = sym (first-fails _ _ (rw (← f, k)) ∙ first-fails _ _ g ∙ first-end)
 
 -- the record alone decides them
-commit-causes : (L : ℕ) (m : Machine) → commitRefusal L (m .state) ≡ firstCause (notLogged L m ∷ clockSpent m ∷ [])
+commit-causes : (L : ℕ) (m : Machine) → commitRefusal (laneAt (m .state) L .phase) (spent (m .state)) ≡ firstCause (notLogged L m ∷ clockSpent m ∷ [])
 unfolding commitRefusal notLogged clockSpent
 commit-causes L m = refl
 
@@ -71,9 +66,9 @@ module _ (z : Sizes) (L : ℕ) (m : Machine) (number : ℕ) (e : number ≡ drai
   unfolding redoRefusal
   redo-refused h = e ∙ sym (at-lane z L m _ (λ k. h (e ∙ k)))
 
-  pub redo-causes : (k : ℕ) → number ≡ 0 → k ≡ commitRefusal L (m .state) → k ≡ redoRefusal z L m
+  pub redo-causes : (k : ℕ) (s : Bool) → number ≡ 0 → s ≡ spent (m .state) → k ≡ commitRefusal (laneAt (m .state) L .phase) s → k ≡ redoRefusal z L m
   unfolding redoRefusal
-  redo-causes k h f = f ∙ commit-causes L m ∙ sym (after-lane z L m _ (sym e ∙ h))
+  redo-causes k s h g f = f ∙ ap (commitRefusal (laneAt (m .state) L .phase)) g ∙ commit-causes L m ∙ sym (after-lane z L m _ (sym e ∙ h))
 
   module _ (t : List ℕ) where
     pub validate-refused : (number ≡ 0 → ⊥) → number ≡ validateRefusal z L t m
@@ -84,19 +79,12 @@ module _ (z : Sizes) (L : ℕ) (m : Machine) (number : ℕ) (e : number ≡ drai
     unfolding validateRefusal
     validate-bad h f = sym (after-lane z L m _ (sym e ∙ h) ∙ refuses-txn _ z t f)
 
-    pub validate-causes : (k : ℕ) → number ≡ 0 → txnOk 16 (z .words) t ≡ true → k ≡ commitRefusal L (m .state) → k ≡ validateRefusal z L t m
+    pub validate-causes : (k : ℕ) (s : Bool) → number ≡ 0 → txnOk 16 (z .words) t ≡ true → s ≡ spent (m .state) → k ≡ commitRefusal (laneAt (m .state) L .phase) s
+        → k ≡ validateRefusal z L t m
     unfolding validateRefusal
-    validate-causes k h g f = f ∙ commit-causes L m ∙ sym (after-lane z L m _ (sym e ∙ h) ∙ passes-txn _ z t g)
+    validate-causes k s h g d f = f ∙ ap (commitRefusal (laneAt (m .state) L .phase)) d ∙ commit-causes L m ∙ sym (after-lane z L m _ (sym e ∙ h) ∙ passes-txn _ z t g)
 
 -- ---- what a call knows that is not refused
--- neither Drain's causes nor the further ones hold
-lane-first : (z : Sizes) (L : ℕ) (m : Machine) (cs : List Cause) → firstCause (badBuffers z m ∷ badRecord z m ∷ badLane z L ∷ cs) ≡ 0
-    → (drainRefusal z L m ≡ 0) × (firstCause cs ≡ 0)
-lane-first z L m cs e =
-    split (eqb (drainRefusal z L m) 0)
-    (λ t. let h = eqb-true (drainRefusal z L m) 0 t in (h, sym (after-lane z L m cs h) ∙ e))
-    (λ f. let h = eqb-false (drainRefusal z L m) 0 f in absurd (h (sym (at-lane z L m cs h) ∙ e)))
-
 commit-none : (L : ℕ) (m : Machine) → firstCause (notLogged L m ∷ clockSpent m ∷ []) ≡ 0 → (isLogged (laneAt (m .state) L .phase) ≡ true) × (spent (m .state) ≡ false)
 unfolding notLogged clockSpent
 commit-none L m e =
@@ -114,7 +102,7 @@ module _ (z : Sizes) (state : Record) (cache nvm flags : List ℕ) (L number : �
   pub redo-accepted : number ≡ redoRefusal z L (machineOf state cache nvm flags) → number ≡ 0 → Accepted z state cache nvm flags L
   unfolding redoRefusal
   redo-accepted e h =
-      let a = lane-first z L (machineOf state cache nvm flags) _ (sym e ∙ h) in
+      let a = lane-passed z L (machineOf state cache nvm flags) _ (sym e ∙ h) in
       let b = commit-none L (machineOf state cache nvm flags) (a .1) in
       record { known = checked z state cache nvm flags L (a .0); holds = b .0; unspent = b .1 }
 
@@ -122,7 +110,7 @@ module _ (z : Sizes) (state : Record) (cache nvm flags : List ℕ) (L number : �
       → Accepted z state cache nvm flags L × (txnOk 16 (z .words) t ≡ true)
   unfolding validateRefusal badTxn
   validate-accepted t e h =
-      let a = lane-first z L (machineOf state cache nvm flags) _ (sym e ∙ h) in
+      let a = lane-passed z L (machineOf state cache nvm flags) _ (sym e ∙ h) in
       let c = first-none _ _ (λ z. omega arith) (a .1) in
       let b = commit-none L (machineOf state cache nvm flags) (c .1) in
       (record { known = checked z state cache nvm flags L (a .0); holds = b .0; unspent = b .1 }, not-false _ (c .0))
@@ -149,9 +137,19 @@ ready z state cache nvm flags L r f a n d e =
       logged = rw d (same-logged z _ _ _ _ _ _ (drained-clock z cache L state) (s .redo) (s .phase) g);
     }
 
--- the logged transaction of a lane that the code has looked up
-pub is-held : (r : Record) (L : ℕ) (l : Lane) (g : Logged) → l ≡ laneAt r L → g ≡ loggedIn (l .phase) → g ≡ loggedIn (laneAt r L .phase)
-is-held r L l g e f = rw (← e) f
+-- and what its commit needs
+pub restampable : (z : Sizes) (r : Record) (cache flags : List ℕ) (L : ℕ) (g : Logged) → Ready z r cache flags L → g ≡ loggedIn (laneAt r L .phase)
+    → Restampable z cache flags L g (r .clock + 2)
+restampable z r cache flags L g k f =
+    record {
+      sizes-ok = k .sizes-ok;
+      in-cache = k .in-cache;
+      in-flags = k .in-flags;
+      lane-below = k .lane-below;
+      first = rw f (k .logged .first);
+      most = rw f (k .logged .most);
+      room = omega (arith, k .room);
+    }
 
 -- ---- pairs written
 pair-snoc : (ps : List Pair) (p : Pair) → pairStores (ps ++ (p ∷ [])) ≡ pairStores ps ++ (record { at = 1 + p .word; value = p .value } ∷ [])
@@ -196,11 +194,6 @@ unfolding imageLength
 pair-inside z pairs count n h k e i l = omega (arith, pair-below (z .words) pairs count i h l (omega arith))
 
 -- ---- a commit
-pub state-committed : (L : ℕ) (r : Record) (l i : Lane) (r₁ r₂ r₃ : Record) → l ≡ laneAt r L → r₁ ≡ withClock r (r .clock + 2) → i ≡ idleLane l
-    → r₂ ≡ withLane r₁ L i → r₃ ≡ withLast r₂ (r .clock + 2) → r₃ ≡ committedState L r
-unfolding committedState
-state-committed L r l i r₁ r₂ r₃ a b c d e = e ∙ rw (d, b, c, a)
-
 -- a word past the data words keeps its value when pairs are written
 past-data : (W : ℕ) (ps : List Pair) (image : List ℕ) (i : ℕ) → pairsOk W ps ≡ true → W < i → getD (stored (pairStores ps) image) i 0 ≡ getD image i 0
 unfolding pairsOk pairStores stored
@@ -209,26 +202,14 @@ past-data W (p ∷ ps) image i h k =
     past-data W ps (set image (1 + p .word) (p .value)) i (and-right (ltb (p .word) W) _ h) k
     ∙ getD-set-other image (1 + p .word) i (p .value) 0 (λ e. omega (arith, ltb-true (p .word) W (and-left _ (pairsOk W ps) h)))
 
-circular-low : (N k : ℕ) → k < 2 * N → circular N k < N
-unfolding circular
-circular-low N k h = split (ltb k N) (λ e. rw e (ltb-true k N e)) (λ e. rw e (omega (arith, ltb-false k N e)))
+-- the slot of the timestamp is one of the log, and its words are inside the image, also when pairs have been written
+module _ (z : Sizes) (cache flags : List ℕ) (L : ℕ) (g : Logged) (s start slot : ℕ) (k : Restampable z cache flags L g s) (at : start ≡ logStart z L)
+    (in-slot : slot ≡ circular (z .slots) (g .first + g .count)) where
+  slot-low : slot < z .slots
+  slot-low = rw in-slot (circular-low (z .slots) _ (omega (arith, sizes-in z (k .sizes-ok) .slots-low, k .first, k .most)))
 
--- the timestamp's slot, as the code finds it
-pub slot-found : (z : Sizes) (L : ℕ) (r : Record) (l : Lane) (g : Logged) (slot : ℕ) → l ≡ laneAt r L → g ≡ loggedIn (l .phase)
-    → slot ≡ circular (z .slots) (g .first + g .count) → slot ≡ stampSlot z L r
-unfolding stampSlot
-slot-found z L r l g slot e f h = h ∙ rw (is-held r L l g e f)
-
--- it is one of the log
-stamp-slot-low : (z : Sizes) (r : Record) (cache flags : List ℕ) (L slot : ℕ) → Ready z r cache flags L → slot ≡ stampSlot z L r → slot < z .slots
-unfolding stampSlot
-stamp-slot-low z r cache flags L slot k e =
-    rw e (circular-low (z .slots) _ (omega (arith, sizes-in z (k .sizes-ok) .slots-low, k .logged .first, k .logged .most)))
-
--- its words are inside the image, also when pairs have been written
-module _ (z : Sizes) (r : Record) (cache flags : List ℕ) (L start slot : ℕ) (k : Ready z r cache flags L) (at : start ≡ logStart z L) (in-slot : slot ≡ stampSlot z L r) where
   value-inside : start + 2 * slot + 1 < imageLength z
-  value-inside = omega (arith, at, log-fits z L (k .lane-below), stamp-slot-low z r cache flags L slot k in-slot)
+  value-inside = omega (arith, at, log-fits z L (k .lane-below), slot-low)
 
   pub restamp-inside : (ps : List Pair) (cache₁ flags₁ : List ℕ) → cache₁ ≡ stored (pairStores ps) cache → flags₁ ≡ flushAll L (places (pairStores ps)) flags
       → (start + 2 * slot + 1 < length cache₁) × (start + 2 * slot + 1 < length flags₁)
@@ -243,29 +224,34 @@ same-restamp : (z : Sizes) (L slot s : ℕ) (ps : List Pair) (cache : List ℕ) 
 unfolding restampStore logStart
 same-restamp z L slot s ps cache h = rw (past-data (z .words) ps cache (1 + z .words + 2 * z .slots * L + 2 * slot) h (omega arith))
 
-module _ (z : Sizes) (L : ℕ) (ps : List Pair) (r : Record) (cache flags cache₁ flags₁ : List ℕ) (start slot : ℕ) (ok : pairsOk (z .words) ps ≡ true)
-    (at : start ≡ logStart z L) (in-slot : slot ≡ stampSlot z L r)
-    (written : cache₁ ≡ stored (pairStores ps) cache) (flushed : flags₁ ≡ flushAll L (places (pairStores ps)) flags) where
-  restamp : restampStore start slot (r .clock + 2) cache₁ ≡ restampStore (logStart z L) (stampSlot z L r) (r .clock + 2) cache
-  restamp = rw (at, in-slot, written) (same-restamp z L (stampSlot z L r) (r .clock + 2) ps cache ok)
+module _ (z : Sizes) (L : ℕ) (g : Logged) (s : ℕ) (ps : List Pair) (cache cache₁ : List ℕ) (start slot : ℕ) (ok : pairsOk (z .words) ps ≡ true)
+    (at : start ≡ logStart z L) (in-slot : slot ≡ circular (z .slots) (g .first + g .count)) (written : cache₁ ≡ stored (pairStores ps) cache) where
+  last-store : Store
+  last-store = restampStore (logStart z L) (circular (z .slots) (g .first + g .count)) s cache
 
-  pub commit-done : (r₂ : Record) (cache₂ flags₂ : List ℕ) → r₂ ≡ committedState L r
-      → cache₂ ≡ stored (restampStore start slot (r .clock + 2) cache₁ ∷ []) cache₁
-      → flags₂ ≡ flushAll L (places (restampStore start slot (r .clock + 2) cache₁ ∷ [])) flags₁
-      → (nvm : List ℕ) → machineOf r₂ cache₂ nvm flags₂ ≡ committed z L ps (machineOf r cache nvm flags)
-  unfolding committed changed commitStores committedState stampSlot
-  commit-done r₂ cache₂ flags₂ e f g nvm =
-      rw (
-        e,
-        f,
-        g,
-        restamp,
-        stored-append (pairStores ps) (restampStore (logStart z L) (stampSlot z L r) (r .clock + 2) cache ∷ []) cache,
-        places-append (pairStores ps) (restampStore (logStart z L) (stampSlot z L r) (r .clock + 2) cache ∷ []),
-        flushAll-append L (places (pairStores ps)) (places (restampStore (logStart z L) (stampSlot z L r) (r .clock + 2) cache ∷ [])) flags,
-        written,
-        flushed,
-      )
+  restamp : restampStore start slot s cache₁ ≡ last-store
+  unfolding last-store
+  restamp = rw (at, in-slot, written) (same-restamp z L (circular (z .slots) (g .first + g .count)) s ps cache ok)
+
+  pub commit-written : (cache₂ : List ℕ) → cache₂ ≡ stored (restampStore start slot s cache₁ ∷ []) cache₁ → cache₂ ≡ stored (commitWords z L g s ps cache) cache
+  unfolding commitWords last-store
+  commit-written cache₂ e = e ∙ rw (restamp, written) (sym (stored-append (pairStores ps) (last-store ∷ []) cache))
+
+  pub commit-flushed : (flags flags₁ flags₂ : List ℕ) → flags₁ ≡ flushAll L (places (pairStores ps)) flags
+      → flags₂ ≡ flushAll L (places (restampStore start slot s cache₁ ∷ [])) flags₁ → flags₂ ≡ flushAll L (places (commitWords z L g s ps cache)) flags
+  unfolding commitWords last-store
+  commit-flushed flags flags₁ flags₂ f e =
+      e
+      ∙ rw (restamp, f)
+      (sym (ap (λ (l : List ℕ). flushAll L l flags) (places-append (pairStores ps) (last-store ∷ [])) ∙ flushAll-append L (places (pairStores ps)) (places (last-store ∷ [])) flags))
+
+-- the machine then, with its record
+pub commit-done : (z : Sizes) (L : ℕ) (g : Logged) (ps : List Pair) (r : Record) (cache nvm flags : List ℕ) (r₂ : Record) (cache₂ flags₂ : List ℕ)
+    → g ≡ loggedIn (laneAt r L .phase) → r₂ ≡ committedState L r
+    → cache₂ ≡ stored (commitWords z L g (r .clock + 2) ps cache) cache → flags₂ ≡ flushAll L (places (commitWords z L g (r .clock + 2) ps cache)) flags
+    → machineOf r₂ cache₂ nvm flags₂ ≡ committed z L ps (machineOf r cache nvm flags)
+unfolding committed changed commitStores commitWords committedState
+commit-done z L g ps r cache nvm flags r₂ cache₂ flags₂ h e f k = rw (e, f, k, h)
 
 -- ---- writes compared with entries
 -- i writes compared, all matching: what is left to compare from this slot on decides
@@ -306,31 +292,35 @@ compared-all W N log first list n i slot a e k = sym (a .rest ∙ rw (e, ended))
     ended = ap (λ (j : ℕ). drop j (take n list)) (sym (length-take-le n list k)) ∙ drop-length (take n list)
 
 -- the writes against what the lane holds
-module _ (z : Sizes) (L : ℕ) (list : List Write) (n : ℕ) (k : n ≤ length list) (r : Record) (cache : List ℕ) (l : Lane) (g : Logged) (e : l ≡ laneAt r L)
-    (f : g ≡ loggedIn (l .phase)) where
-  pub matches-few : (n ≡ g .count → ⊥) → (nvm flags : List ℕ) → false ≡ matches z L (take n list) (machineOf r cache nvm flags)
-  unfolding matches
-  matches-few h nvm flags = rw (← is-held r L l g e f, length-take-le n list k, ne-eqb n (g .count) h)
+module _ (z : Sizes) (L : ℕ) (g : Logged) (list : List Write) (n : ℕ) (k : n ≤ length list) (cache : List ℕ) where
+  pub matches-few : (n ≡ g .count → ⊥) → false ≡ matchesHeld z L g (take n list) cache
+  unfolding matchesHeld
+  matches-few h = rw (length-take-le n list k, ne-eqb n (g .count) h)
 
   pub matches-log : (part : List ℕ) (b : Bool) → n ≡ g .count → part ≡ logOf z L cache → b ≡ entriesMatch (z .words) (z .slots) part (g .first) (take n list)
-      → (nvm flags : List ℕ) → b ≡ matches z L (take n list) (machineOf r cache nvm flags)
-  unfolding matches
-  matches-log part b h p q nvm flags = q ∙ rw (← is-held r L l g e f, length-take-le n list k, eq-eqb n (g .count) h, p)
+      → b ≡ matchesHeld z L g (take n list) cache
+  unfolding matchesHeld
+  matches-log part b h p q = q ∙ rw (length-take-le n list k, eq-eqb n (g .count) h, p)
+
+pub held-matches : (z : Sizes) (L : ℕ) (g : Logged) (ws : List Write) (r : Record) (cache nvm flags : List ℕ) → g ≡ loggedIn (laneAt r L .phase)
+    → matchesHeld z L g ws cache ≡ matches z L ws (machineOf r cache nvm flags)
+unfolding matchesHeld matches
+held-matches z L g ws r cache nvm flags f = rw f
 
 -- ---- how Redo ends, on a drained lane
-pub redo-requires : (z : Sizes) (L : ℕ) (r : Record) (cache flags : List ℕ) (l : Lane) (g : Logged) → Ready z r cache flags L → l ≡ laneAt r L → g ≡ loggedIn (l .phase)
-    → Ready z r cache flags L × (g .count ≤ 16) × (pairsOk (z .words) (take (g .count) (l .redo)) ≡ true)
-redo-requires z L r cache flags l g k e f = (k, rw (is-held r L l g e f) (k .logged .most), rw (f, e) (k .logged .pairs))
+pub redo-requires : (z : Sizes) (L : ℕ) (r : Record) (cache flags : List ℕ) (g : Logged) → Ready z r cache flags L → g ≡ loggedIn (laneAt r L .phase)
+    → Restampable z cache flags L g (r .clock + 2) × (g .count ≤ 16) × (pairsOk (z .words) (take (g .count) (laneAt r L .redo)) ≡ true)
+redo-requires z L r cache flags g k f = (restampable z r cache flags L g k f, rw f (k .logged .most), rw f (k .logged .pairs))
 
-module _ (z : Sizes) (L : ℕ) (r : Record) (cache nvm flags : List ℕ) (l : Lane) (g : Logged) (e : l ≡ laneAt r L) (f : g ≡ loggedIn (l .phase)) where
+module _ (z : Sizes) (L : ℕ) (r : Record) (cache nvm flags : List ℕ) (g : Logged) (f : g ≡ loggedIn (laneAt r L .phase)) where
   pub redo-stale : g .stamp < r .last → record { answer = Stale; machine = machineOf r cache nvm flags } ≡ redoDrained z L (machineOf r cache nvm flags)
   unfolding redoDrained isStale
-  redo-stale h = rw (← is-held r L l g e f, lt-ltb (g .stamp) (r .last) h)
+  redo-stale h = rw (← f, lt-ltb (g .stamp) (r .last) h)
 
-  pub redo-commits : (m : Machine) → r .last ≤ g .stamp → m ≡ committed z L (take (g .count) (l .redo)) (machineOf r cache nvm flags)
+  pub redo-commits : (m : Machine) → r .last ≤ g .stamp → m ≡ committed z L (take (g .count) (laneAt r L .redo)) (machineOf r cache nvm flags)
       → record { answer = Committed (r .clock + 2); machine = m } ≡ redoDrained z L (machineOf r cache nvm flags)
   unfolding redoDrained isStale redoPairs
-  redo-commits m h d = rw (← e, ← f, le-ltb (g .stamp) (r .last) h, d)
+  redo-commits m h d = rw (← f, le-ltb (g .stamp) (r .last) h, d)
 
 -- ---- how Validate ends, on a drained lane
 pairs-low : (W : ℕ) {ws : List Write} → WordsBelow W ws → pairsOk W (pairsOf (length ws) ws) ≡ true
@@ -351,11 +341,11 @@ module _ (z : Sizes) (list : List Write) (n : ℕ) (k : n ≤ 16) (long : n ≤ 
   unfolding validateDrained
   validate-commits L r cache nvm flags b m e h d = rw (← e, h, d, first-pairs)
 
-pub validate-changed : (z : Sizes) (L : ℕ) (r : Record) (cache nvm flags : List ℕ) (ws : List Write) (b : Bool) (l i : Lane) (r₂ : Record)
-    → b ≡ matches z L ws (machineOf r cache nvm flags) → b ≡ false → l ≡ laneAt r L → i ≡ idleLane l → r₂ ≡ withLane r L i
+pub validate-changed : (z : Sizes) (L : ℕ) (r : Record) (cache nvm flags : List ℕ) (ws : List Write) (b : Bool) (i : Lane) (r₂ : Record)
+    → b ≡ matches z L ws (machineOf r cache nvm flags) → b ≡ false → i ≡ idleLane (laneAt r L) → r₂ ≡ withLane r L i
     → record { answer = Changed; machine = machineOf r₂ cache nvm flags } ≡ validateDrained z L ws (machineOf r cache nvm flags)
 unfolding validateDrained released
-validate-changed z L r cache nvm flags ws b l i r₂ e h d f g = rw (← e, h, g, f, d)
+validate-changed z L r cache nvm flags ws b i r₂ e h f g = rw (← e, h, g, f)
 
 -- ---- the drain before: it keeps all that Redo and Validate look at
 module _ (z : Sizes) (L : ℕ) (m : Machine) where
@@ -417,41 +407,3 @@ module _ (z : Sizes) (L : ℕ) (state : Record) (cache nvm flags : List ℕ) (r 
       s ∙ rw w (ap (validateDrained z L (run (z .words) t (dataOf z cache))) (drained-by z L state cache nvm flags r nvm₁ flags₁ d e f)
       ∙ validate-drained z L (machineOf state cache nvm flags) (run (z .words) t (dataOf z cache)))
       ∙ step-taken number _ (machineOf state cache nvm flags) _ n h
-
--- ---- the data words, the part of the cached image that a run reads
-pub record DataPart (z : Sizes) (cache : List ℕ) : Type 0 where
-  pub most : z .words ≤ 1024
-  pub inside : 1 + z .words ≤ length cache
-  pub is-data : take (1 + z .words - 1) (drop 1 cache) ≡ dataOf z cache
-  pub in-data : length (take (1 + z .words - 1) (drop 1 cache)) ≡ z .words
-
-part-data : (z : Sizes) (cache : List ℕ) → take (1 + z .words - 1) (drop 1 cache) ≡ dataOf z cache
-unfolding dataOf
-part-data z cache = ap (λ (n : ℕ). take n (drop 1 cache)) (let e : 1 + z .words - 1 ≡ z .words = omega arith in e)
-
-pub data-part : (z : Sizes) (cache : List ℕ) → sizesOk z ≡ true → length cache ≡ imageLength z → DataPart z cache
-unfolding imageLength
-data-part z cache ok e =
-    record {
-      most = sizes-in z ok .words-high;
-      inside = rw e (omega arith);
-      is-data = part-data z cache;
-      in-data = ap length (part-data z cache) ∙ length-data z cache e;
-    }
-
--- the writes that the code hands on are the run's
-module _ (W : ℕ) (t memory : List ℕ) (w : Writes) (e : w ≡ writesOf 16 (run W t memory)) (ok : txnOk 16 W t ≡ true) where
-  pub writes-few : w .count ≤ 16
-  unfolding writesOf
-  writes-few = rw e (few-writes 16 W t memory ok)
-
-  pub writes-long : length (w .list) ≡ 16
-  unfolding writesOf
-  writes-long = rw e (length-padded 16 (run W t memory))
-
-  pub writes-run : take (w .count) (w .list) ≡ run W t memory
-  unfolding writesOf
-  writes-run = rw e (take-padded 16 (run W t memory) (few-writes 16 W t memory ok))
-
-  pub writes-low : WordsBelow W (take (w .count) (w .list))
-  writes-low = rw writes-run (run-low 16 W t memory ok)

@@ -4,17 +4,18 @@ ghost use mathlib.Core.Bool.{true};
 ghost use mathlib.Core.List.{List};
 ghost use Prim.Native.Nat.{ℕ, _+_, _*_, _^_, _≤_, _<_};
 ghost use lib.ListN.{length, take};
-ghost use Rattle.txn.specs.Txn.{txnOk, run, writesOf};
-ghost use Rattle.image.specs.Image.{sizesOk, imageLength, dataOf};
+ghost use Rattle.image.specs.Image.{sizesOk, imageLength};
 ghost use Rattle.image.specs.Stores.{stored, places};
 ghost use Rattle.image.specs.Flush.{flushAll};
 ghost use Rattle.log.specs.AppendEntries.{WordsBelow};
-ghost use Rattle.record.specs.Record.{laneAt, loggedIn, pairsOk};
-ghost use Rattle.store.specs.Calls.{redoRefusal, redoStep, validateRefusal, validateStep, pairStores, committed, entryMatches, entriesMatch, matches};
+ghost use Rattle.record.specs.Record.{pairsOk};
+ghost use Rattle.store.specs.Calls.{redoRefusal, redoStep, validateRefusal, validateStep, pairStores, entryMatches, entriesMatch};
 ghost use Rattle.store.specs.Interface.{machineOf, stepOf};
-ghost use Rattle.commit.specs.Commit.{commitRefusal, stampSlot, committedState, PairsInside, Ready, redoDrained, validateDrained};
+ghost use Rattle.commit.specs.Commit.{commitRefusal, committedState, commitWords, matchesHeld, PairsInside, Restampable, Ready, redoDrained, validateDrained};
 use image::Sizes;
+use record::Logged;
 use record::Pair;
+use record::Phase;
 use record::Record;
 use slot::Content;
 use store::Answer;
@@ -22,17 +23,14 @@ use store::Outcome;
 use txn::Write;
 use txn::Writes;
 
-// Causes 7 and 8, of a lane that is in use: it holds no logged transaction, or the clock is spent.
-fn commit_refusal(state: Record, lane: usize) -> u64
-    requires { ⌜ lane < 8 ⌝ }
-    ensures { λ r. ⌜ r ≡ commitRefusal lane state ⌝ }
+// Causes 7 and 8, of a lane of this phase: it holds no logged transaction, or the clock is spent.
+fn commit_refusal(phase: Phase, spent: bool) -> u64
+    ensures { λ r. ⌜ r ≡ commitRefusal phase spent ⌝ }
 {
-    let at = record::lane_of(state, lane);
-    let phase = at.phase;
     if !record::is_logged(phase) {
         return 7;
     }
-    if record::spent(state) {
+    if spent {
         return 8;
     }
     0
@@ -53,7 +51,9 @@ pub fn redo_refusal(
     if number != 0 {
         return number;
     }
-    commit_refusal(state, lane)
+    let at = state.lanes[lane];
+    let phase = at.phase;
+    commit_refusal(phase, record::spent(state))
 }
 
 // Writes the first `count` pairs to the cached data words, in order, each flushed.
@@ -70,50 +70,39 @@ fn write_pairs(cache: &mut [u64], flags: &mut [u8], lane: usize, pairs: [Pair; 1
     }
 }
 
-// The slot of the timestamp that closes the lane's logged entries.
-fn stamp_slot(sizes: Sizes, state: Record, lane: usize) -> usize
-    requires { ⌜ (lane < 8) × (loggedIn (laneAt state lane .phase) .first ≤ 256) × (loggedIn (laneAt state lane .phase) .count ≤ 16) ⌝ }
-    ensures { λ r. ⌜ r ≡ stampSlot sizes lane state ⌝ }
-{
-    let at = record::lane_of(state, lane);
-    let phase = at.phase;
-    let held = record::logged_in(phase);
-    log::tail::circular(sizes.slots, held.first + held.count)
-}
-
 // The record after a commit at the clock's next timestamp.
-fn committed_state(state: Record, lane: usize) -> Record
+fn committed_state(mut state: Record, lane: usize) -> Record
     requires { ⌜ (lane < 8) × (state .clock + 2 < 2 ^ 64) ⌝ }
     ensures { λ r. ⌜ r ≡ committedState lane state ⌝ }
 {
     let stamp = state.clock + 2;
-    let at = record::lane_of(state, lane);
-    let idle = record::with_lane(
-        record::with_clock(state, stamp),
-        lane,
-        record::idle_lane(at),
-    );
-    record::with_last(idle, stamp)
+    let at = state.lanes[lane];
+    let idle = record::idle_lane(at);
+    state.clock = stamp;
+    state.last = stamp;
+    state.lanes[lane] = idle;
+    state
 }
 
-// Commits these pairs at the clock's next timestamp, which replaces the one that the lane's sequence was logged with. The lane is drained.
+// The words of a commit of these pairs at this timestamp, which replaces the one that closes the entries of the lane's logged transaction.
 fn commit(
     sizes: Sizes,
-    drained: Record,
     cache: &mut [u64],
     flags: &mut [u8],
     lane: usize,
+    held: Logged,
+    stamp: u64,
     pairs: [Pair; 16],
     count: usize,
-) -> Record
-    requires { ⌜ Ready sizes drained (now cache) (now flags) lane × (count ≤ 16) × (pairsOk (sizes .words) (take count pairs) ≡ true) ⌝ }
-    ensures { λ r. ⌜ ((nvm : List ℕ) → machineOf r (now (cache .exit)) nvm (now (flags .exit)) ≡ committed sizes lane (take count pairs) (machineOf drained (now (cache .entry)) nvm (now (flags .entry)))) ⌝ }
+)
+    requires { ⌜ Restampable sizes (now cache) (now flags) lane held stamp × (count ≤ 16) × (pairsOk (sizes .words) (take count pairs) ≡ true) ⌝ }
+    ensures written { λ r. ⌜ now (cache .exit) ≡ stored (commitWords sizes lane held stamp (take count pairs) (now (cache .entry))) (now (cache .entry)) ⌝ }
+    ensures flushed { λ r. ⌜ now (flags .exit) ≡ flushAll lane (places (commitWords sizes lane held stamp (take count pairs) (now (cache .entry)))) (now (flags .entry)) ⌝ }
 {
     let start = image::log_start(sizes, lane);
-    let slot = stamp_slot(sizes, drained, lane);
+    let slot = log::tail::circular(sizes.slots, held.first + held.count);
     write_pairs(cache, flags, lane, pairs, count);
-    log::tail::restamp(cache, flags, start, slot, lane, drained.clock + 2);
-    committed_state(drained, lane)
+    log::tail::restamp(cache, flags, start, slot, lane, stamp);
 }
 
 // Redo on a drained lane.
@@ -127,7 +116,7 @@ fn redo_drained(
     requires { ⌜ Ready sizes drained (now cache) (now flags) lane ⌝ }
     ensures { λ r. ⌜ ((nvm : List ℕ) → stepOf r (now (cache .exit)) nvm (now (flags .exit)) ≡ redoDrained sizes lane (machineOf drained (now (cache .entry)) nvm (now (flags .entry)))) ⌝ }
 {
-    let at = record::lane_of(drained, lane);
+    let at = drained.lanes[lane];
     let phase = at.phase;
     let pairs = at.redo;
     let held = record::logged_in(phase);
@@ -137,9 +126,12 @@ fn redo_drained(
             state: drained,
         };
     }
+    let stamp = drained.clock + 2;
+    commit(sizes, cache, flags, lane, held, stamp, pairs, held.count);
+    let after = committed_state(drained, lane);
     Outcome {
-        answer: Answer::Committed(drained.clock + 2),
-        state: commit(sizes, drained, cache, flags, lane, pairs, held.count),
+        answer: Answer::Committed(stamp),
+        state: after,
     }
 }
 
@@ -182,7 +174,9 @@ pub fn validate_refusal(
     if !txn::txn_ok(txn, sizes.words) {
         return 5;
     }
-    commit_refusal(state, lane)
+    let at = state.lanes[lane];
+    let phase = at.phase;
+    commit_refusal(phase, record::spent(state))
 }
 
 // Is a slot a whole entry of this write's word and old value?
@@ -217,14 +211,11 @@ fn entries_match(log: &[u64], words: usize, slots: usize, first: usize, writes: 
     true
 }
 
-// Are the writes those that the lane has logged?
-fn matches(sizes: Sizes, state: Record, cache: &[u64], lane: usize, writes: Writes) -> bool
-    requires { ⌜ (sizesOk sizes ≡ true) × (length (now cache) ≡ imageLength sizes) × (lane < sizes .lanes) × (loggedIn (laneAt state lane .phase) .first < sizes .slots) × (writes .count ≤ 16) × (length (writes .list) ≡ 16) ⌝ }
-    ensures { λ r. ⌜ ((nvm flags : List ℕ) → r ≡ matches sizes lane (take (writes .count) (writes .list)) (machineOf state (now (cache .entry)) nvm flags)) ⌝ }
+// Are the writes those of this logged transaction of the lane?
+fn matches(sizes: Sizes, held: Logged, cache: &[u64], lane: usize, writes: Writes) -> bool
+    requires { ⌜ (sizesOk sizes ≡ true) × (length (now cache) ≡ imageLength sizes) × (lane < sizes .lanes) × (held .first < sizes .slots) × (writes .count ≤ 16) × (length (writes .list) ≡ 16) ⌝ }
+    ensures { λ r. ⌜ r ≡ matchesHeld sizes lane held (take (writes .count) (writes .list)) (now (cache .entry)) ⌝ }
 {
-    let at = record::lane_of(state, lane);
-    let phase = at.phase;
-    let held = record::logged_in(phase);
     if writes.count != held.count {
         return false;
     }
@@ -251,34 +242,22 @@ fn validate_drained(
     requires { ⌜ Ready sizes drained (now cache) (now flags) lane × (writes .count ≤ 16) × (length (writes .list) ≡ 16) × WordsBelow (sizes .words) (take (writes .count) (writes .list)) ⌝ }
     ensures { λ r. ⌜ ((nvm : List ℕ) → stepOf r (now (cache .exit)) nvm (now (flags .exit)) ≡ validateDrained sizes lane (take (writes .count) (writes .list)) (machineOf drained (now (cache .entry)) nvm (now (flags .entry)))) ⌝ }
 {
-    if !matches(sizes, drained, cache, lane, writes) {
-        let at = record::lane_of(drained, lane);
+    let at = drained.lanes[lane];
+    let phase = at.phase;
+    let held = record::logged_in(phase);
+    if !matches(sizes, held, cache, lane, writes) {
         return Outcome {
             answer: Answer::Changed,
             state: record::with_lane(drained, lane, record::idle_lane(at)),
         };
     }
+    let stamp = drained.clock + 2;
+    let pairs = record::pairs_of(writes);
+    commit(sizes, cache, flags, lane, held, stamp, pairs, writes.count);
     Outcome {
-        answer: Answer::Committed(drained.clock + 2),
-        state: commit(
-            sizes,
-            drained,
-            cache,
-            flags,
-            lane,
-            record::pairs_of(writes),
-            writes.count,
-        ),
+        answer: Answer::Committed(stamp),
+        state: committed_state(drained, lane),
     }
-}
-
-// The writes of a transaction on the cached data words.
-fn writes_on(sizes: Sizes, cache: &[u64], txn: &[u64]) -> Writes
-    requires { ⌜ (sizesOk sizes ≡ true) × (length (now cache) ≡ imageLength sizes) × (txnOk 16 (sizes .words) (now txn) ≡ true) ⌝ }
-    ensures { λ r. ⌜ r ≡ writesOf 16 (run (sizes .words) (now (txn .entry)) (dataOf sizes (now (cache .entry)))) ⌝ }
-{
-    let end = 1 + sizes.words;
-    txn::run(txn, &cache[1..end])
 }
 
 // Commits a transaction in place of the one that the lane holds, if it now writes the words that were logged, over the values that were logged.
@@ -297,7 +276,7 @@ pub fn validate(
     if number != 0 {
         return store::refused(number, state);
     }
-    let writes = writes_on(sizes, cache, txn);
+    let writes = store::writes_on(sizes, cache, txn);
     let drained = store::drained_state(sizes, state, cache, lane);
     image::flush::drain(lane, cache, nvm, flags);
     validate_drained(sizes, drained, cache, flags, lane, writes)

@@ -4,13 +4,13 @@ use mathlib.Core.Logic.{_≢_}
 use mathlib.Core.Bool.{Bool, true, false, _&&_}
 use mathlib.Core.List.{List, [], _∷_}
 use mathlib.Core.Option.{some}
-use Prim.Native.Nat.{ℕ, suc, _+_, _-_, _≤_, _<_}
+use Prim.Native.Nat.{ℕ, suc, _+_, _≤_, _<_}
 use native.Mathlib.Omega.{arith}
 use native.Mathlib.Nat.{le-refl}
 use lib.Dec.{eqb, ltb}
 use lib.ListN.{length, getD, take}
-use borrow.Author.Tests.{eqb-true, eqb-false, eq-eqb, ne-eqb, ltb-true, ltb-false, lt-ltb, le-ltb}
-use Rattle.laws.specs.Tests.{split}
+use borrow.Author.Tests.{ne-eqb, ltb-true, ltb-false, lt-ltb, le-ltb}
+use Rattle.laws.specs.Tests.{split, eqb-same}
 use Rattle.laws.specs.Lists.{All, none as nil, more}
 use Rattle.slot.specs.declared.Content.the-variants.{Entry}
 use Rattle.txn.specs.Txn.{txnOk, noWrite}
@@ -19,6 +19,7 @@ use Rattle.image.specs.Image.{buffersOk, logOf}
 use Rattle.image.specs.declared.Sizes.{Sizes}
 use Rattle.log.specs.Log.{slotAt, latestIn, contribution}
 use Rattle.log.specs.Append.{circular}
+use Rattle.log.specs.SearchLaws.{circular-low}
 use Rattle.log.specs.declared.Timestamp.the-variants.{At}
 use Rattle.record.specs.Record.{laneAt, isLogged, loggedIn, stampOk, recordOk, pairsOf}
 use Rattle.record.specs.declared.Logged.{Logged}
@@ -104,12 +105,6 @@ above-last base s h (then {c = c} a r) =
     (λ e. rw e (above-last (c .stamp) s (ltb-false s (c .stamp) e) r))
 
 -- ---- matching
-eqb-suc : (a b : ℕ) → eqb (suc a) (suc b) ≡ eqb a b
-eqb-suc a b =
-    split (eqb a b)
-    (λ e. eq-eqb (suc a) (suc b) (let f = eqb-true a b e in omega arith) ∙ sym e)
-    (λ e. ne-eqb (suc a) (suc b) (λ f. eqb-false a b e (omega arith)) ∙ sym e)
-
 swapped : (a b c : Bool) → (a && (b && c)) ≡ (b && (a && c))
 swapped true b c = refl
 swapped false true c = refl
@@ -123,14 +118,14 @@ entries-match W N log no-entry [] = refl
 entries-match W N log no-entry (w ∷ ws) = rw (ne-eqb (suc (length ws)) 0 (λ e. omega arith))
 entries-match W N log (entry {ws = vs} p e es) [] = rw (ne-eqb 0 (suc (length vs)) (λ e. omega arith))
 entries-match W N log (entry {j = j} {w = v} {ws = vs} p e es) (w ∷ ws) =
-    rw (eqb-suc (length ws) (length vs), e)
+    rw (eqb-same (suc (length ws)) (suc (length vs)) (length ws) (length vs) (λ q. omega arith) (λ q. omega arith), e)
     (swapped (eqb (length ws) (length vs)) (eqb (w .word) (v .word) && eqb (w .old) (v .old)) (entriesMatch W N log (circular N (j + 1)) ws)
     ∙ ap (λ t. (eqb (w .word) (v .word) && eqb (w .old) (v .old)) && t) (entries-match W N log es ws))
 
 -- the same by index: slot j + i, circularly, is the entry of write i
-circular-low : (N k : ℕ) → k < N → circular N k ≡ k
+circular-near : (N k : ℕ) → k < N → circular N k ≡ k
 unfolding circular
-circular-low N k h = rw (lt-ltb k N h)
+circular-near N k h = rw (lt-ltb k N h)
 
 circular-high : (N k : ℕ) → circular N (N + k) ≡ k
 unfolding circular
@@ -139,18 +134,13 @@ circular-high N k = rw (le-ltb (N + k) N (omega arith)) (omega arith)
 circular-on : (N j i : ℕ) → j < N → i < N → circular N (circular N (j + 1) + i) ≡ circular N (j + suc i)
 circular-on N j i h k =
     split (ltb (j + 1) N)
-    (λ e. rw (circular-low N (j + 1) (ltb-true (j + 1) N e)) (ap (circular N) (let f : j + 1 + i ≡ j + suc i = omega arith in f)))
+    (λ e. rw (circular-near N (j + 1) (ltb-true (j + 1) N e)) (ap (circular N) (let f : j + 1 + i ≡ j + suc i = omega arith in f)))
     (λ e.
     let d = ltb-false (j + 1) N e in
     let f : j + 1 ≡ N + 0 = omega arith in
     let g : j + suc i ≡ N + i = omega arith in
     let z : 0 + i ≡ i = omega arith in
-    rw (f, g, circular-high N 0, circular-high N i, z) (circular-low N i k))
-
-circular-below : (N j : ℕ) → j < N → circular N (j + 1) < N
-unfolding circular
-circular-below N j h =
-    split (ltb (j + 1) N) (λ e. rw e (ltb-true (j + 1) N e)) (λ e. rw e (omega (arith, ltb-false (j + 1) N e)))
+    rw (f, g, circular-high N 0, circular-high N i, z) (circular-near N i k))
 
 pub entries-from : (W N : ℕ) (log : List ℕ) (j : ℕ) (ws : List Write) → j < N → length ws ≤ N
     → ((i : ℕ) → i < length ws → (p : ℕ) × (slotAt W log (circular N (j + i)) ≡ Entry (getD ws i noWrite .word) (getD ws i noWrite .old) p))
@@ -159,8 +149,8 @@ entries-from W N log j [] h l f = no-entry
 entries-from W N log j (w ∷ ws) h l f =
     let a = f 0 (let k : 0 < suc (length ws) = omega arith in k) in
     let z : j + 0 ≡ j = omega arith in
-    entry (a .0) (ap (slotAt W log) (sym (circular-low N j h)) ∙ ap (λ k. slotAt W log (circular N k)) (sym z) ∙ a .1)
-    (entries-from W N log (circular N (j + 1)) ws (circular-below N j h) (omega arith)
+    entry (a .0) (ap (slotAt W log) (sym (circular-near N j h)) ∙ ap (λ k. slotAt W log (circular N k)) (sym z) ∙ a .1)
+    (entries-from W N log (circular N (j + 1)) ws (circular-low N (j + 1) (omega arith)) (omega arith)
     (λ i k.
     let b = f (suc i) (let q : suc i < suc (length ws) = omega arith in q) in
     (b .0, ap (slotAt W log) (circular-on N j i h (omega arith)) ∙ b .1)))

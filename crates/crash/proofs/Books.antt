@@ -6,7 +6,6 @@ use mathlib.Core.List.{List, [], _∷_, append-nil}
 use mathlib.Core.Option.{Option, none, some}
 use Prim.Native.Nat.{ℕ, _+_, _%_, _≤_, _<_}
 use native.Mathlib.Omega.{arith}
-use native.Mathlib.Decide.{ℕ-discrete}
 use native.Mathlib.Nat.{le-trans, le-refl}
 use lib.Dec.{ltb}
 use lib.ListN.{length, take}
@@ -23,9 +22,11 @@ use Rattle.image.specs.StoresLaws.{length-stored}
 use Rattle.image.specs.declared.Sizes.{Sizes}
 use Rattle.log.specs.Log.{latestIn}
 use Rattle.log.specs.Append.{advance}
+use Rattle.log.specs.AppendLaws.{advance-within}
 use Rattle.log.specs.declared.Timestamp.{Timestamp}
 use Rattle.log.specs.declared.Timestamp.the-variants.{None, At}
 use Rattle.record.specs.Record.{laneAt, cursorOf, isLogged, loggedIn, stampOk, floorOk, phaseOk, floorAfterAppend, withLane, withClock, withLast, drainedLane, appendedLane, idleLane, pairsOf}
+use Rattle.record.specs.RecordLaws.{pairs-cut, LaneIn}
 use Rattle.record.specs.declared.Logged.{Logged}
 use Rattle.record.specs.declared.Pair.{Pair}
 use Rattle.record.specs.declared.Phase.{Phase}
@@ -37,9 +38,9 @@ use Rattle.store.specs.Calls as calls
 use Rattle.crash.specs.History.{Commit, Page, History, pageAt, isBelow, replay, isSome, wordsBelow, present, floorOr, settled, stamped, released, heldBy, isAbove, commitAbove, writesLogged}
 use Rattle.crash.proofs.Data.{length-replay, replay-snoc, replay-all}
 use Rattle.crash.proofs.Moves.{Known, Ready}
-use Rattle.crash.proofs.Lanes.{LaneTo, lane-drained, lane-appended, lane-committed, lane-released, PageTo, page-settled, page-stamped, page-released, drained-floor, appended-floor}
-use Rattle.crash.proofs.Ranges.{LaneRange, RecordRange, record-range, record-ranged, stamp-later, stamp-now, lane-later, advance-range, phase-logged}
-use Rattle.crash.proofs.Words.{data-appended, data-committed, take-pairs}
+use Rattle.crash.proofs.Lanes.{LaneTo, lane-drained, lane-appended, lane-committed, lane-released, PageTo, page-settled, page-stamped, page-released, drained-floor, appended-floor, lane-cases}
+use Rattle.crash.proofs.Ranges.{RecordRange, record-range, record-ranged, stamp-later, stamp-now, lane-later, phase-logged}
+use Rattle.crash.proofs.Words.{data-appended, data-committed}
 use Rattle.crash.proofs.Agree.{lastOf, Holding, Book, Logs}
 use Rattle.crash.proofs.Onward.{Onward, onward-settled, onward-released, onward-stamped, onward-commit, last-append, rising-onward, above-onward, upto-onward, holding-onward, writes-held}
 use Rattle.crash.proofs.Answers.{same-stale, holds-it}
@@ -59,17 +60,13 @@ pub record Moved (z : Sizes) (base : ℕ) (L : ℕ) (h k : History) (m n : Machi
   pub even : k .clock % 2 ≡ 0
   pub last : n .state .last ≡ lastOf base (k .commits)
   pub last-ok : stampOk (k .clock) (n .state .last) ≡ true
-  pub range : LaneRange z (k .clock) lane
+  pub range : LaneIn z (k .clock) lane
   pub floor : lane .floor ≡ page .floor
   pub held : isLogged (lane .phase) ≡ isSome (page .held)
   pub newest : (s : ℕ) → page .newest ≡ At s → stampOk (k .clock) s ≡ true
   pub holding : (g : Logged) → lane .phase ≡ Holds g → Holding z base k n L g
 
 module _ (z : Sizes) (base : ℕ) (L : ℕ) (lane : L < z.lanes) (h k : History) (m n : Machine) (b : Book z base h m) (v : Moved z base L h k m n) where
-  -- what holds of lane L anew and of the others as before
-  each : (P : ℕ → Type 0) → P L → ((M : ℕ) → M ≢ L → P M) → (M : ℕ) → P M
-  each P here others M = elim (ℕ-discrete M L) [ yes e ↦ subst P (sym e) here | no d ↦ others M d ]
-
   old-ranges : RecordRange z (m .state)
   old-ranges = record-range z (m .state) (b .lanes) (b .fields)
 
@@ -81,7 +78,7 @@ module _ (z : Sizes) (base : ℕ) (L : ℕ) (lane : L < z.lanes) (h k : History)
       record {
         even = rw (v .clock) (v .even);
         last = rw (v .clock) (v .last-ok);
-        lanes = each (λ M. M < z.lanes → LaneRange z (n .state .clock) (laneAt (n .state) M))
+        lanes = lane-cases (λ M. M < z.lanes → LaneIn z (n .state .clock) (laneAt (n .state) M)) L
             (λ i. rw (v .lanes .here, v .clock) (v .range))
             (λ M d i. rw (v .lanes .others M d) (lane-later z (m .state .clock) (n .state .clock) (laneAt (m .state) M) later (old-ranges .lanes M i)));
       }
@@ -96,10 +93,10 @@ module _ (z : Sizes) (base : ℕ) (L : ℕ) (lane : L < z.lanes) (h k : History)
         live = record {
           words = v .words;
           clock = v .clock;
-          floors = each (λ M. M < z.lanes → laneAt (n .state) M .floor ≡ pageAt k M .floor)
+          floors = lane-cases (λ M. M < z.lanes → laneAt (n .state) M .floor ≡ pageAt k M .floor) L
               (λ i. rw (v .lanes .here, v .pages .here) (v .floor))
               (λ M d i. rw (v .lanes .others M d, v .pages .others M d) (b .live .floors M i));
-          held = each (λ M. M < z.lanes → isLogged (laneAt (n .state) M .phase) ≡ isSome (pageAt k M .held))
+          held = lane-cases (λ M. M < z.lanes → isLogged (laneAt (n .state) M .phase) ≡ isSome (pageAt k M .held)) L
               (λ i. rw (v .lanes .here, v .pages .here) (v .held))
               (λ M d i. rw (v .lanes .others M d, v .pages .others M d) (b .live .held M i));
         };
@@ -108,11 +105,11 @@ module _ (z : Sizes) (base : ℕ) (L : ℕ) (lane : L < z.lanes) (h k : History)
         upto = upto-onward z h k (v .onward) (b .upto);
         low = le-trans (b .low) (v .onward .clock);
         last = v .last;
-        stamps = λ M s i e. each (λ M. (s : ℕ) → M < z.lanes → pageAt k M .newest ≡ At s → stampOk (k .clock) s ≡ true)
+        stamps = λ M s i e. lane-cases (λ M. (s : ℕ) → M < z.lanes → pageAt k M .newest ≡ At s → stampOk (k .clock) s ≡ true) L
             (λ s i e. v .newest s (ap (λ (p : Page). p .newest) (sym (v .pages .here)) ∙ e))
             (λ M d s i e. stamp-later (h .clock) (k .clock) s (v .onward .clock) (b .stamps M s i (ap (λ (p : Page). p .newest) (sym (v .pages .others M d)) ∙ e)))
             M s i e;
-        holding = λ M g i e. each (λ M. (g : Logged) → M < z.lanes → laneAt (n .state) M .phase ≡ Holds g → Holding z base k n M g)
+        holding = λ M g i e. lane-cases (λ M. (g : Logged) → M < z.lanes → laneAt (n .state) M .phase ≡ Holds g → Holding z base k n M g) L
             (λ g i e. v .holding g (ap (λ (l : Lane). l .phase) (sym (v .lanes .here)) ∙ e))
             (λ M d g i e.
             let o = v .lanes .others M d in
@@ -132,7 +129,7 @@ floor-or c (At s) f h e = h s refl
 newest-stamp : (c s : ℕ) → c % 2 ≡ 0 → At c ≡ At s → stampOk c s ≡ true
 newest-stamp c s e p = let q : c ≡ s = cc in rw (sym q) (stamp-now c e)
 
-not-held : {A : Type 0} (p : Phase) (g : Logged) → p ≡ Idle → p ≡ Holds g → A
+pub not-held : {A : Type 0} (p : Phase) (g : Logged) → p ≡ Idle → p ≡ Holds g → A
 not-held p g i e = absurd (let z : _≡_ {A = ℕ} 0 1 = cc in omega arith)
 
 floor-after : (c : ℕ) (f : Timestamp) → c % 2 ≡ 0 → floorOk c f ≡ true → floorOk (c + 2) (floorAfterAppend (c + 2) f) ≡ true
@@ -147,8 +144,8 @@ module _ (z : Sizes) (base : ℕ) (L : ℕ) (lane : L < z.lanes) (h : History) (
   in-pages : L < length (h .pages)
   in-pages = rw (b .pages) lane
 
-  range-now : LaneRange z (h .clock) (laneAt (m .state) L)
-  range-now = subst (λ (c : ℕ). LaneRange z c (laneAt (m .state) L)) (b .live .clock) (record-range z (m .state) (b .lanes) (b .fields) .lanes L lane)
+  range-now : LaneIn z (h .clock) (laneAt (m .state) L)
+  range-now = subst (λ (c : ℕ). LaneIn z c (laneAt (m .state) L)) (b .live .clock) (record-range z (m .state) (b .lanes) (b .fields) .lanes L lane)
 
   even-now : h .clock % 2 ≡ 0
   even-now = rw (b .live .clock) at (record-range z (m .state) (b .lanes) (b .fields) .even)
@@ -196,10 +193,10 @@ module _ (z : Sizes) (base : ℕ) (L : ℕ) (lane : L < z.lanes) (h : History) (
 
   -- ---- an append: the lane then has this phase and redo log, its page holds this
   appended-range : (s : ℕ) (ws : List Write) (phase : Phase) (redo : List Pair) → s ≡ h .clock → phaseOk z (h .clock + 2) redo phase ≡ true
-      → LaneRange z (h .clock + 2) (appendedLane (s + 2) (advance z.slots (length ws + 1) (cursorOf (laneAt (m .state) L))) phase redo (laneAt (m .state) L))
+      → LaneIn z (h .clock + 2) (appendedLane (s + 2) (advance z.slots (length ws + 1) (cursorOf (laneAt (m .state) L))) phase redo (laneAt (m .state) L))
   unfolding appendedLane cursorOf
   appended-range s ws phase redo e p =
-      let c = advance-range z.slots (length ws + 1) (cursorOf (laneAt (m .state) L)) (record { slot = range-now .next; wrap = range-now .wrap }) in
+      let c = advance-within z.slots (length ws + 1) (cursorOf (laneAt (m .state) L)) (record { slot = range-now .next; wrap = range-now .wrap }) in
       record {
         next = c .slot;
         wrap = c .wrap;
@@ -274,7 +271,7 @@ module _ (z : Sizes) (base : ℕ) (L : ℕ) (lane : L < z.lanes) (h : History) (
         subst (λ (s : ℕ). phaseOk z (h .clock + 2) (pairsOf 16 (writesOn z f m)) (Holds (record { first = laneAt (m .state) L .next; count = length (writesOn z f m); stamp = s + 2 })) ≡ true)
         (sym (b .live .clock))
         (phase-logged z (h .clock + 2) (laneAt (m .state) L .next) (writesOn z f m) (buffers-in z _ _ _ (b .buffers) .sizes .words-low) (range-now .next)
-        some-write writes-few (let k = even-now in omega arith) writes-low (take-pairs (length (writesOn z f m)) 16 (writesOn z f m) writes-few))
+        some-write writes-few (let k = even-now in omega arith) writes-low (pairs-cut (length (writesOn z f m)) 16 (writesOn z f m) writes-few))
 
     -- what is logged now is what the history's lane has logged
     logged-writes : writesLogged z L (stamped L (some f) [] h) ≡ writesOn z f m
@@ -305,7 +302,7 @@ module _ (z : Sizes) (base : ℕ) (L : ℕ) (lane : L < z.lanes) (h : History) (
           apart = All-map (λ d i e. omega (arith, c, i)) (stamped-upto (some f));
           count = ap length (sym logged-writes);
           redo = ap (λ (l : Lane). take (length (writesOn z f m)) (l .redo)) (a .here)
-              ∙ take-pairs (length (writesOn z f m)) 16 (writesOn z f m) writes-few ∙ ap (pairsOf (length (writesOn z f m))) (sym logged-writes);
+              ∙ pairs-cut (length (writesOn z f m)) 16 (writesOn z f m) writes-few ∙ ap (pairsOf (length (writesOn z f m))) (sym logged-writes);
         }
 
     pub book-logged : Book z base (stamped L (some f) [] h) (logged z L (writesOn z f m) m)
@@ -320,7 +317,7 @@ module _ (z : Sizes) (base : ℕ) (L : ℕ) (lane : L < z.lanes) (h : History) (
   book-marked redo = book-appended [] Idle redo none refl refl (λ g e. not-held Idle g refl e)
 
   -- ---- a lane that is idle again
-  idle-range : (c : ℕ) → h .clock ≤ c → LaneRange z c (idleLane (laneAt (m .state) L))
+  idle-range : (c : ℕ) → h .clock ≤ c → LaneIn z c (idleLane (laneAt (m .state) L))
   unfolding idleLane phaseOk
   idle-range c i =
       let r = lane-later z (h .clock) c (laneAt (m .state) L) i range-now in

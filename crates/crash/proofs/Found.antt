@@ -94,10 +94,6 @@ module _ (W N : ℕ) (hw : W ≤ 1024) (large : 33 ≤ N) (con : ℕ → Past) (
   past b {k} {s} g =
       split (ltb b N) (λ t. absurd (let h = early b (ltb-true b N t) in let z : _≡_ {A = ℕ} 0 1 = cc in omega arith)) (λ t. ltb-false b N t)
 
-  -- a whole timestamp, complete or not, is of the history
-  pub stamp-genuine : (j k s p : ℕ) → j < N → slotAt W log j ≡ Stamp k s p → (a : ℕ) × (a < n) × (con a ≡ sta k s)
-  stamp-genuine j k s p h e = let c = closing j k s p h e in (c .number, c .below, c .content)
-
   found-slot : (j : ℕ) → j < N → (s : Content) → slotAt W log j ≡ s → All (Genuine N con n) (closes W N base log L j s)
   unfolding closes
   found-slot j h Empty e = none

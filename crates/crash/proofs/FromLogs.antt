@@ -14,6 +14,7 @@ use Rattle.record.specs.Record.{laneAt, isLogged, pairsOf}
 use Rattle.record.specs.declared.Phase.the-variants.{Idle}
 use Rattle.store.specs.Machine.{Machine}
 use Rattle.store.specs.Calls.{started, startImage, drained, writesOn, appended, logged, committed, isStale, redoPairs, matches}
+use Rattle.store.specs.FormatLaws.{length-startImage}
 use Rattle.store.specs.Calls as calls
 use Rattle.recovery.specs.Recovery.{boundary, newBase}
 use Rattle.crash.specs.History.{History, opened, pageAt, wordsBelow, settled, stamped, released, heldBy, restarted, leastFloorOf}
@@ -27,7 +28,7 @@ use Rattle.crash.proofs.Fed.{Steps, call-by-steps}
 use Rattle.crash.proofs.Agree.{Book, Logs}
 use Rattle.crash.proofs.Answers.{answers}
 use Rattle.crash.proofs.Books.{book-drains, book-logs, book-marks, book-gives-up, book-validates, book-redoes}
-use Rattle.crash.proofs.Start.{book-start, image-long, image-data, image-base, image-log}
+use Rattle.crash.proofs.Start.{book-start, image-data, image-base, image-log}
 use Rattle.crash.proofs.Skeleton.{Laws, crash-theorem-from}
 
 -- ---- the cells when power fails
@@ -133,7 +134,7 @@ module _ (z : Sizes) (ok : sizesOk z ≡ true) (G : ℕ → Machine → History 
   pub all-laws : Laws z (Inv z G) (AtCut z)
   all-laws =
       record {
-        formats = λ start e. fresh 0 (startImage z start) start zero-even (image-long z start e) (image-base z start e) (image-data z start e) (λ L i. image-log z start e L i);
+        formats = λ start e. fresh 0 (startImage z start) start zero-even (length-startImage z start e) (image-base z start e) (image-data z start e) (λ L i. image-log z start e L i);
         lives = λ m h v. v .book .live;
         buffers = λ m h v. v .book .buffers;
         calls = call-by-steps z (Inv z G) steps;

@@ -1,5 +1,4 @@
--- One lane's log through the calls of the other lanes, write-backs and drains cut short: its ghosts stay. Then all lanes together through each call.
--- Assumes nothing.
+-- One lane's log through the calls of the other lanes and write-backs: its ghosts stay. Then all lanes together through each call. Assumes nothing.
 use mathlib.Core.Path.{_≡_}
 use mathlib.Core.Logic.{_≢_}
 use mathlib.Core.List.{List}
@@ -14,6 +13,7 @@ use Rattle.image.specs.Flush.{writtenBack}
 use Rattle.image.specs.Stores.{Store}
 use Rattle.image.specs.declared.Sizes.{Sizes}
 use Rattle.log.specs.Append.{appendStores, circular, restampStore}
+use Rattle.log.specs.SearchLaws.{circular-low}
 use Rattle.record.specs.Record.{laneAt, cursorOf, loggedIn, withLane, withClock, withLast}
 use Rattle.record.specs.declared.Pair.{Pair}
 use Rattle.record.specs.declared.Logged.{Logged}
@@ -22,15 +22,14 @@ use Rattle.record.specs.declared.Phase.the-variants.{Holds}
 use Rattle.record.specs.declared.Record.{Record}
 use Rattle.store.specs.Machine.{Machine}
 use Rattle.store.specs.Calls.{drained, changed, appended, commitStores, committed, released}
-use Rattle.crash.specs.Events.{partlyDrained}
 use Rattle.laws.specs.Members.{here}
 use Rattle.crash.proofs.Lanes.{lane-drained, lane-appended, lane-committed, lane-released}
 use Rattle.crash.proofs.Seqs.{Seq, stands}
-use Rattle.crash.proofs.Memory.{mem-writtenBack, mem-drained-other, mem-stored-other, mem-partly}
+use Rattle.crash.proofs.Memory.{mem-writtenBack, mem-drained-other, mem-stored-other}
 use Rattle.crash.proofs.Regions.{Inside, Apart, inside-apart, inside-late, data-apart, stored-base, stored-log}
 use Rattle.crash.proofs.Append.{append-inside}
 use Rattle.crash.proofs.Written.{Written, written-later}
-use Rattle.crash.proofs.Shape.{Shape, withNvm, pairs-data, commit-past, circular-low}
+use Rattle.crash.proofs.Shape.{Shape, withNvm, pairs-data, commit-past}
 use Rattle.crash.proofs.LaneLog.{Track, PhaseOf, holds, LaneLog}
 
 -- where a lane's commit puts the new timestamp: inside its log
@@ -39,7 +38,7 @@ module _ (z : Sizes) (M : ℕ) (m : Machine) (s : Shape z m) where
   commit-low {t} l x e = circular-low z.slots (x .first + x .count) (go (l .now) (rw e at (l .holding)))
     where
       go : {gs : List Seq} → Written z (baseOf (m .cache)) (m .state .clock) (logOf z M (m .cache)) (t .hist) gs → PhaseOf z.slots (Holds x) gs
-          → x .first + x .count < z.slots + z.slots
+          → x .first + x .count < 2 * z.slots
       go w (holds {g = g} f c q) =
           omega (arith, f, c, stands z.words z.slots (w .history) here .ok .few, mod-lt (g .end - length (g .entries)) (let p : 0 < z.slots = omega (arith, s .sizes .slots-low) in p), s .sizes .slots-low)
 
@@ -62,19 +61,6 @@ module _ (z : Sizes) (L : ℕ) (lane : L < z.lanes) (m : Machine) (t : Track) (s
         before = l .before;
         since = l .since;
         mem = mem-writtenBack z L lane (t .was) (m .cache) (m .flags) (m .nvm) (s .in-cache) (s .in-flags) (s .in-nvm) i (l .mem);
-        cursor = l .cursor;
-        floor = l .floor;
-        holding = l .holding;
-      }
-
-  -- some stores of a drain, of any lane
-  pub lane-partly : (M : ℕ) (is : List ℕ) → LaneLog z L (withNvm m (partlyDrained M is (m .flags) (m .cache) (m .nvm))) t
-  lane-partly M is =
-      record {
-        now = l .now;
-        before = l .before;
-        since = l .since;
-        mem = mem-partly z L lane (t .was) (m .cache) (m .flags) (s .in-cache) (s .in-flags) M is (m .nvm) (s .in-nvm) (l .mem);
         cursor = l .cursor;
         floor = l .floor;
         holding = l .holding;

@@ -1,6 +1,6 @@
 -- What the calls read of a lane's cached log, in the ghosts' terms: the sequence that the lane holds and its entries, slot by slot, and refusal 9.
 -- Assumes nothing.
-use mathlib.Core.Path.{_≡_, refl, ap, _∙_, sym}
+use mathlib.Core.Path.{_≡_, refl, ap, _∙_}
 use mathlib.Core.Bool.{false}
 use mathlib.Core.List.{List, [], _∷_, _++_}
 use Prim.Native.Nat.{ℕ, zero, suc, _+_, _-_, _%_, _≤_, _<_}
@@ -14,14 +14,12 @@ use Rattle.image.specs.Image.{baseOf, logOf}
 use Rattle.image.specs.declared.Sizes.{Sizes}
 use Rattle.log.specs.Log.{slotAt, completeIn, hits}
 use Rattle.log.specs.Append.{circular}
-use Rattle.log.specs.declared.Timestamp.{Timestamp}
-use Rattle.log.specs.declared.Timestamp.the-variants.{None, At}
+use Rattle.log.specs.declared.Timestamp.the-variants.{At}
 use Rattle.record.specs.Record.{laneAt, boundOf}
 use Rattle.record.specs.declared.Logged.{Logged}
 use Rattle.record.specs.declared.Phase.the-variants.{Holds}
 use Rattle.store.specs.Machine.{Machine}
 use Rattle.store.specs.Calls.{drained, wouldHit}
-use Rattle.crash.specs.History.{floorOr}
 use Rattle.laws.specs.Members.{In, here}
 use Rattle.crash.proofs.Data.{oldsOf, length-olds}
 use Rattle.crash.proofs.Agree.{Entries, entries-from}
@@ -29,7 +27,7 @@ use Rattle.crash.proofs.Absolute.{wrapOf, circular-abs}
 use Rattle.crash.proofs.Ghost.{Past, ent, contentOf, addressAt, valueAt, exact-reads}
 use Rattle.crash.proofs.Window.{Window, at}
 use Rattle.crash.proofs.Seqs.{Seq, Hist, add, pastOf, noOld, at-entry, length-new, hist-fits, stands, newest-end}
-use Rattle.crash.proofs.Written.{Written, Whole, newestIn, written-room}
+use Rattle.crash.proofs.Written.{Written, Whole, written-room}
 use Rattle.crash.proofs.Shape.{Shape}
 use Rattle.crash.proofs.LaneLog.{Track, PhaseOf, holds, LaneLog, next-slot}
 
@@ -108,13 +106,3 @@ module _ (z : Sizes) (L : ℕ) (m : Machine) (t : Track) (s : Shape z m) (l : La
       → Whole z.slots (t .hist) g → b ≤ g .stamp → Whole z.slots (t .hist ++ pastOf (oldsOf ws) c) g
   lane-stays-whole ws b c e f i w k =
       omega (arith, lane-room (length ws + 1) b e f i w k, length-new (t .hist) (oldsOf ws) c, length-olds ws)
-
-  -- a lane without a floor has no sequence
-  pub lane-bare : laneAt (m .state) L .floor ≡ None → t .gs ≡ []
-  unfolding floorOr newestIn
-  lane-bare e = bare (newestIn (t .priors)) (t .gs) (sym (l .floor) ∙ e)
-    where
-      bare : (p : Timestamp) (gs : List Seq) → floorOr p (newestIn gs) ≡ None → gs ≡ []
-      bare None [] e = refl
-      bare None (g ∷ gs) e = absurd (let z : _≡_ {A = ℕ} 0 1 = cc in omega arith)
-      bare (At s) gs e = absurd (let z : _≡_ {A = ℕ} 0 1 = cc in omega arith)

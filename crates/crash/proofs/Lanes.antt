@@ -1,12 +1,13 @@
--- The record's lanes and the history's pages after each move: lane L becomes another, the rest stay; and the least floor of both. Assumes nothing.
-use mathlib.Core.Path.{_≡_, refl, ap₂, _∙_}
+-- The record's lanes and the history's pages after each move: lane L becomes another, the rest stay; the lanes of a start; and the least floor of both. Assumes nothing.
+use mathlib.Core.Path.{_≡_, refl, ap₂, sym, subst}
 use mathlib.Core.Logic.{_≢_}
 use mathlib.Core.List.{List, [], _∷_}
 use mathlib.Core.Option.{Option, none}
 use Prim.Native.Nat.{ℕ, zero, suc, _+_, _≤_, _<_}
 use native.Mathlib.Omega.{arith}
-use native.Mathlib.Nat.{le-of-suc-le-suc, zero-lt-suc}
-use lib.ListN.{length, getD, take, length-set}
+use native.Mathlib.Decide.{ℕ-discrete}
+use native.Mathlib.Nat.{le-of-suc-le-suc, zero-lt-suc, le-trans}
+use lib.ListN.{length, getD, take, length-set, getD-replicate}
 use lib.Seq.{getD-set-same, getD-set-other}
 use Rattle.txn.specs.declared.Write.{Write}
 use Rattle.image.specs.declared.Sizes.{Sizes}
@@ -16,7 +17,7 @@ use Rattle.log.specs.declared.Timestamp.{Timestamp}
 use Rattle.log.specs.declared.Timestamp.the-variants.{None, At}
 use Rattle.log.specs.declared.Latest.{Latest}
 use Rattle.log.specs.declared.Latest.the-variants.{Nothing, Is}
-use Rattle.record.specs.Record.{noLane, laneAt, cursorOf, lesser, leastFloor, boundOf, floorAfterDrain, floorAfterAppend, withLane, withClock, withLast, drainedLane, appendedLane, idleLane}
+use Rattle.record.specs.Record.{noLane, laneAt, cursorOf, lesser, leastFloor, boundOf, floorAfterDrain, floorAfterAppend, withLane, withClock, withLast, drainedLane, appendedLane, idleLane, startLane, startRecord}
 use Rattle.record.specs.declared.Pair.{Pair}
 use Rattle.record.specs.declared.Phase.{Phase}
 use Rattle.record.specs.declared.Lane.{Lane}
@@ -42,8 +43,14 @@ lane-to r L l h =
       lanes = length-set (r .lanes) L l;
     }
 
-pub lane-then : {r s t : Record} {L : ℕ} {k l : Lane} → LaneTo r s L k → LaneTo s t L l → LaneTo r t L l
-lane-then a b = record { here = b .here; others = λ M d. b .others M d ∙ a .others M d; lanes = b .lanes ∙ a .lanes }
+-- what holds of lane L anew and of the others as before
+pub lane-cases : (P : ℕ → Type 0) (L : ℕ) → P L → ((M : ℕ) → M ≢ L → P M) → (M : ℕ) → P M
+lane-cases P L here others M = elim (ℕ-discrete M L) [ yes e ↦ subst P (sym e) here | no d ↦ others M d ]
+
+-- every lane in use at a start
+pub lane-start : (z : Sizes) (base : ℕ) → z.lanes ≤ 8 → (L : ℕ) → L < z.lanes → laneAt (startRecord base) L ≡ startLane
+unfolding laneAt startRecord
+lane-start z base h L i = getD-replicate 8 L startLane noLane (le-trans i h)
 
 -- ---- each move
 module _ (z : Sizes) (L : ℕ) (m : Machine) (h : L < length (m .state .lanes)) where
@@ -76,9 +83,6 @@ pub record PageTo (g h : History) (L : ℕ) (p : Page) : Type 0 where
   pub here : pageAt h L ≡ p
   pub others : (M : ℕ) → M ≢ L → pageAt h M ≡ pageAt g M
   pub pages : length (h .pages) ≡ length (g .pages)
-
-pub page-then : {f g h : History} {L : ℕ} {p q : Page} → PageTo f g L p → PageTo g h L q → PageTo f h L q
-page-then a b = record { here = b .here; others = λ M d. b .others M d ∙ a .others M d; pages = b .pages ∙ a .pages }
 
 module _ (L : ℕ) (h : History) (i : L < length (h .pages)) where
   pub page-settled : PageTo h (settled L h) L (record { held = pageAt h L .held; newest = pageAt h L .newest; floor = floorOr (pageAt h L .newest) (pageAt h L .floor) })

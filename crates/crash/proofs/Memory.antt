@@ -3,7 +3,7 @@
 use mathlib.Core.Path.{_≡_, refl, _∙_, sym}
 use mathlib.Core.Logic.{_≢_, _⊎_, inl, inr}
 use mathlib.Core.Bool.{Bool, true, false, cond}
-use mathlib.Core.List.{List, [], _∷_}
+use mathlib.Core.List.{List}
 use Prim.Native.Nat.{ℕ, _+_, _*_, _<_}
 use native.Mathlib.Omega.{arith}
 use lib.Dec.{eqb}
@@ -13,11 +13,10 @@ use Rattle.laws.specs.Lists.{All}
 use Rattle.image.specs.Image.{imageLength, logStart, logOf}
 use Rattle.image.specs.ImageLaws.{log-fits, getD-log}
 use Rattle.image.specs.Flush.{flushed, flushAll, writtenBack, drainedNvm, drainedFlags}
-use Rattle.image.specs.FlushLaws.{unflush-other, flushed-flushAll, flushAll-keeps, length-writtenBack, getD-writtenBack, getD-drainedNvm, getD-drainedFlags}
+use Rattle.image.specs.FlushLaws.{unflush-other, flushed-flushAll, flushAll-keeps, getD-writtenBack, getD-drainedNvm, getD-drainedFlags}
 use Rattle.image.specs.Stores.{Store, stored, places}
 use Rattle.image.specs.StoresLaws.{among, lastAt-none, getD-stored}
 use Rattle.image.specs.declared.Sizes.{Sizes}
-use Rattle.crash.specs.Events.{partlyDrained}
 use Rattle.crash.proofs.Regions.{Apart, among-apart}
 
 pub record Mem (z : Sizes) (L : ℕ) (was cache flags nvm : List ℕ) : Type 0 where
@@ -111,13 +110,3 @@ module _ (z : Sizes) (L : ℕ) (lane : L < z.lanes) (was cache flags nvm : List 
           split (among (k j) (places xs))
           (λ e. inr (flushed-flushAll L (places xs) flags (k j) (in-flags j h) ∙ rw e))
           (λ e. inl (same j h ∙ sym (getD-stored xs cache (k j) (in-cache j h) ∙ lastAt-none xs (k j) (getD cache (k j) 0) e)))
-
--- some stores of a drain, of this lane or another, are write-backs
-pub mem-partly : (z : Sizes) (L : ℕ) (lane : L < z.lanes) (was cache flags : List ℕ) → length cache ≡ imageLength z → length flags ≡ imageLength z
-    → (M : ℕ) (is nvm : List ℕ) → length nvm ≡ imageLength z → Mem z L was cache flags nvm → Mem z L was cache flags (partlyDrained M is flags cache nvm)
-unfolding partlyDrained
-mem-partly z L lane was cache flags cl fl M [] nvm nl m = m
-mem-partly z L lane was cache flags cl fl M (i ∷ is) nvm nl m =
-    split (flushed M (getD flags i 0))
-    (λ e. rw e (mem-partly z L lane was cache flags cl fl M is (writtenBack i cache nvm) (length-writtenBack i cache nvm ∙ nl) (mem-writtenBack z L lane was cache flags nvm cl fl nl i m)))
-    (λ e. rw e (mem-partly z L lane was cache flags cl fl M is nvm nl m))

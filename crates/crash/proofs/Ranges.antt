@@ -1,23 +1,22 @@
 -- Every call leaves the record in its ranges: refusal 2 never happens to a store that was formatted. Assumes nothing.
-use mathlib.Core.Path.{_≡_, refl, ap, _∙_, sym}
+use mathlib.Core.Path.{_≡_, refl, ap, _∙_}
 use mathlib.Core.Bool.{true}
 use mathlib.Core.List.{List, [], _∷_}
-use Prim.Native.Nat.{ℕ, zero, suc, _+_, _-_, _%_, _≤_, _<_, min}
+use Prim.Native.Nat.{ℕ, zero, suc, _%_, _≤_, _<_, min}
 use native.Mathlib.Omega.{arith}
-use native.Mathlib.Nat.{le-of-suc-le-suc}
+use native.Mathlib.Nat.{le-trans}
 use lib.Dec.{eqb, leb, ltb}
 use lib.ListN.{length, getD, take, length-take}
 use lib.Seq.{getD-take}
-use borrow.Author.Tests.{eqb-true, leb-true, ltb-true, eq-eqb, eqb-false, le-leb, lt-ltb}
-use Rattle.laws.specs.Tests.{split, and-left, and-right, and-both}
+use borrow.Author.Tests.{leb-true, eq-eqb, le-leb, lt-ltb}
+use Rattle.laws.specs.Tests.{and-left, and-right, and-both}
 use Rattle.laws.specs.Lists.{All, none as nil, more}
 use Rattle.txn.specs.declared.Write.{Write}
 use Rattle.image.specs.declared.Sizes.{Sizes}
-use Rattle.log.specs.Append.{onward, advance}
-use Rattle.log.specs.declared.Cursor.{Cursor}
 use Rattle.log.specs.declared.Timestamp.{Timestamp}
 use Rattle.log.specs.declared.Timestamp.the-variants.{None, At}
 use Rattle.record.specs.Record.{noLane, laneAt, stampOk, floorOk, pairsOk, phaseOk, laneOk, lanesOk, recordOk, pairsOf}
+use Rattle.record.specs.RecordLaws.{LaneIn, lane-in, record-in}
 use Rattle.record.specs.declared.Pair.{Pair}
 use Rattle.record.specs.declared.Phase.{Phase}
 use Rattle.record.specs.declared.Phase.the-variants.{Idle, Holds}
@@ -25,35 +24,11 @@ use Rattle.record.specs.declared.Lane.{Lane}
 use Rattle.record.specs.declared.Record.{Record}
 
 -- ---- a lane
-pub record LaneRange (z : Sizes) (clock : ℕ) (l : Lane) : Type 0 where
-  pub next : l .next < z.slots
-  pub wrap : l .wrap ≤ 1
-  pub floor : floorOk clock (l .floor) ≡ true
-  pub phase : phaseOk z clock (l .redo) (l .phase) ≡ true
-
-lane-range : (z : Sizes) (clock : ℕ) (l : Lane) → laneOk z clock l ≡ true → LaneRange z clock l
-unfolding laneOk
-lane-range z clock l h =
-    let h₁ = and-right (ltb (l .next) z.slots) _ h in
-    let h₂ = and-right (leb (l .wrap) 1) _ h₁ in
-    record {
-      next = ltb-true (l .next) z.slots (and-left (ltb (l .next) z.slots) _ h);
-      wrap = leb-true (l .wrap) 1 (and-left (leb (l .wrap) 1) _ h₁);
-      floor = and-left (floorOk clock (l .floor)) (phaseOk z clock (l .redo) (l .phase)) h₂;
-      phase = and-right (floorOk clock (l .floor)) (phaseOk z clock (l .redo) (l .phase)) h₂;
-    }
-
-lane-ranged : (z : Sizes) (clock : ℕ) (l : Lane) → LaneRange z clock l → laneOk z clock l ≡ true
+lane-ranged : (z : Sizes) (clock : ℕ) (l : Lane) → LaneIn z clock l → laneOk z clock l ≡ true
 unfolding laneOk
 lane-ranged z clock l r = rw (lt-ltb (l .next) z.slots (r .next), le-leb (l .wrap) 1 (r .wrap), r .floor, r .phase)
 
 -- ---- the record
-lanes-in : (z : Sizes) (clock : ℕ) (ls : List Lane) (M : ℕ) → lanesOk z clock ls ≡ true → M < length ls → laneOk z clock (getD ls M noLane) ≡ true
-unfolding lanesOk
-lanes-in z clock [] M h i = absurd (omega arith)
-lanes-in z clock (l ∷ ls) zero h i = and-left _ _ h
-lanes-in z clock (l ∷ ls) (suc M) h i = lanes-in z clock ls M (and-right (laneOk z clock l) _ h) (le-of-suc-le-suc i)
-
 lanes-out : (z : Sizes) (clock : ℕ) (ls : List Lane) → ((M : ℕ) → M < length ls → laneOk z clock (getD ls M noLane) ≡ true) → lanesOk z clock ls ≡ true
 unfolding lanesOk
 lanes-out z clock [] f = refl
@@ -64,23 +39,20 @@ lanes-out z clock (l ∷ ls) f =
 pub record RecordRange (z : Sizes) (r : Record) : Type 0 where
   pub even : r .clock % 2 ≡ 0
   pub last : stampOk (r .clock) (r .last) ≡ true
-  pub lanes : (M : ℕ) → M < z.lanes → LaneRange z (r .clock) (laneAt r M)
+  pub lanes : (M : ℕ) → M < z.lanes → LaneIn z (r .clock) (laneAt r M)
 
 module _ (z : Sizes) (r : Record) (long : z.lanes ≤ length (r .lanes)) where
   taken-long : length (take z.lanes (r .lanes)) ≡ z.lanes
   taken-long = length-take z.lanes (r .lanes) ∙ (let e : min z.lanes (length (r .lanes)) ≡ z.lanes = omega arith in e)
 
   pub record-range : recordOk z r ≡ true → RecordRange z r
-  unfolding recordOk laneAt
+  unfolding recordOk
   record-range h =
-      let h₁ = and-right (eqb (r .clock % 2) 0) _ h in
-      let a = and-left (stampOk (r .clock) (r .last)) (lanesOk z (r .clock) (take z.lanes (r .lanes))) h₁ in
-      let b = and-right (stampOk (r .clock) (r .last)) (lanesOk z (r .clock) (take z.lanes (r .lanes))) h₁ in
+      let k = record-in z r h in
       record {
-        even = eqb-true (r .clock % 2) 0 (and-left _ _ h);
-        last = a;
-        lanes = λ M i. lane-range z (r .clock) (getD (r .lanes) M noLane)
-            (ap (laneOk z (r .clock)) (sym (getD-take z.lanes (r .lanes) M noLane i)) ∙ lanes-in z (r .clock) (take z.lanes (r .lanes)) M b (rw taken-long i));
+        even = k .clock;
+        last = and-left (stampOk (r .clock) (r .last)) _ (and-right (eqb (r .clock % 2) 0) _ h);
+        lanes = λ M i. lane-in z (r .clock) (laneAt r M) (k .lanes M i (le-trans i long));
       }
 
   pub record-ranged : RecordRange z r → recordOk z r ≡ true
@@ -118,7 +90,7 @@ phase-later z c d redo (Holds g) h e =
     let p = and-right (stampOk c (g .stamp)) (pairsOk z.words (take (g .count) redo)) e₃ in
     rw (and-left (ltb (g .first) z.slots) _ e, and-left (leb 1 (g .count)) _ e₁, and-left (leb (g .count) 16) _ e₂, stamp-later c d (g .stamp) h s, p)
 
-pub lane-later : (z : Sizes) (c d : ℕ) (l : Lane) → c ≤ d → LaneRange z c l → LaneRange z d l
+pub lane-later : (z : Sizes) (c d : ℕ) (l : Lane) → c ≤ d → LaneIn z c l → LaneIn z d l
 lane-later z c d l h r =
     record {
       next = r .next;
@@ -126,23 +98,6 @@ lane-later z c d l h r =
       floor = floor-later c d (l .floor) h (r .floor);
       phase = phase-later z c d (l .redo) (l .phase) h (r .phase);
     }
-
--- ---- a cursor that goes on
-pub record CursorRange (N : ℕ) (c : Cursor) : Type 0 where
-  pub slot : c .slot < N
-  pub wrap : c .wrap ≤ 1
-
-onward-range : (N : ℕ) (c : Cursor) → CursorRange N c → CursorRange N (onward N c)
-unfolding onward
-onward-range N c r =
-    split (eqb (c .slot + 1) N)
-    (λ e. rw e (record { slot = let k = r .slot in omega arith; wrap = omega arith }))
-    (λ e. rw e (record { slot = let k = eqb-false (c .slot + 1) N e in omega arith; wrap = r .wrap }))
-
-pub advance-range : (N n : ℕ) (c : Cursor) → CursorRange N c → CursorRange N (advance N n c)
-unfolding advance
-advance-range N zero c r = r
-advance-range N (suc n) c r = advance-range N n (onward N c) (onward-range N c r)
 
 -- ---- the redo log of a run
 pub pairs-low : (W n : ℕ) {ws : List Write} → 0 < W → All (λ w. w .word < W) ws → pairsOk W (pairsOf n ws) ≡ true

@@ -13,7 +13,7 @@ use Rattle.image.specs.declared.Sizes.{Sizes}
 use Rattle.log.specs.Log.{Complete}
 use Rattle.log.specs.declared.Timestamp.the-variants.{None, At}
 use Rattle.recovery.specs.Recovery.{boundary, completeOf, undone}
-use Rattle.crash.specs.History.{Commit, History, replay, wordsBelow}
+use Rattle.crash.specs.History.{Commit, replay}
 use Rattle.laws.specs.Members.{In}
 use Rattle.recovery.specs.OrderLaws.{undone-at}
 use Rattle.recovery.specs.UndoneLaws.{firstOld, writes, firstsOf, OldIs}
@@ -57,11 +57,6 @@ pub recovered-right : (z : Sizes) (c start : List ℕ) (cs : List Commit) → Sh
     → dataOf z (recoveredImage z c) ≡ replay z.words (boundary z c) cs start
 recovered-right z c start cs (plain s e d) = rw e (recovered-none z c s e ∙ d)
 recovered-right z c start cs (cut b k) = rw (k .bound) (recovered-data z c start cs b k)
-
--- in the history's words
-pub recovered-history : (z : Sizes) (c : List ℕ) (h : History) → Shows z c (h .start) (h .commits) → dataOf z (recoveredImage z c) ≡ wordsBelow z (boundary z c) h
-unfolding wordsBelow
-recovered-history z c h k = recovered-right z c (h .start) (h .commits) k
 
 -- ---- the fields `found` and `rest` from what backs a commit, and a word
 module _ (W b : ℕ) (qs : List Complete) where

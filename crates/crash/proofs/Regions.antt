@@ -1,16 +1,15 @@
--- Where a list of stores goes: stores apart from a lane's log leave it, stores past the data words leave them, stores past the base leave it.
--- Assumes nothing.
+-- Where a list of stores goes: stores apart from a lane's log leave it, stores past the base leave it. Assumes nothing.
 use mathlib.Core.Path.{_≡_, refl, _∙_}
 use mathlib.Core.Logic.{_≢_, _⊎_, inl, inr}
 use mathlib.Core.Bool.{false}
 use mathlib.Core.List.{List}
 use Prim.Native.Nat.{ℕ, _+_, _-_, _*_, _≤_, _<_}
 use native.Mathlib.Omega.{arith}
-use lib.ListN.{set, length-set}
+use lib.ListN.{set}
 use lib.Seq.{getD-set-other}
 use borrow.Author.Tests.{ne-eqb}
-use Rattle.laws.specs.Lists.{All, none, more, stretch-same}
-use Rattle.image.specs.Image.{baseOf, dataOf, logStart, logOf}
+use Rattle.laws.specs.Lists.{All, none, more}
+use Rattle.image.specs.Image.{baseOf, logStart, logOf}
 use Rattle.image.specs.ImageLaws.{logs-apart, logOf-out}
 use Rattle.image.specs.Stores.{Store, stored, places}
 use Rattle.image.specs.StoresLaws.{among}
@@ -46,14 +45,6 @@ module _ (z : Sizes) where
   unfolding stored
   stored-log L image none = refl
   stored-log L image (more {x = x} p h) = stored-log L (set image (x .at) (x .value)) h ∙ logOf-out z L image (x .at) (x .value) p
-
-  pub stored-data : {xs : List Store} (image : List ℕ) → All (λ x. 1 + z.words ≤ x .at) xs → dataOf z (stored xs image) ≡ dataOf z image
-  unfolding stored dataOf
-  stored-data image none = refl
-  stored-data image (more {x = x} p h) =
-      stored-data (set image (x .at) (x .value)) h
-      ∙ stretch-same 1 z.words (set image (x .at) (x .value)) image (length-set image (x .at) (x .value))
-      (λ k l _. getD-set-other image (x .at) (1 + k) (x .value) 0 (λ e. omega arith))
 
 pub stored-base : {xs : List Store} (image : List ℕ) → All (λ x. 1 ≤ x .at) xs → baseOf (stored xs image) ≡ baseOf image
 unfolding stored baseOf

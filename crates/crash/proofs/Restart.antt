@@ -3,13 +3,14 @@ use mathlib.Core.Path.{_≡_, refl, ap, _∙_, sym}
 use mathlib.Core.Logic.{_⊎_, inl, inr}
 use mathlib.Core.Bool.{true, false}
 use mathlib.Core.List.{List, _++_}
-use Prim.Native.Nat.{ℕ, _%_, _<_}
+use Prim.Native.Nat.{ℕ, _%_}
 use native.Mathlib.Omega.{arith}
 use lib.ListN.{length, take, replicate, length-append, length-replicate}
 use lib.Seq.{take-all, length-take-le}
-use borrow.Author.Tests.{eq-eqb, ne-eqb, leb-true}
+use borrow.Author.Tests.{ne-eqb, leb-true}
 use Rattle.laws.specs.Tests.{split}
-use Rattle.image.specs.Image.{sizesOk, imageLength, buffersOk, baseOf}
+use Rattle.image.specs.Image.{imageLength, buffersOk, baseOf}
+use Rattle.image.specs.ImageLaws.{image-filled}
 use Rattle.image.specs.Stores.{stored}
 use Rattle.image.specs.StoresLaws.{length-stored}
 use Rattle.image.specs.declared.Sizes.{Sizes}
@@ -18,17 +19,12 @@ use Rattle.store.specs.Machine.{Machine, firstCause}
 use Rattle.store.specs.Calls.{badBuffers, started}
 use Rattle.recovery.specs.Recovery.{boundary, undoStores, newBase, recoveryStores, recoveredNvm, oddBase, recoverRefusal, allMade, Restarted, recoverStep}
 use Rattle.recovery.specs.declared.Recovered.the-variants.{Cut, Finished}
-use Rattle.crash.specs.Events.{Junk, fitted, bare}
+use Rattle.crash.specs.Events.{fitted}
 use Rattle.recovery.specs.SequenceLaws.{newBase-even}
 use Rattle.recovery.specs.AgainLaws.{recoveredImage, cut-base, recovered-again}
 use Rattle.recovery.specs.FreshLaws.{recovered-base}
 
 -- ---- not refused
-pub buffers-fit : (z : Sizes) (cache nvm flags : ℕ) → sizesOk z ≡ true → cache ≡ imageLength z → nvm ≡ imageLength z → flags ≡ imageLength z
-    → buffersOk z cache nvm flags ≡ true
-unfolding buffersOk
-buffers-fit z cache nvm flags s a b c = rw (s, eq-eqb cache (imageLength z) a, eq-eqb nvm (imageLength z) b, eq-eqb flags (imageLength z) c)
-
 pub recover-taken : (z : Sizes) (m : Machine) → buffersOk z (length (m .cache)) (length (m .nvm)) (length (m .flags)) ≡ true → baseOf (m .nvm) % 2 ≡ 0
     → recoverRefusal z m ≡ 0
 unfolding recoverRefusal firstCause badBuffers oddBase
@@ -37,12 +33,6 @@ recover-taken z m h e = rw (h, ne-eqb (baseOf (m .nvm) % 2) 1 (λ p. omega arith
 pub length-fitted : (n : ℕ) (l : List ℕ) → length (fitted n l) ≡ n
 unfolding fitted
 length-fitted n l = length-take-le n (l ++ replicate n 0) (omega (arith, length-append l (replicate n 0), length-replicate {A = ℕ} n 0))
-
--- where there is no record, and anything in cache and flags
-pub bare-taken : (z : Sizes) (nvm : List ℕ) (j : Junk) → sizesOk z ≡ true → length nvm ≡ imageLength z → length (j .cache) ≡ imageLength z → length (j .flags) ≡ imageLength z
-    → baseOf nvm % 2 ≡ 0 → recoverRefusal z (bare nvm j) ≡ 0
-unfolding bare
-bare-taken z nvm j s n a b e = recover-taken z (bare nvm j) (buffers-fit z _ _ _ s a n b) e
 
 -- ---- the stores made
 pub made-all : (z : Sizes) (limit : ℕ) (nvm : List ℕ) → allMade z limit nvm ≡ true → recoveredNvm z limit nvm ≡ recoveredImage z nvm
@@ -53,12 +43,8 @@ pub length-recoveredNvm : (z : Sizes) (k : ℕ) (nvm : List ℕ) → length (rec
 unfolding recoveredNvm
 length-recoveredNvm z k nvm = length-stored (take k (recoveryStores z nvm)) nvm
 
-pub image-filled : (z : Sizes) (nvm : List ℕ) → length nvm ≡ imageLength z → 0 < length nvm
-unfolding imageLength
-image-filled z nvm s = omega arith
-
 pub recoveredNvm-even : (z : Sizes) (k : ℕ) (nvm : List ℕ) → length nvm ≡ imageLength z → baseOf nvm % 2 ≡ 0 → baseOf (recoveredNvm z k nvm) % 2 ≡ 0
-recoveredNvm-even z k nvm s h = go (cut-base z nvm (image-filled z nvm s) k)
+recoveredNvm-even z k nvm s h = go (cut-base z nvm (image-filled z (length nvm) s) k)
   where
     go : (baseOf (recoveredNvm z k nvm) ≡ baseOf nvm) ⊎ (baseOf (recoveredNvm z k nvm) ≡ newBase z nvm) → baseOf (recoveredNvm z k nvm) % 2 ≡ 0
     go (inl e) = rw e h
@@ -96,7 +82,7 @@ module _ (z : Sizes) {nvm found : List ℕ} (l : Leads z nvm found) where
       record {
         size = length-recoveredNvm z k nvm ∙ l .size;
         even = recoveredNvm-even z k nvm (l .size) (l .even);
-        same = recovered-again z nvm (image-filled z nvm (l .size)) k ∙ l .same;
+        same = recovered-again z nvm (image-filled z (length nvm) (l .size)) k ∙ l .same;
       }
 
   pub leads-length : length found ≡ imageLength z

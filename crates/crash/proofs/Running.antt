@@ -1,4 +1,4 @@
--- All lanes' logs of a running store, and its sizes and base: they hold at a start, and every call, write-back and part of a drain keeps them, with
+-- All lanes' logs of a running store, and its sizes and base: they hold at a start, and every call and write-back keeps them, with
 -- the ghosts of the calling lane changed and the others' as they were. Assumes nothing.
 use mathlib.Core.Path.{_≡_, refl, sym, subst}
 use mathlib.Core.Logic.{_≢_}
@@ -17,23 +17,22 @@ use Rattle.image.specs.Image.{imageLength, baseOf, logOf}
 use Rattle.image.specs.ImageLaws.{InRange}
 use Rattle.image.specs.Flush.{writtenBack}
 use Rattle.image.specs.declared.Sizes.{Sizes}
-use Rattle.record.specs.Record.{noLane, startLane, startRecord, laneAt, cursorOf, drainedLane}
+use Rattle.record.specs.Record.{startLane, startRecord, laneAt, cursorOf, drainedLane}
 use Rattle.record.specs.declared.Pair.{Pair}
 use Rattle.record.specs.declared.Logged.{Logged}
 use Rattle.record.specs.declared.Phase.the-variants.{Idle, Holds}
 use Rattle.store.specs.Machine.{Machine}
 use Rattle.store.specs.Calls.{started, drained, appended, logged, committed, released}
-use Rattle.crash.specs.Events.{partlyDrained}
 use Rattle.crash.specs.History.{floorOr}
-use Rattle.crash.proofs.Lanes.{lane-drained}
+use Rattle.crash.proofs.Lanes.{lane-drained, lane-start}
 use Rattle.crash.proofs.Absolute.{wrapOf, cursorAt}
 use Rattle.crash.proofs.Ghost.{blank}
 use Rattle.crash.proofs.Seqs.{level}
 use Rattle.crash.proofs.Memory.{mem-same}
 use Rattle.crash.proofs.Written.{newestIn, written-start}
-use Rattle.crash.proofs.Shape.{Shape, withNvm, shape-drained, shape-appended, shape-committed, shape-released, shape-writtenBack, shape-partly}
+use Rattle.crash.proofs.Shape.{Shape, withNvm, shape-drained, shape-appended, shape-committed, shape-released, shape-writtenBack}
 use Rattle.crash.proofs.LaneLog.{Track, idle, LaneLog, levelled, extended, restampedBy, next-low, lane-drains, lane-logs, lane-marks, lane-commits, lane-releases}
-use Rattle.crash.proofs.LaneOthers.{commit-low, lane-writtenBack, lane-partly, lane-drains-other, lane-appends-other, lane-commits-other, lane-releases-other}
+use Rattle.crash.proofs.LaneOthers.{commit-low, lane-writtenBack, lane-drains-other, lane-appends-other, lane-commits-other, lane-releases-other}
 
 pub record Running (z : Sizes) (m : Machine) (ts : ℕ → Track) : Type 0 where
   pub shape : Shape z m
@@ -57,10 +56,6 @@ startTrack z image L = record { hist = replicate z.slots blank; gs = []; prior =
 
 module _ (z : Sizes) (r : InRange z) (base : ℕ) (image : List ℕ) (even : base % 2 ≡ 0) (len : length image ≡ imageLength z) (at : baseOf image ≡ base)
     (zero : (L : ℕ) → L < z.lanes → logOf z L image ≡ replicate (2 * z.slots) 0) where
-  start-at : (L : ℕ) → L < z.lanes → laneAt (startRecord base) L ≡ startLane
-  unfolding laneAt startRecord
-  start-at L h = getD-replicate 8 L startLane noLane (omega (arith, r .lanes-high))
-
   start-cursor : cursorAt z.slots (length (replicate z.slots blank)) ≡ cursorOf startLane
   unfolding cursorAt cursorOf startLane wrapOf
   start-cursor =
@@ -76,9 +71,9 @@ module _ (z : Sizes) (r : InRange z) (base : ℕ) (image : List ℕ) (even : bas
         before = w;
         since = level;
         mem = mem-same z L image (replicate (imageLength z) 0) image (λ j k. refl);
-        cursor = rw (start-at L h) (sym start-cursor);
-        floor = rw (start-at L h);
-        holding = rw (start-at L h) idle;
+        cursor = rw (lane-start z base (r .lanes-high) L h) (sym start-cursor);
+        floor = rw (lane-start z base (r .lanes-high) L h);
+        holding = rw (lane-start z base (r .lanes-high) L h) idle;
       }
 
   pub running-start : Running z (started z base image) (startTrack z image)
@@ -114,9 +109,6 @@ module _ (z : Sizes) (m : Machine) (ts : ℕ → Track) (v : Running z m ts) whe
 
   pub running-writtenBack : (i : ℕ) → Running z (withNvm m (writtenBack i (m .cache) (m .nvm))) ts
   running-writtenBack i = record { shape = shape-writtenBack z m (v .shape) i; lanes = λ L h. lane-writtenBack z L h m (ts L) (v .shape) (v .lanes L h) i }
-
-  pub running-partly : (M : ℕ) (is : List ℕ) → Running z (withNvm m (partlyDrained M is (m .flags) (m .cache) (m .nvm))) ts
-  running-partly M is = record { shape = shape-partly z m (v .shape) M is; lanes = λ L h. lane-partly z L h m (ts L) (v .shape) (v .lanes L h) M is }
 
   module _ (M : ℕ) (lane : M < z.lanes) where
     mine : LaneLog z M m (ts M)

@@ -221,10 +221,6 @@ module _ (W N : ℕ) where
   pub newest-end : {h : List Past} {g : Seq} {gs : List Seq} → Hist W N h (g ∷ gs) → length h ≡ g .end + 1
   newest-end (add {h = h} H es t ok) = length-new h es t
 
-  -- the others end before it begins
-  pub others-end : {h : List Past} {g f : Seq} {gs : List Seq} → Hist W N h (g ∷ gs) → In f gs → f .end + length (g .entries) < g .end
-  others-end (add {h = h} H es t ok) i = omega (arith, stands H i .below)
-
   -- a commit: the newest sequence takes a new timestamp
   pub seal : (c : ℕ) → c % 2 ≡ 0 → {h : List Past} {g : Seq} {gs : List Seq} → Hist W N h (g ∷ gs)
       → Hist W N (set h (g .end) (sta (length (g .entries)) c)) (restamped c g ∷ gs)

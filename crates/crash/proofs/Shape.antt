@@ -1,30 +1,28 @@
 -- Sizes and lengths, and the base timestamp, the same in cache and non-volatile memory: kept by every call and every change of memory. Assumes nothing.
 use mathlib.Core.Path.{_≡_, _∙_, sym}
-use mathlib.Core.List.{List, [], _∷_}
+use mathlib.Core.List.{List}
 use Prim.Native.Nat.{ℕ, _+_, _%_, _≤_, _<_}
 use native.Mathlib.Omega.{arith}
 use native.Mathlib.Nat.{le-trans}
-use lib.Dec.{eqb, ltb}
-use borrow.Author.Tests.{ltb-true, ltb-false}
+use lib.Dec.{eqb}
 use lib.ListN.{length, getD}
 use Rattle.laws.specs.Tests.{split}
 use Rattle.laws.specs.Lists.{All, none, more, All-append, All-map}
 use Rattle.txn.specs.declared.Write.{Write}
 use Rattle.image.specs.Image.{imageLength, baseOf, logStart}
-use Rattle.image.specs.ImageLaws.{InRange}
+use Rattle.image.specs.ImageLaws.{InRange, image-filled}
 use Rattle.image.specs.Flush.{flushed, writtenBack, drainedNvm}
 use Rattle.image.specs.FlushLaws.{length-flushAll, length-writtenBack, getD-writtenBack, length-drainedNvm, getD-drainedNvm, length-drainedFlags}
 use Rattle.image.specs.Stores.{Store, places}
 use Rattle.image.specs.StoresLaws.{length-stored}
 use Rattle.image.specs.declared.Sizes.{Sizes}
-use Rattle.log.specs.Append.{appendStores, circular, restampStore}
+use Rattle.log.specs.Append.{appendStores, restampStore}
 use Rattle.record.specs.Record.{laneAt, cursorOf, withLane, withClock, withLast}
 use Rattle.record.specs.declared.Pair.{Pair}
 use Rattle.record.specs.declared.Phase.{Phase}
 use Rattle.record.specs.declared.Record.{Record}
 use Rattle.store.specs.Machine.{Machine}
 use Rattle.store.specs.Calls.{drained, changed, appended, pairStores, commitStores, committed, released}
-use Rattle.crash.specs.Events.{partlyDrained}
 use Rattle.crash.proofs.Lanes.{lane-drained, lane-appended, lane-committed, lane-released}
 use Rattle.crash.proofs.Regions.{inside-late, stored-base}
 use Rattle.crash.proofs.Append.{append-inside}
@@ -54,10 +52,6 @@ pairs-data W (more {x = p} l h) = more (word p l) (pairs-data W h)
     word : (p : Pair) → p .word < W → (1 ≤ 1 + p .word) × (1 + p .word < 1 + W)
     word p l = (omega arith, omega arith)
 
-pub circular-low : (N k : ℕ) → k < N + N → circular N k < N
-unfolding circular
-circular-low N k h = split (ltb k N) (λ e. rw e (ltb-true k N e)) (λ e. rw e (omega (arith, ltb-false k N e)))
-
 as-many : {n a b : ℕ} → b ≡ a → n ≤ a → n ≤ b
 as-many e h = rw e h
 
@@ -77,38 +71,20 @@ module _ (z : Sizes) (m : Machine) (s : Shape z m) where
         base = b;
       }
 
-  some-word : (n : ℕ) → n ≡ imageLength z → 0 < n
-  unfolding imageLength
-  some-word n e = omega arith
-
   -- the base after a write-back of any word
   written-base : (i : ℕ) (nvm : List ℕ) → length nvm ≡ imageLength z → baseOf nvm ≡ baseOf (m .cache) → baseOf (writtenBack i (m .cache) nvm) ≡ baseOf (m .cache)
   unfolding baseOf
   written-base i nvm l e =
-      getD-writtenBack i (m .cache) nvm 0 (some-word (length nvm) l) ∙ split (eqb i 0) (λ t. rw t) (λ t. rw t e)
+      getD-writtenBack i (m .cache) nvm 0 (image-filled z (length nvm) l) ∙ split (eqb i 0) (λ t. rw t) (λ t. rw t e)
 
   pub shape-writtenBack : (i : ℕ) → Shape z (withNvm m (writtenBack i (m .cache) (m .nvm)))
   shape-writtenBack i = shape-nvm (writtenBack i (m .cache) (m .nvm)) (length-writtenBack i (m .cache) (m .nvm)) (written-base i (m .nvm) (s .in-nvm) (s .base))
-
-  partly : (M : ℕ) (is nvm : List ℕ) → length nvm ≡ imageLength z → baseOf nvm ≡ baseOf (m .cache)
-      → (length (partlyDrained M is (m .flags) (m .cache) nvm) ≡ imageLength z) × (baseOf (partlyDrained M is (m .flags) (m .cache) nvm) ≡ baseOf (m .cache))
-  unfolding partlyDrained
-  partly M [] nvm l e = (l, e)
-  partly M (i ∷ is) nvm l e =
-      split (flushed M (getD (m .flags) i 0))
-      (λ t. rw t (partly M is (writtenBack i (m .cache) nvm) (length-writtenBack i (m .cache) nvm ∙ l) (written-base i nvm l e)))
-      (λ t. rw t (partly M is nvm l e))
-
-  pub shape-partly : (M : ℕ) (is : List ℕ) → Shape z (withNvm m (partlyDrained M is (m .flags) (m .cache) (m .nvm)))
-  shape-partly M is =
-      let p = partly M is (m .nvm) (s .in-nvm) (s .base) in
-      shape-nvm (partlyDrained M is (m .flags) (m .cache) (m .nvm)) (p .0 ∙ sym (s .in-nvm)) (p .1)
 
   -- ---- a drain
   drained-base : (L : ℕ) → baseOf (drainedNvm L (m .flags) (m .cache) (m .nvm)) ≡ baseOf (m .cache)
   unfolding baseOf
   drained-base L =
-      getD-drainedNvm L (m .flags) (m .cache) (m .nvm) 0 (some-word _ (s .in-flags)) (some-word _ (s .in-cache)) (some-word _ (s .in-nvm))
+      getD-drainedNvm L (m .flags) (m .cache) (m .nvm) 0 (image-filled z _ (s .in-flags)) (image-filled z _ (s .in-cache)) (image-filled z _ (s .in-nvm))
       ∙ split (flushed L (getD (m .flags) 0 0)) (λ t. rw t) (λ t. rw t (s .base))
 
   module _ (L : ℕ) (lane : L < z.lanes) where

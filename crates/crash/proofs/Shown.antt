@@ -10,13 +10,12 @@ use lib.ListN.{length}
 use borrow.Author.Tests.{ltb-true, ltb-false}
 use Rattle.laws.specs.Tests.{split}
 use Rattle.laws.specs.Lists.{All, All-map}
-use Rattle.slot.specs.declared.Content.the-variants.{Stamp}
 use Rattle.image.specs.declared.Sizes.{Sizes}
 use Rattle.log.specs.Log.{Complete, slotAt, completeBelow}
 use Rattle.laws.specs.Members.{In}
 use Rattle.crash.proofs.Absolute.{wrapOf}
-use Rattle.crash.proofs.Ghost.{Past, sta, contentOf, exact-reads, addressAt, valueAt, entriesBefore}
-use Rattle.crash.proofs.Found.{Genuine, found, stamp-genuine}
+use Rattle.crash.proofs.Ghost.{Past, sta, contentOf, exact-reads, addressAt, valueAt}
+use Rattle.crash.proofs.Found.{Genuine, found}
 use Rattle.crash.proofs.Room.{is-found}
 use Rattle.crash.proofs.Window.{Window, at}
 use Rattle.crash.proofs.Seqs.{Seq, Hist, hist-big, early, hist-fits, lookup, stands}
@@ -60,14 +59,6 @@ module _ (z : Sizes) (low : z.words ≤ 1024) (large : 33 ≤ z.slots) {log : Li
               among = rw (g .entries) (lookup z.words z.slots (s .history) (g .end) (g .count) (q .stamp) (count (g .end) (g .count) (q .stamp) (g .below) (g .stamp)) (g .stamp));
               slot = g .slot;
             }
-
-    -- a whole timestamp, complete or not, is that of a sequence of the history
-    pub shown-stamp : (j k t p : ℕ) → j < z.slots → slotAt z.words log j ≡ Stamp k t p
-        → (e : ℕ) × In (record { entries = entriesBefore z.slots (at h) e k; stamp = t; end = e }) gs
-    shown-stamp j k t p l e =
-        let g = stamp-genuine z.words z.slots low large (at h) (length h) (hist-big z.words z.slots (s .history)) (hist-fits z.words z.slots (s .history))
-        (early z.words z.slots (s .history)) log (s .shows .held) base L j k t p l e in
-        (g .0, lookup z.words z.slots (s .history) (g .0) k t (count (g .0) k t (g .1) (g .2)) (g .2))
 
     -- whole in the window, and settled
     pub shown-there : (g : Seq) → In g gs → length h + length (g .entries) ≤ g .end + z.slots → g .end < u → base < g .stamp

@@ -10,7 +10,7 @@ use lib.Seq.{set-out}
 use borrow.Author.Tests.{eqb-true, leb-true, leb-false, eq-eqb, not-false}
 use Rattle.laws.specs.Tests.{split}
 use Rattle.image.specs.Image.{sizesOk, buffersOk, imageLength, baseOf, dataOf}
-use Rattle.image.specs.ImageLaws.{buffers-in}
+use Rattle.image.specs.ImageLaws.{buffers-in, buffers-good}
 use Rattle.image.specs.Flush.{flushed, writtenBack}
 use Rattle.image.specs.declared.Sizes.{Sizes}
 use Rattle.store.specs.Machine.{Machine, Step, firstCause, unless, numberIn}
@@ -23,7 +23,7 @@ use Rattle.crash.specs.Theorem.{Live, InStep, Answers, formatAnswer, wri
 use Rattle.crash.proofs.Moves.{none-holds, Known}
 use Rattle.recovery.specs.OrderLaws.{undone-none}
 use Rattle.recovery.specs.AgainLaws.{recoveredImage}
-use Rattle.crash.proofs.Restart.{buffers-fit, recover-taken, length-fitted, Leads, leads-self, leads-cut, Restarts, short, finished, restarts}
+use Rattle.crash.proofs.Restart.{recover-taken, length-fitted, Leads, leads-self, leads-cut, Restarts, short, finished, restarts}
 use Rattle.crash.proofs.Fed.{taken-known, drain-taken}
 
 -- ---- what is left to prove
@@ -115,7 +115,7 @@ module _ (z : Sizes) (ok : sizesOk z ≡ true) (Inv : Machine → History → Ty
   -- what a recovery or another failure finds, leaves and replies
   module _ (nvm : List ℕ) (j : Junk) (found : List ℕ) (h : History) (l : Lost nvm j found h) where
     bare-fits : buffersOk z (length (j .cache)) (length nvm) (length (j .flags)) ≡ true
-    bare-fits = buffers-fit z _ _ _ ok (l .cache) (l .leads .size) (l .flags)
+    bare-fits = buffers-good z _ _ _ ok (l .cache) (l .leads .size) (l .flags)
 
     loses-more : (k : ℕ) (i : Junk) → Lost (recoveredNvm z k nvm) (fit z i) found h
     unfolding fit

@@ -4,27 +4,27 @@ use mathlib.Core.Bool.{true}
 use mathlib.Core.List.{List, _∷_}
 use Prim.Native.Nat.{ℕ, _+_, _-_, _*_, _%_, _≤_, _<_}
 use native.Mathlib.Omega.{arith}
-use native.Mathlib.Nat.{le-trans, le-refl}
-use lib.ListN.{length, getD, replicate, length-append, length-replicate, getD-replicate, List·getD-eq-default}
+use native.Mathlib.Nat.{le-refl}
+use lib.ListN.{length, getD, replicate, length-replicate, getD-replicate}
 use lib.Seq.{take-at, getD-append-add, ext-getD}
-use lib.Dec.{ltb}
-use borrow.Author.Tests.{ltb-true, ltb-false}
-use Rattle.laws.specs.Tests.{split}
 use Rattle.laws.specs.Lists.{none as nil}
 use Rattle.image.specs.Image.{sizesOk, imageLength, baseOf, dataOf, logStart, logOf}
-use Rattle.image.specs.ImageLaws.{sizes-in, getD-log, length-log}
+use Rattle.image.specs.ImageLaws.{sizes-in, getD-log, length-log, buffers-good}
+use Rattle.image.specs.BulkLaws.{getD-zeros}
 use Rattle.image.specs.declared.Sizes.{Sizes}
 use Rattle.log.specs.declared.Timestamp.the-variants.{At}
-use Rattle.record.specs.Record.{noLane, startLane, startRecord, laneAt, isLogged, floorOk, phaseOk, recordOk}
+use Rattle.record.specs.Record.{startLane, startRecord, laneAt, isLogged, floorOk, phaseOk, recordOk}
+use Rattle.record.specs.RecordLaws.{LaneIn}
 use Rattle.record.specs.declared.Phase.the-variants.{Idle, Holds}
 use Rattle.record.specs.declared.Lane.{Lane}
 use Rattle.record.specs.declared.Logged.{Logged}
 use Rattle.store.specs.Calls.{started, startImage}
+use Rattle.store.specs.FormatLaws.{length-startImage}
 use Rattle.crash.specs.History.{Page, blankPage, pageAt, opened, replay, wordsBelow, present, isSome}
 use Rattle.crash.specs.Theorem.{Live}
 use Rattle.crash.proofs.Data.{last}
-use Rattle.crash.proofs.Restart.{buffers-fit}
-use Rattle.crash.proofs.Ranges.{LaneRange, RecordRange, record-ranged, stamp-now}
+use Rattle.crash.proofs.Lanes.{lane-start}
+use Rattle.crash.proofs.Ranges.{RecordRange, record-ranged, stamp-now}
 use Rattle.crash.proofs.Agree.{lastOf, Book}
 
 -- ---- the book
@@ -32,15 +32,11 @@ module _ (z : Sizes) (base : ℕ) (image words : List ℕ) (ok : sizesOk z ≡ t
   eight : z.lanes ≤ 8
   eight = sizes-in z ok .lanes-high
 
-  lane-start : (M : ℕ) → M < z.lanes → laneAt (startRecord base) M ≡ startLane
-  unfolding laneAt startRecord
-  lane-start M i = getD-replicate 8 M startLane noLane (le-trans i eight)
-
   page-start : (M : ℕ) → M < z.lanes → pageAt (opened z words base) M ≡ blankPage
   unfolding pageAt opened
   page-start M i = getD-replicate z.lanes M blankPage blankPage i
 
-  start-range : LaneRange z base startLane
+  start-range : LaneIn z base startLane
   unfolding startLane floorOk phaseOk
   start-range = record { next = let k = sizes-in z ok .slots-low in omega arith; wrap = omega arith; floor = refl; phase = refl }
 
@@ -50,14 +46,14 @@ module _ (z : Sizes) (base : ℕ) (image words : List ℕ) (ok : sizesOk z ≡ t
 
   ranges-start : RecordRange z (startRecord base)
   unfolding startRecord
-  ranges-start = record { even = even; last = stamp-now base even; lanes = λ M i. subst (LaneRange z base) (sym (lane-start M i)) start-range }
+  ranges-start = record { even = even; last = stamp-now base even; lanes = λ M i. subst (LaneIn z base) (sym (lane-start z base eight M i)) start-range }
 
   in-range : recordOk z (startRecord base) ≡ true
   in-range = record-ranged z (startRecord base) (rw eight-lanes eight) ranges-start
 
   idle-start : (M : ℕ) → M < z.lanes → laneAt (startRecord base) M .phase ≡ Idle
   unfolding startLane
-  idle-start M i = ap (λ (l : Lane). l .phase) (lane-start M i)
+  idle-start M i = ap (λ (l : Lane). l .phase) (lane-start z base eight M i)
 
   pub none-held : {A : Type 0} (M : ℕ) (g : Logged) → M < z.lanes → laneAt (started z base image .state) M .phase ≡ Holds g → A
   unfolding started
@@ -65,11 +61,11 @@ module _ (z : Sizes) (base : ℕ) (image words : List ℕ) (ok : sizesOk z ≡ t
 
   floors-start : (M : ℕ) → M < z.lanes → laneAt (startRecord base) M .floor ≡ pageAt (opened z words base) M .floor
   unfolding startLane
-  floors-start M i = rw (lane-start M i, page-start M i)
+  floors-start M i = rw (lane-start z base eight M i, page-start M i)
 
   held-start : (M : ℕ) → M < z.lanes → isLogged (laneAt (startRecord base) M .phase) ≡ isSome (pageAt (opened z words base) M .held)
   unfolding startLane isLogged isSome
-  held-start M i = rw (lane-start M i, page-start M i)
+  held-start M i = rw (lane-start z base eight M i, page-start M i)
 
   no-stamp : {A : Type 0} (M s : ℕ) → M < z.lanes → pageAt (opened z words base) M .newest ≡ At s → A
   no-stamp M s i e =
@@ -89,7 +85,7 @@ module _ (z : Sizes) (base : ℕ) (image words : List ℕ) (ok : sizesOk z ≡ t
   unfolding started opened lastOf startRecord
   book-start =
       record {
-        buffers = buffers-fit z _ _ _ ok long long (length-replicate (imageLength z) 0);
+        buffers = buffers-good z _ _ _ ok long long (length-replicate (imageLength z) 0);
         fields = in-range;
         lanes = rw eight-lanes eight;
         pages = length-replicate z.lanes blankPage;
@@ -104,20 +100,7 @@ module _ (z : Sizes) (base : ℕ) (image words : List ℕ) (ok : sizesOk z ≡ t
       }
 
 -- ---- the image of Format
--- a list of 0s, past its end too
-zeros-are : (n i : ℕ) → _≡_ {A = ℕ} (getD (replicate n 0) i 0) 0
-zeros-are n i =
-    split (ltb i n) (λ e. getD-replicate n i 0 0 (ltb-true i n e))
-    (λ e. List·getD-eq-default (replicate n 0) 0 (let k = ltb-false i n e in let l = length-replicate {A = ℕ} n 0 in omega arith))
-
 module _ (z : Sizes) (start : List ℕ) (words : length start ≡ z.words) where
-  pub image-long : length (startImage z start) ≡ imageLength z
-  unfolding startImage imageLength
-  image-long =
-      let e = length-append start (replicate (2 * z.lanes * z.slots) 0) in
-      let f = length-replicate {A = ℕ} (2 * z.lanes * z.slots) 0 in
-      omega arith
-
   pub image-data : dataOf z (startImage z start) ≡ start
   unfolding startImage dataOf
   image-data = take-at start (replicate (2 * z.lanes * z.slots) 0) z.words words
@@ -128,7 +111,7 @@ module _ (z : Sizes) (start : List ℕ) (words : length start ≡ z.words) where
 
   word-past : (k : ℕ) → getD (startImage z start) (length (0 ∷ start) + k) 0 ≡ 0
   unfolding startImage
-  word-past k = getD-append-add (0 ∷ start) (replicate (2 * z.lanes * z.slots) 0) k 0 ∙ zeros-are (2 * z.lanes * z.slots) k
+  word-past k = getD-append-add (0 ∷ start) (replicate (2 * z.lanes * z.slots) 0) k 0 ∙ getD-zeros (2 * z.lanes * z.slots) k
 
   word-late : (i : ℕ) → 1 + z.words ≤ i → getD (startImage z start) i 0 ≡ 0
   word-late i h =
@@ -142,7 +125,7 @@ module _ (z : Sizes) (start : List ℕ) (words : length start ≡ z.words) where
   pub image-log : (L : ℕ) → L < z.lanes → logOf z L (startImage z start) ≡ replicate (2 * z.slots) 0
   image-log L h =
       ext-getD 0 (logOf z L (startImage z start)) (replicate (2 * z.slots) 0) (len ∙ sym (length-replicate (2 * z.slots) 0))
-      (λ j g. let k : j < 2 * z.slots = rw len at g in getD-log z L (startImage z start) j k ∙ word-late (logStart z L + j) (late L j) ∙ sym (zeros-are (2 * z.slots) j))
+      (λ j g. let k : j < 2 * z.slots = rw len at g in getD-log z L (startImage z start) j k ∙ word-late (logStart z L + j) (late L j) ∙ sym (getD-zeros (2 * z.slots) j))
     where
       len : length (logOf z L (startImage z start)) ≡ 2 * z.slots
-      len = length-log z L (startImage z start) image-long h
+      len = length-log z L (startImage z start) (length-startImage z start words) h

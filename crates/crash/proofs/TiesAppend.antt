@@ -37,7 +37,7 @@ use Rattle.crash.proofs.Lanes.{lane-appended, page-stamped}
 use Rattle.crash.proofs.Agree.{Book}
 use Rattle.crash.proofs.Answers.{bound-drained}
 use Rattle.crash.proofs.Onward.{onward-settled, onward-stamped, writes-held}
-use Rattle.crash.proofs.Books.{book-drains}
+use Rattle.crash.proofs.Books.{book-drains, not-held}
 use Rattle.crash.proofs.Regions.{Inside, inside-late, stored-base, among-late}
 use Rattle.crash.proofs.Append.{append-inside}
 use Rattle.crash.proofs.Seqs.{Seq, next, pastOf}
@@ -49,7 +49,7 @@ use Rattle.crash.proofs.Running.{Running, updated, running-logs, runnin
 use Rattle.crash.proofs.Ties.{TrueOf, Ties}
 use Rattle.crash.proofs.TiesLaws.{TrackTo, track-to, track-on, Cells, cells-changed, drained-mine, changed-mine, changed-others, all-onward, floor-first, given-now, Moving, TiesOf, ties-moved}
 use Rattle.crash.proofs.TiesLogs.{ties-logs}
-use Rattle.crash.proofs.TiesDrain.{drained-ties, not-held}
+use Rattle.crash.proofs.TiesDrain.{drained-ties}
 
 -- ---- the append comes after a drain of its lane
 module _ (z : Sizes) (base : ℕ) (h : History) (m : Machine) (b : Book z base h m) (t : Ties z base m h) (L : ℕ) (k : Known z m L) where

@@ -8,11 +8,10 @@ use mathlib.Core.Option.{none}
 use Prim.Native.Nat.{ℕ, _+_, _≤_, _<_}
 use native.Mathlib.Omega.{arith}
 use native.Mathlib.Nat.{le-trans, le-refl}
-use lib.Dec.{eqb}
 use lib.ListN.{length, getD}
-use borrow.Author.Tests.{eqb-true, eqb-false, eq-eqb, ne-eqb, le-ltb}
-use Rattle.laws.specs.Tests.{split}
-use Rattle.laws.specs.Lists.{All, none as nil, more, All-map}
+use borrow.Author.Tests.{ne-eqb, le-ltb}
+use Rattle.laws.specs.Tests.{eqb-same}
+use Rattle.laws.specs.Lists.{All, none as nil, more, All-map, All-rest}
 use Rattle.txn.specs.Txn.{txnOk, run}
 use Rattle.txn.specs.TxnLaws.{run-low}
 use Rattle.txn.specs.declared.Write.{Write}
@@ -38,7 +37,7 @@ use Rattle.crash.proofs.Lanes.{lane-drained, lane-committed, page-settl
 use Rattle.crash.proofs.Agree.{Book, is-held}
 use Rattle.crash.proofs.Answers.{holds-it, matched}
 use Rattle.crash.proofs.Onward.{onward-settled, onward-commit}
-use Rattle.crash.proofs.Books.{book-drains, redo-now, redo-held, redo-pairs}
+use Rattle.crash.proofs.Books.{book-drains, redo-now, redo-held, redo-pairs, not-held}
 use Rattle.crash.proofs.Seqs.{Seq, Hist, restamped}
 use Rattle.crash.proofs.Regions.{stored-base}
 use Rattle.crash.proofs.Written.{Whole, newestIn, newest-whole}
@@ -49,20 +48,14 @@ use Rattle.crash.proofs.Running.{Running, updated, updated-same, runnin
 use Rattle.crash.proofs.Ties.{TrueOf, BackedBy, Ties}
 use Rattle.crash.proofs.TiesLogs.{ties-logs}
 use Rattle.crash.proofs.TiesLaws.{floor-first, TrackTo, track-to, track-on, Cells, cells-changed, drained-mine, changed-mine, changed-others, all-onward, logged-onward, given-now, Moving, TiesOf, ties-moved}
-use Rattle.crash.proofs.TiesDrain.{drained-ties, not-held}
+use Rattle.crash.proofs.TiesDrain.{drained-ties}
 
 -- ---- what a commit stores and flushes
-eqb-suc : (a b : ℕ) → eqb (1 + a) (1 + b) ≡ eqb a b
-eqb-suc a b =
-    split (eqb a b)
-    (λ e. rw e (eq-eqb (1 + a) (1 + b) (omega (arith, eqb-true a b e))))
-    (λ e. rw e (ne-eqb (1 + a) (1 + b) (λ p. eqb-false a b e (omega arith))))
-
 -- the pairs of some writes go to the words that the writes' entries name
 pub pairs-named : (ws : List Write) (w : ℕ) → among (1 + w) (places (pairStores (pairsOf (length ws) ws))) ≡ writes (oldsOf ws) w
 unfolding among places pairStores pairsOf writes oldsOf
 pairs-named [] w = refl
-pairs-named (v ∷ ws) w = ap₂ _||_ (eqb-suc (v .word) w) (pairs-named ws w)
+pairs-named (v ∷ ws) w = ap₂ _||_ (eqb-same (1 + v .word) (1 + w) (v .word) w (λ q. omega arith) (λ q. omega arith)) (pairs-named ws w)
 
 -- pairs are of data words where the writes are
 pub pairs-low : (W : ℕ) {ws : List Write} → All (λ w. w .word < W) ws → All (λ p. p .word < W) (pairsOf (length ws) ws)
@@ -106,9 +99,6 @@ newest-one c g rest = refl
 seal-in : (c s : ℕ) (g : Seq) {f : Seq} {rest : List Seq} → In g (f ∷ rest) → (f .stamp ≡ s → ⊥) → g .stamp ≡ s → In g (restamped c f ∷ rest)
 seal-in c s g here d e = absurd (d e)
 seal-in c s g (there i) d e = there i
-
-all-rest : {P : Seq → Type 0} {g : Seq} {gs : List Seq} → All P (g ∷ gs) → All P gs
-all-rest (more p h) = h
 
 -- ---- a commit of transaction f by a lane that has just drained: the sequence that it holds names what f writes now
 module _ (z : Sizes) (base : ℕ) (h : History) (m : Machine) (b : Book z base h m) (t : Ties z base m h) (L : ℕ) (lane : L < z.lanes)
@@ -155,7 +145,7 @@ module _ (z : Sizes) (base : ℕ) (h : History) (m : Machine) (b : Book z base h
   all-now : All (TrueOf z.words k) (sealGs (h .clock + 2) (t .ts L .gs))
   all-now =
       subst (All (TrueOf z.words k)) (sym sealed)
-      (more true-now (all-onward z h k (onward-commit L f h) (all-rest (rw (it .newest) at (given-now z base h m b t L lane))) (all-rest (rw (it .newest) at (t .now L lane)))))
+      (more true-now (all-onward z h k (onward-commit L f h) (All-rest (rw (it .newest) at (given-now z base h m b t L lane))) (All-rest (rw (it .newest) at (t .now L lane)))))
 
   -- the words that the lane has flushed
   flushes : (w : ℕ) → w < z.words → flushed L (getD (n .flags) (1 + w) 0) ≡ true → writes (g .entries) w ≡ true

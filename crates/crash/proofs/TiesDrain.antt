@@ -14,8 +14,6 @@ use Rattle.laws.specs.Lists.{more}
 use Rattle.txn.specs.Txn.{txnOk}
 use Rattle.image.specs.declared.Sizes.{Sizes}
 use Rattle.record.specs.Record.{laneAt, drainedLane, idleLane}
-use Rattle.record.specs.declared.Logged.{Logged}
-use Rattle.record.specs.declared.Phase.{Phase}
 use Rattle.record.specs.declared.Phase.the-variants.{Idle, Holds}
 use Rattle.record.specs.declared.Lane.{Lane}
 use Rattle.store.specs.Machine.{Machine}
@@ -27,7 +25,7 @@ use Rattle.crash.proofs.Moves.{Known, Ready}
 use Rattle.crash.proofs.Lanes.{lane-drained, lane-released, page-settled, page-released}
 use Rattle.crash.proofs.Agree.{Book}
 use Rattle.crash.proofs.Onward.{onward-settled, onward-released}
-use Rattle.crash.proofs.Books.{book-drains}
+use Rattle.crash.proofs.Books.{book-drains, not-held}
 use Rattle.crash.proofs.Seqs.{Seq, Since, level, grown, sealed}
 use Rattle.crash.proofs.Ghost.{Past}
 use Rattle.crash.proofs.Written.{Falls, onto, newestIn}
@@ -110,9 +108,6 @@ module _ (z : Sizes) (base : ℕ) (h : History) (m : Machine) (b : Book z base h
   drained-ties = ties-moved z base L h (settled L h) m (drained z L m) b t after moving
 
 -- ---- a lane that gives up what it holds
-pub not-held : {A : Type 0} (p : Phase) (x : Logged) → p ≡ Idle → p ≡ Holds x → A
-not-held p x i e = absurd (let z : _≡_ {A = ℕ} 0 1 = cc in omega arith)
-
 module _ (z : Sizes) (base : ℕ) (h : History) (m : Machine) (b : Book z base h m) (t : Ties z base m h) (L : ℕ) (lane : L < z.lanes)
     (run : Running z (calls.released L m) (t .ts)) where
   releasing : Moving z L h (released L h) m (calls.released L m) (t .ts) (t .ts)

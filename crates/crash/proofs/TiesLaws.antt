@@ -31,7 +31,7 @@ use Rattle.store.specs.Calls.{drained, changed}
 use Rattle.crash.specs.History.{Commit, Page, History, blankPage, pageAt, wordsBelow, floorOr, leastFloorOf, writesLogged}
 use Rattle.laws.specs.Members.{In, In-All}
 use Rattle.crash.proofs.Data.{oldsOf, txnWrites}
-use Rattle.crash.proofs.Lanes.{PageTo}
+use Rattle.crash.proofs.Lanes.{PageTo, lane-cases}
 use Rattle.crash.proofs.Agree.{Holding, Book}
 use Rattle.crash.proofs.Onward.{Onward, words-onward, writes-held}
 use Rattle.crash.proofs.Seqs.{Seq}
@@ -123,10 +123,6 @@ track-to L t ts = record { here = updated-same L t ts; others = updated-other L 
 -- from a first change on
 pub track-on : {ts us vs : ℕ → Track} {L : ℕ} {t u : Track} → TrackTo ts us L t → TrackTo ts vs L u → TrackTo us vs L u
 track-on a b = record { here = b .here; others = λ M d. b .others M d ∙ sym (a .others M d) }
-
--- what holds of lane L anew and of the others as before
-pub lane-cases : (P : ℕ → Type 0) (L : ℕ) → P L → ((M : ℕ) → M ≢ L → P M) → (M : ℕ) → P M
-lane-cases P L here others M = elim (ℕ-discrete M L) [ yes e ↦ subst P (sym e) here | no d ↦ others M d ]
 
 -- ---- data words in memory
 abbrev pub Cells : Sizes → Machine → Type 0

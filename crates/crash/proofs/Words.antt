@@ -1,10 +1,9 @@
 -- The data words of the cached image: an append leaves them, a commit makes its writes. Assumes nothing.
 use mathlib.Core.Path.{_≡_, refl, ap, _∙_}
 use mathlib.Core.List.{List, [], _∷_}
-use Prim.Native.Nat.{ℕ, zero, suc, _+_, _*_, _≤_, _<_}
-use native.Mathlib.Omega.{arith}
-use native.Mathlib.Nat.{add-assoc, le-of-suc-le-suc}
-use lib.ListN.{length, set, take}
+use Prim.Native.Nat.{ℕ, _+_, _*_, _<_}
+use native.Mathlib.Nat.{add-assoc}
+use lib.ListN.{length, set}
 use Rattle.laws.specs.Lists.{All, none as nil, more}
 use Rattle.txn.specs.Txn.{applied}
 use Rattle.txn.specs.declared.Write.{Write}
@@ -17,7 +16,7 @@ use Rattle.log.specs.Append.{onward, slotStores, appendFrom, appendStores, circ
 use Rattle.log.specs.declared.Cursor.{Cursor}
 use Rattle.slot.specs.Slot.{entryOf, stampOf}
 use Rattle.slot.specs.declared.Slot.{Slot}
-use Rattle.record.specs.Record.{pairsOf, laneAt, loggedIn, noPair}
+use Rattle.record.specs.Record.{pairsOf, laneAt, loggedIn}
 use Rattle.record.specs.declared.Pair.{Pair}
 use Rattle.record.specs.declared.Phase.{Phase}
 use Rattle.store.specs.Machine.{Machine}
@@ -61,12 +60,3 @@ data-committed z L ws m low =
     ap (dataOf z) (stored-append (pairStores (pairsOf (length ws) ws)) _ (m .cache))
     ∙ rw (add-assoc (logStart z L) j 1) (dataOf-set-log z L (stored (pairStores (pairsOf (length ws) ws)) (m .cache)) (j + 1) _)
     ∙ data-pairs z (m .cache) low
-
--- ---- the redo log
-pub take-pairs : (n k : ℕ) (ws : List Write) → n ≤ k → take n (pairsOf k ws) ≡ pairsOf n ws
-unfolding pairsOf
-take-pairs zero k ws h = refl
-take-pairs (suc n) zero ws h = absurd (omega arith)
-take-pairs (suc n) (suc k) [] h = ap {B = List Pair} (λ r. noPair ∷ r) (take-pairs n k [] (le-of-suc-le-suc h))
-take-pairs (suc n) (suc k) (w ∷ ws) h =
-    ap {B = List Pair} (λ r. record { word = w .word; value = w .new } ∷ r) (take-pairs n k ws (le-of-suc-le-suc h))

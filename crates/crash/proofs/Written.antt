@@ -7,7 +7,7 @@ use Prim.Native.Nat.{ℕ, _+_, _*_, _%_, _≤_, _<_}
 use native.Mathlib.Omega.{arith}
 use native.Mathlib.Nat.{le-trans}
 use lib.ListN.{length, getD, set, replicate}
-use Rattle.laws.specs.Lists.{All, none, more, All-map}
+use Rattle.laws.specs.Lists.{All, none, more, All-map, All-rest}
 use Rattle.txn.specs.declared.Write.{Write}
 use Rattle.image.specs.Image.{imageLength, logStart, logOf}
 use Rattle.image.specs.ImageLaws.{InRange}
@@ -82,9 +82,6 @@ below-new a h = All-map (λ g k. omega arith) h
 rest-falls : {g : Seq} {gs : List Seq} → Falls (g ∷ gs) → Falls gs
 rest-falls (onto a f) = f
 
-rest-all : {P : Seq → Type 0} {g : Seq} {gs : List Seq} → All P (g ∷ gs) → All P gs
-rest-all (more p h) = h
-
 -- ---- an append and a commit, in an image
 module _ (z : Sizes) (r : InRange z) (L : ℕ) (lane : L < z.lanes) (base clock : ℕ) (low : base ≤ clock) (even : clock % 2 ≡ 0) (image : List ℕ) (len : length image ≡ imageLength z) where
   low-olds : (ws : List Write) → All (λ w. w .word < z.words) ws → All (λ e. e .word < z.words) (oldsOf ws)
@@ -115,9 +112,9 @@ module _ (z : Sizes) (r : InRange z) (L : ℕ) (lane : L < z.lanes) (base clock 
         history = seal z.words z.slots (clock + 2) (omega arith) (w .history);
         window = window-restamp z L lane (omega arith) h (g .end) (length (g .entries)) (g .stamp) (clock + 2) (s .closes) (s .ok .even) (s .below)
             (omega (arith, newest-end z.words z.slots (w .history))) image len (w .window);
-        falls = onto (below-new clock (rest-all (w .upto))) (rest-falls (w .falls));
-        above = more (let b : base < clock + 2 = omega arith in b) (rest-all (w .above));
-        upto = more (let b : clock + 2 ≤ clock + 2 = omega arith in b) (later-stamps clock (clock + 2) (omega arith) (rest-all (w .upto)));
+        falls = onto (below-new clock (All-rest (w .upto))) (rest-falls (w .falls));
+        above = more (let b : base < clock + 2 = omega arith in b) (All-rest (w .above));
+        upto = more (let b : clock + 2 ≤ clock + 2 = omega arith in b) (later-stamps clock (clock + 2) (omega arith) (All-rest (w .upto)));
       }
 
 -- ---- what is found
@@ -166,9 +163,6 @@ pub newest-whole : (z : Sizes) → InRange z → {h : List Past} {g : Seq} {gs :
 newest-whole z r H = omega (arith, newest-end z.words z.slots H, stands z.words z.slots H here .ok .few)
 
 module _ (z : Sizes) (r : InRange z) (base clock : ℕ) (log : List ℕ) (L : ℕ) where
-  pub written-found : {h : List Past} {gs : List Seq} → Written z base clock log h gs → All (Listed z.slots gs) (completeBelow z.words z.slots base log L z.slots)
-  written-found w = shown-found z (r .words-high) (omega arith) (shown-window z (w .history) (w .window)) base L
-
   pub written-there : {h : List Past} {g : Seq} {gs : List Seq} → Written z base clock log h gs → In g gs → Whole z.slots h g
       → In (foundAs z.slots L g) (completeBelow z.words z.slots base log L z.slots)
   written-there {g = g} w i whole =

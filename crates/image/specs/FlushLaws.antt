@@ -4,7 +4,7 @@ use mathlib.Core.Path.{_≡_, refl, ap, _∙_, sym}
 use mathlib.Core.Logic.{_≢_}
 use mathlib.Core.Bool.{Bool, true, false, cond, _||_, or-true}
 use mathlib.Core.List.{List, [], _∷_, _++_, map}
-use Prim.Native.Nat.{ℕ, zero, suc, _+_, _*_, _/_, _%_, _^_, _≤_, _<_}
+use Prim.Native.Nat.{ℕ, zero, suc, _+_, _*_, _/_, _%_, _<_}
 use native.Mathlib.Omega.{arith}
 use native.Mathlib.Nat.{le-of-suc-le-suc, not-suc-le-zero}
 use native.Mathlib.Decide.{ℕ-discrete}
@@ -52,10 +52,6 @@ unflush-other zero (suc L) f h = rw (low (unflush L (f / 2)) (f % 2) (bit f))
 unflush-other (suc M) zero f h = ap (flushed M) (omega arith)
 unflush-other (suc M) (suc L) f h = rw (half (unflush L (f / 2)) (f % 2) (bit f)) (unflush-other M L (f / 2) (λ e. h (ap suc e)))
 
--- a bit once set stays set under more flushes
-pub flush-keeps : (M L f : ℕ) → flushed M f ≡ true → flushed M (flush L f) ≡ true
-flush-keeps M L f h = elim (ℕ-discrete M L) [ yes e ↦ rw e (flushed-flush L f) | no d ↦ flush-other M L f d ∙ h ]
-
 -- clearing a bit that is not set changes nothing
 pub unflush-none : (L f : ℕ) → flushed L f ≡ false → unflush L f ≡ f
 unfolding flushed unflush
@@ -69,24 +65,6 @@ flushed-zero (suc L) = flushed-zero L
 
 pub unflush-zero : (L : ℕ) → unflush L 0 ≡ 0
 unflush-zero L = unflush-none L 0 (flushed-zero L)
-
--- ---- a byte stays a byte
-pub flush-below : (k L f : ℕ) → L < k → f < 2 ^ k → flush L f < 2 ^ k
-unfolding flush
-flush-below zero L f h g = absurd (not-suc-le-zero h)
-flush-below (suc k) zero f h g = omega arith
-flush-below (suc k) (suc L) f h g = let ih : flush L (f / 2) < 2 ^ k = flush-below k L (f / 2) (le-of-suc-le-suc h) (omega arith) in omega arith
-
-pub flush-byte : (L f : ℕ) → L < 8 → f < 256 → flush L f < 256
-flush-byte L f h g = flush-below 8 L f h g
-
-pub unflush-le : (L f : ℕ) → unflush L f ≤ f
-unfolding unflush
-unflush-le zero f = omega arith
-unflush-le (suc L) f = omega (arith, unflush-le L (f / 2))
-
-pub unflush-byte : (L f : ℕ) → f < 256 → unflush L f < 256
-unflush-byte L f g = omega (arith, unflush-le L f)
 
 -- ---- flag bytes of many words
 pub length-flushAll : (L : ℕ) (is flags : List ℕ) → length (flushAll L is flags) ≡ length flags

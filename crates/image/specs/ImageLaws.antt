@@ -1,4 +1,4 @@
--- Laws of the sizes and of the image: ranges, where the logs stand, and a store seen in base, data words and logs. Assumes nothing.
+-- Laws of the sizes and of the image: ranges, where the logs stand, and a store seen in data words and logs. Assumes nothing.
 use mathlib.Core.Path.{_≡_, _∙_}
 use mathlib.Core.Logic.{_≢_, _⊎_, inl, inr}
 use mathlib.Core.Bool.{true}
@@ -8,11 +8,11 @@ use native.Mathlib.Omega.{arith}
 use native.Mathlib.Nat.{mul-le-mul, mul-le-mul-left}
 use lib.Dec.{leb, eqb, ltb}
 use lib.ListN.{length, getD, set, drop, length-take, length-drop, length-set}
-use lib.Seq.{take-set-lt, drop-set-add, getD-set-other, getD-set-same, getD-take, getD-drop}
-use borrow.Author.Tests.{leb-true, eqb-true, ltb-true, ltb-false}
+use lib.Seq.{take-set-lt, drop-set-add, getD-set-other, getD-take, getD-drop}
+use borrow.Author.Tests.{leb-true, eqb-true, ltb-true, ltb-false, eq-eqb}
 use Rattle.laws.specs.Tests.{split, and-left, and-right}
 use Rattle.laws.specs.Lists.{stretch-same}
-use Rattle.image.specs.Image.{sizesOk, imageLength, buffersOk, baseOf, dataOf, logStart, logOf}
+use Rattle.image.specs.Image.{sizesOk, imageLength, buffersOk, dataOf, logStart, logOf}
 use Rattle.image.specs.declared.Sizes.{Sizes}
 
 -- ---- ranges
@@ -80,6 +80,16 @@ buffers-in z cache nvm flags e =
       in-flags = eqb-true _ _ (and-right (eqb nvm (imageLength z)) (eqb flags (imageLength z)) c);
     }
 
+pub buffers-good : (z : Sizes) (cache nvm flags : ℕ) → sizesOk z ≡ true → cache ≡ imageLength z → nvm ≡ imageLength z → flags ≡ imageLength z
+    → buffersOk z cache nvm flags ≡ true
+unfolding buffersOk
+buffers-good z cache nvm flags s a b c = rw (s, eq-eqb cache (imageLength z) a, eq-eqb nvm (imageLength z) b, eq-eqb flags (imageLength z) c)
+
+-- an image has a word
+pub image-filled : (z : Sizes) (n : ℕ) → n ≡ imageLength z → 0 < n
+unfolding imageLength
+image-filled z n e = omega arith
+
 -- ---- the parts of an image
 module _ (z : Sizes) where
   pub getD-data : (image : List ℕ) (i : ℕ) → i < z.words → getD (dataOf z image) i 0 ≡ getD image (1 + i) 0
@@ -98,15 +108,6 @@ module _ (z : Sizes) where
   unfolding logOf
   length-log L image e h =
       length-take (2 * z.slots) (drop (logStart z L) image) ∙ rw (length-drop (logStart z L) image, e) (omega (arith, log-fits z L h))
-
-  -- the base timestamp and the data words stand before every log
-  pub base-before-log : (L : ℕ) → 0 < logStart z L
-  unfolding logStart
-  base-before-log L = omega arith
-
-  pub data-before-log : (L i : ℕ) → i < z.words → 1 + i < logStart z L
-  unfolding logStart
-  data-before-log L i h = omega arith
 
   -- the logs of different lanes stand apart
   pub logs-apart : (L M j : ℕ) → L ≢ M → j < 2 * z.slots → (logStart z M + j < logStart z L) ⊎ (logStart z L + 2 * z.slots ≤ logStart z M + j)
@@ -132,15 +133,6 @@ module _ (z : Sizes) where
       off k h e (inl p) = omega arith
       off k h e (inr p) = omega arith
 
-  pub logOf-other : (L M : ℕ) (image : List ℕ) (j v : ℕ) → L ≢ M → j < 2 * z.slots → logOf z L (set image (logStart z M + j) v) ≡ logOf z L image
-  logOf-other L M image j v d h = logOf-out L image (logStart z M + j) v (logs-apart L M j d h)
-
-  pub logOf-set-data : (L : ℕ) (image : List ℕ) (i v : ℕ) → i < z.words → logOf z L (set image (1 + i) v) ≡ logOf z L image
-  logOf-set-data L image i v h = logOf-out L image (1 + i) v (inl (data-before-log L i h))
-
-  pub logOf-set-base : (L : ℕ) (image : List ℕ) (v : ℕ) → logOf z L (set image 0 v) ≡ logOf z L image
-  logOf-set-base L image v = logOf-out L image 0 v (inl (base-before-log L))
-
   -- ---- in its data words
   pub dataOf-set : (image : List ℕ) (i v : ℕ) → i < z.words → dataOf z (set image (1 + i) v) ≡ set (dataOf z image) i v
   unfolding dataOf
@@ -149,20 +141,3 @@ module _ (z : Sizes) where
   pub dataOf-set-log : (L : ℕ) (image : List ℕ) (j v : ℕ) → dataOf z (set image (logStart z L + j) v) ≡ dataOf z image
   unfolding dataOf logStart
   dataOf-set-log L image j v = stretch-same 1 z.words (set image _ v) image (length-set image _ v) (λ k h _. getD-set-other image _ (1 + k) v 0 (λ e. omega arith))
-
-  pub dataOf-set-base : (image : List ℕ) (v : ℕ) → dataOf z (set image 0 v) ≡ dataOf z image
-  unfolding dataOf
-  dataOf-set-base image v = stretch-same 1 z.words (set image 0 v) image (length-set image 0 v) (λ k h _. getD-set-other image 0 (1 + k) v 0 (λ e. omega arith))
-
-  -- ---- in its base timestamp
-  pub baseOf-set-log : (L : ℕ) (image : List ℕ) (j v : ℕ) → baseOf (set image (logStart z L + j) v) ≡ baseOf image
-  unfolding baseOf logStart
-  baseOf-set-log L image j v = getD-set-other image _ 0 v 0 (λ e. omega arith)
-
-pub baseOf-set : (image : List ℕ) (v : ℕ) → 0 < length image → baseOf (set image 0 v) ≡ v
-unfolding baseOf
-baseOf-set image v h = getD-set-same image 0 v 0 h
-
-pub baseOf-set-data : (image : List ℕ) (i v : ℕ) → baseOf (set image (1 + i) v) ≡ baseOf image
-unfolding baseOf
-baseOf-set-data image i v = getD-set-other image (1 + i) 0 v 0 (λ e. omega arith)

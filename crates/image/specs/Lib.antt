@@ -6,4 +6,4 @@ pub mod Flush
 pub mod FlushLaws
 pub mod MaskLaws
 pub mod DrainLaws
-pub mod CoveredLaws
+pub mod BulkLaws

@@ -2,8 +2,7 @@
 use mathlib.Core.Path.{_≡_, refl, ap, _∙_, sym}
 use mathlib.Core.Bool.{Bool, true, false, cond, _||_, or-assoc}
 use mathlib.Core.List.{List, [], _∷_, _++_}
-use Prim.Native.Nat.{ℕ, zero, suc, _+_, _<_}
-use native.Mathlib.Omega.{arith}
+use Prim.Native.Nat.{ℕ, zero, suc, _<_}
 use lib.Dec.{eqb}
 use lib.ListN.{length, getD, set, take, length-set}
 use lib.Seq.{lt-length-set, ext-getD}
@@ -52,11 +51,6 @@ unfolding places
 places-append [] l = refl
 places-append (s ∷ k) l = ap (λ (is : List ℕ). s.at ∷ is) (places-append k l)
 
-pub length-places : (l : List Store) → length (places l) ≡ length l
-unfolding places
-length-places [] = refl
-length-places (s ∷ l) = ap suc (length-places l)
-
 pub among-append : (i : ℕ) (is js : List ℕ) → among i (is ++ js) ≡ (among i is || among i js)
 unfolding among
 among-append i [] js = refl
@@ -67,17 +61,6 @@ pub lastAt-none : (l : List Store) (i x : ℕ) → among i (places l) ≡ false 
 unfolding among places lastAt
 lastAt-none [] i x h = refl
 lastAt-none (s ∷ l) i x h = rw (or-left (eqb s.at i) _ h) (lastAt-none l i x (or-right (eqb s.at i) _ h))
-
--- where something is stored, what stood there before is forgotten
-pub lastAt-forgets : (l : List Store) (i x y : ℕ) → among i (places l) ≡ true → lastAt l i x ≡ lastAt l i y
-unfolding among places lastAt
-lastAt-forgets [] i x y h = absurd (let e : _≡_ {A = ℕ} 0 1 = cc in omega arith)
-lastAt-forgets (s ∷ l) i x y h = go (eqb s.at i) h (lastAt-forgets l i x y)
-  where
-    go : (b : Bool) → (b || among i (places l)) ≡ true → (among i (places l) ≡ true → lastAt l i x ≡ lastAt l i y)
-        → lastAt l i (cond b s.value x) ≡ lastAt l i (cond b s.value y)
-    go true e ih = refl
-    go false e ih = ih e
 
 again : (l : List Store) (k i x : ℕ) → lastAt l i (lastAt (take k l) i x) ≡ lastAt l i x
 unfolding lastAt

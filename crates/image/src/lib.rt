@@ -1,9 +1,10 @@
-// Sizes and the image: where its words stand, and which buffers are as long as it. The flush masks and the copying of words are in flush.rt.
+// Sizes and the image: where its words stand, and which buffers are as long as it. The flush masks and the copying of words are in flush.rt, whole stretches of words in bulk.rt.
 ghost use mathlib.Core.Path.{_≡_};
 ghost use mathlib.Core.Bool.{true};
 ghost use Prim.Native.Nat.{_<_};
 ghost use Rattle.image.specs.Image.{sizesOk, imageLength, buffersOk, logStart};
 
+pub mod bulk;
 pub mod flush;
 
 // 01's W data words, T lanes and N log slots a lane.

@@ -29,6 +29,9 @@ module _ {A : Type 0} where
   All-map f none = none
   All-map f (more {x} p h) = more (f x p) (All-map f h)
 
+  pub All-rest : {P : A → Type 0} {x : A} {l : List A} → All P (x ∷ l) → All P l
+  All-rest (more p h) = h
+
   pub All-take : {P : A → Type 0} (n : ℕ) {l : List A} → All P l → All P (take n l)
   All-take zero none = none
   All-take zero (more p h) = none

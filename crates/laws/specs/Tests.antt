@@ -1,17 +1,15 @@
--- Laws of tests: going by cases on one, and what a conjunction says. Assumes nothing.
+-- Laws of tests: going by cases on one, what a conjunction says, and two equations that say the same. Assumes nothing.
 use mathlib.Core.Path.{_≡_, refl, sym, _∙_}
 use mathlib.Core.Logic.{_⊎_, inl, inr}
 use mathlib.Core.Bool.{Bool, true, false, _&&_, _||_, true≢false}
+use Prim.Native.Nat.{ℕ}
+use lib.Dec.{eqb}
+use borrow.Author.Tests.{eqb-true, eqb-false, eq-eqb, ne-eqb}
 
 -- go by cases on a test and keep what it said
 pub split {ℓ} : {C : Type ℓ} (b : Bool) → (b ≡ true → C) → (b ≡ false → C) → C
 split true t f = t refl
 split false t f = f refl
-
--- which of the two
-pub either : (b : Bool) → (b ≡ true) ⊎ (b ≡ false)
-either true = inl refl
-either false = inr refl
 
 -- a test that said both
 pub clash {ℓ} : {C : Type ℓ} (b : Bool) → b ≡ true → b ≡ false → C
@@ -42,3 +40,8 @@ or-right false b h = h
 pub or-cases : (a b : Bool) → (a || b) ≡ true → (a ≡ true) ⊎ (b ≡ true)
 or-cases true b h = inl refl
 or-cases false b h = inr h
+
+-- tests of two equations, each of which says the other
+pub eqb-same : (a b c d : ℕ) → (a ≡ b → c ≡ d) → (c ≡ d → a ≡ b) → eqb a b ≡ eqb c d
+eqb-same a b c d f g =
+    split (eqb c d) (λ e. eq-eqb a b (g (eqb-true c d e)) ∙ sym e) (λ e. ne-eqb a b (λ p. eqb-false c d e (f p)) ∙ sym e)

@@ -1,5 +1,5 @@
--- Laws of append: the place after an append, its stores one slot after the other, and where they fall. Assumes nothing.
-use Prim.Native.Nat.{ℕ, zero, suc, _+_, _-_, _*_, _%_, _≤_, _<_}
+-- Laws of append: the place after n slots, its stores one slot after the other, and the code's loop over them. Assumes nothing.
+use Prim.Native.Nat.{ℕ, zero, suc, _+_, _*_, _%_, _≤_, _<_}
 use mathlib.Core.Path.{_≡_, refl, sym, ap, _∙_}
 use mathlib.Core.List.{List, [], _∷_, _++_}
 use native.Mathlib.Omega.{arith}
@@ -9,7 +9,6 @@ use lib.ListN.{length, getD, set, take}
 use lib.Seq.{take-suc, length-take-le, getD-take}
 use borrow.Author.Tests.{eqb-false}
 use Rattle.laws.specs.Tests.{split}
-use Rattle.laws.specs.Lists.{All, none, more}
 use Rattle.slot.specs.Slot.{entryOf, stampOf}
 use Rattle.slot.specs.declared.Slot.{Slot}
 use Rattle.txn.specs.Txn.{noWrite}
@@ -50,16 +49,7 @@ unfolding advance
 advance-suc N zero c = refl
 advance-suc N (suc n) c = advance-suc N n (onward N c)
 
-pub advance-add : (N n m : ℕ) (c : Cursor) → advance N (n + m) c ≡ advance N m (advance N n c)
-unfolding advance
-advance-add N zero m c = ap (λ (k : ℕ). advance N k c) (let e : 0 + m ≡ m = omega arith in e)
-advance-add N (suc n) m c = ap (λ (k : ℕ). advance N k c) (let e : suc n + m ≡ suc (n + m) = omega arith in e) ∙ advance-add N n m (onward N c)
-
 -- ---- the stores
-pub slotStores-append : (start j : ℕ) (s : Slot) (rest : List Store) → slotStores start j s rest ≡ slotStores start j s [] ++ rest
-unfolding slotStores
-slotStores-append start j s rest = refl
-
 -- the entries, and then the timestamp
 append-from : (start N n s : ℕ) (c : Cursor) (ws : List Write)
     → appendFrom start N n s c ws
@@ -83,36 +73,6 @@ unfolding entryStores advance slotStores
 entries-snoc start N c [] w = refl
 entries-snoc start N c (v ∷ ws) w =
     ap (λ (l : List Store). slotStores start (c .slot) (entryOf (v .word) (v .old) (c .wrap)) l) (entries-snoc start N (onward N c) ws w)
-
--- two words a slot
-length-from : (start N n s : ℕ) (c : Cursor) (ws : List Write) → length (appendFrom start N n s c ws) ≡ 2 * (length ws + 1)
-unfolding appendFrom slotStores
-length-from start N n s c [] = refl
-length-from start N n s c (w ∷ ws) = let h = length-from start N n s (onward N c) ws in omega arith
-
-pub length-append : (start N s : ℕ) (c : Cursor) (ws : List Write) → length (appendStores start N s c ws) ≡ 2 * (length ws + 1)
-unfolding appendStores
-length-append start N s c ws = length-from start N (length ws) s c ws
-
--- every store is to a word of the log
-abbrev pub InLog : (start N : ℕ) → Store → Type 0
-InLog start N x = (start ≤ x .at) × (x .at < start + 2 * N)
-
-from-inside : (start N n s : ℕ) (c : Cursor) (ws : List Write) → Within N c → All (InLog start N) (appendFrom start N n s c ws)
-unfolding appendFrom slotStores
-from-inside start N n s c [] h =
-    let l = h .slot in
-    more {x = record { at = start + 2 * c .slot; value = stampOf n s (c .wrap) .address }} (omega arith, omega arith)
-    (more {x = record { at = start + 2 * c .slot + 1; value = stampOf n s (c .wrap) .value }} (omega arith, omega arith) none)
-from-inside start N n s c (w ∷ ws) h =
-    let l = h .slot in
-    more {x = record { at = start + 2 * c .slot; value = entryOf (w .word) (w .old) (c .wrap) .address }} (omega arith, omega arith)
-    (more {x = record { at = start + 2 * c .slot + 1; value = entryOf (w .word) (w .old) (c .wrap) .value }} (omega arith, omega arith)
-    (from-inside start N n s (onward N c) ws (onward-within N c h)))
-
-pub append-inside : (start N s : ℕ) (c : Cursor) (ws : List Write) → Within N c → All (InLog start N) (appendStores start N s c ws)
-unfolding appendStores
-append-inside start N s c ws h = from-inside start N (length ws) s c ws h
 
 -- ---- what the code does
 -- a slot's two words stored and flushed

@@ -1,5 +1,5 @@
--- Laws of a lane's log: entries back from a timestamp, what is found, the latest of two lists, hits; nothing found depends on the lane. Assumes nothing.
-use Prim.Native.Nat.{ℕ, zero, suc, _+_, _-_, _*_, _%_, _≤_, _<_}
+-- Laws of a lane's log: entries back from a timestamp, what a slot closes, the latest of two lists, hits; nothing found depends on the lane. Assumes nothing.
+use Prim.Native.Nat.{ℕ, zero, suc, _+_, _-_, _*_, _≤_, _<_}
 use mathlib.Core.Path.{_≡_, refl, sym, ap, _∙_}
 use mathlib.Core.Bool.{Bool, true, false, cond, _&&_, _||_, or-assoc, or-true}
 use mathlib.Core.List.{List, [], _∷_, _++_, map, map-append}
@@ -9,8 +9,8 @@ use mathlib.Core.Logic.{⊎-elim}
 use lib.Dec.{leb, ltb, eqb}
 use lib.ListN.{length, getD, length-append}
 use borrow.Author.Tests.{leb-true, leb-false, ltb-true, ltb-false, eqb-true, eq-eqb, ne-eqb, lt-ltb, le-ltb, le-leb, lt-leb}
-use Rattle.laws.specs.Tests.{split, clash, and-left, and-right}
-use Rattle.laws.specs.Lists.{All, none, more, All-append, All-map, All-cond}
+use Rattle.laws.specs.Tests.{split, clash}
+use Rattle.laws.specs.Lists.{All, none, more, All-append, All-cond}
 use Rattle.slot.specs.SlotLaws.{StampFrom, EntryFrom, stamp-only, entry-only}
 use Rattle.slot.specs.declared.Content.{Content}
 use Rattle.slot.specs.declared.Content.the-variants.{Empty, Torn, Entry, Stamp}
@@ -28,10 +28,6 @@ use Rattle.log.specs.Search.{isEntry, entryBack}
 pub back-low : (N j i : ℕ) → j < N → i ≤ N → back N j i < N
 unfolding back
 back-low N j i h g = split (leb i j) (λ e. rw e (omega arith)) (λ e. rw e (omega (arith, leb-false i j e)))
-
-pub ahead-low : (N k j : ℕ) → k < N → j < N → ahead N k j < N
-unfolding ahead
-ahead-low N k j h g = split (leb k j) (λ e. rw e (omega arith)) (λ e. rw e (omega (arith, leb-false k j e)))
 
 -- what a whole timestamp in a slot has
 pub stamp-in : (W : ℕ) (log : List ℕ) (j n s p : ℕ) → slotAt W log j ≡ Stamp n s p
@@ -155,68 +151,6 @@ module _ (W N base : ℕ) (log : List ℕ) (L j : ℕ) {c : Content} {n s p : �
   unfolding closes
   closes-all h g = rw (e, lt-ltb base s h, eq-eqb (length (entriesBack W N log j p n)) n g)
 
--- ---- what is found
--- a sequence found in a log below slot k: a whole timestamp above the base, and the entries that it closes
-pub record Found (W N base : ℕ) (log : List ℕ) (L k : ℕ) (q : Complete) : Type 0 where
-  pub lane : q .lane ≡ L
-  pub slot : q .slot < k
-  pub above : base < q .stamp
-  pub wrap : ℕ
-  pub reads : slotAt W log (q .slot) ≡ Stamp (length (q .entries)) (q .stamp) wrap
-  pub entries : q .entries ≡ entriesBack W N log (q .slot) wrap (length (q .entries))
-
-module _ (W N base : ℕ) (log : List ℕ) (L : ℕ) where
-  found-stamp : (j n s p : ℕ) → slotAt W log j ≡ Stamp n s p → (b : Bool) → (ltb base s && eqb (length (entriesBack W N log j p n)) n) ≡ b
-      → All (Found W N base log L (suc j)) (cond b (record { stamp = s; lane = L; slot = j; entries = entriesBack W N log j p n } ∷ []) [])
-  found-stamp j n s p e false h = none
-  found-stamp j n s p e true h =
-      let l : length (entriesBack W N log j p n) ≡ n = eqb-true _ _ (and-right (ltb base s) _ h) in
-      more {x = record { stamp = s; lane = L; slot = j; entries = entriesBack W N log j p n }}
-      (record {
-        lane = refl;
-        slot = omega arith;
-        above = ltb-true _ _ (and-left (ltb base s) _ h);
-        wrap = p;
-        reads = rw l e;
-        entries = rw l;
-      })
-      none
-
-  pub closes-found : (j : ℕ) (c : Content) → slotAt W log j ≡ c → All (Found W N base log L (suc j)) (closes W N base log L j c)
-  unfolding closes
-  closes-found j Empty e = none
-  closes-found j Torn e = none
-  closes-found j (Entry i v p) e = none
-  closes-found j (Stamp n s p) e = found-stamp j n s p e (ltb base s && eqb (length (entriesBack W N log j p n)) n) refl
-
-  pub complete-found : (k : ℕ) → All (Found W N base log L k) (completeBelow W N base log L k)
-  unfolding completeBelow
-  complete-found zero = none
-  complete-found (suc k) = All-append (All-map (λ q f. wider q f) (complete-found k)) (closes-found k (slotAt W log k) refl)
-    where
-      wider : (q : Complete) → Found W N base log L k q → Found W N base log L (suc k) q
-      wider q f = record {
-        lane = f .lane;
-        slot = let h = f .slot in omega arith;
-        above = f .above;
-        wrap = f .wrap;
-        reads = f .reads;
-        entries = f .entries;
-      }
-
-  module _ {k : ℕ} {q : Complete} (f : Found W N base log L k q) where
-    pub found-from : StampFrom (getD log (2 * q .slot) 0) (getD log (2 * q .slot + 1) 0) (length (q .entries)) (q .stamp) (f .wrap)
-    found-from = stamp-in W log (q .slot) (length (q .entries)) (q .stamp) (f .wrap) (f .reads)
-
-    pub found-few : length (q .entries) ≤ 16
-    found-few = found-from .count
-
-    pub found-even : q .stamp % 2 ≡ 0
-    found-even = found-from .even
-
-    pub found-words : All (λ (o : Old). o .word < W) (q .entries)
-    found-words = rw (f .entries) (back-words W N log (q .slot) (f .wrap) (length (q .entries)))
-
 -- ---- the latest of two lists
 -- the later of two, where the second's slots are higher
 unfoldable pub newer : Latest → Latest → Latest
@@ -298,9 +232,6 @@ latest-map : (L : ℕ) (qs : List Complete) → latest (map (inLane L) qs) ≡ l
 unfolding latest sequenceOf inLane
 latest-map L [] = refl
 latest-map L (q ∷ qs) = ap (later (sequenceOf q)) (latest-map L qs)
-
-pub closes-latest : (W N base : ℕ) (log : List ℕ) (L M j : ℕ) (c : Content) → latest (closes W N base log L j c) ≡ latest (closes W N base log M j c)
-closes-latest W N base log L M j c = ap latest (closes-lane W N base log L M j c) ∙ latest-map L (closes W N base log M j c)
 
 pub complete-lane : (W N base : ℕ) (log : List ℕ) (L M k : ℕ) → completeBelow W N base log L k ≡ map (inLane L) (completeBelow W N base log M k)
 unfolding completeBelow

@@ -3,7 +3,7 @@ ghost use mathlib.Core.Path.{_≡_};
 ghost use Prim.Native.Nat.{_+_, _*_, _≤_, _<_};
 ghost use lib.ListN.{length};
 ghost use Rattle.log.specs.Log.{slotAt, back as backOf};
-ghost use Rattle.log.specs.Search.{isEntry, entryBack, closedAt};
+ghost use Rattle.log.specs.Search.{stampHigh, isEntry, entryBack, wholeBack, closedAt};
 use slot::Content;
 use slot::Slot;
 
@@ -47,6 +47,14 @@ pub fn slot_at(log: &[u64], words: usize, j: usize) -> Content
     slot.read(words)
 }
 
+// Can slot j hold a timestamp? The address words of empty slots and entries are below every timestamp's, so one comparison passes over most slots.
+fn stamp_high(log: &[u64], j: usize) -> bool
+    requires { ⌜ 2 * j + 1 < length (now log) ⌝ }
+    ensures { λ r. ⌜ r ≡ stampHigh (now (log .entry)) j ⌝ }
+{
+    Slot::NUMBER * Slot::TAG <= log[2 * j]
+}
+
 // The slot i places before slot j, circularly.
 pub fn back(slots: usize, j: usize, i: usize) -> usize
     requires { ⌜ (slots ≤ 256) × (j < slots) × (i ≤ slots) ⌝ }
@@ -79,7 +87,7 @@ fn is_entry(content: Content, wrap: u64) -> bool
 }
 
 // Is the slot i places before slot j a whole entry, with the wrap bit of slot j, the opposite one before the wrap?
-fn entry_back(log: &[u64], words: usize, slots: usize, j: usize, wrap: u64, i: usize) -> bool
+pub fn entry_back(log: &[u64], words: usize, slots: usize, j: usize, wrap: u64, i: usize) -> bool
     requires { ⌜ (length (now log) ≡ 2 * slots) × (slots ≤ 256) × (j < slots) × (i ≤ slots) × (wrap ≤ 1) ⌝ }
     ensures { λ r. ⌜ r ≡ entryBack words slots (now (log .entry)) j wrap i ⌝ }
 {
@@ -88,6 +96,19 @@ fn entry_back(log: &[u64], words: usize, slots: usize, j: usize, wrap: u64, i: u
         return is_entry(content, wrap);
     }
     is_entry(content, 1 - wrap)
+}
+
+// Are the `count` slots before slot j all such entries?
+fn entries_whole(log: &[u64], words: usize, slots: usize, j: usize, wrap: u64, count: usize) -> bool
+    requires { ⌜ (length (now log) ≡ 2 * slots) × (slots ≤ 256) × (j < slots) × (count ≤ slots) × (wrap ≤ 1) ⌝ }
+    ensures { λ r. ⌜ r ≡ wholeBack words slots (now (log .entry)) j wrap count ⌝ }
+{
+    for i in 0..count {
+        if !entry_back(log, words, slots, j, wrap, i + 1) {
+            return false;
+        }
+    }
+    true
 }
 
 // The sequence that slot j closes, if it is complete: a whole timestamp above the base over whole entries.
@@ -102,10 +123,8 @@ pub fn closed_at(log: &[u64], words: usize, slots: usize, base: u64, j: usize) -
     if stamp <= base {
         return Latest::Nothing;
     }
-    for i in 0..count {
-        if !entry_back(log, words, slots, j, wrap, i + 1) {
-            return Latest::Nothing;
-        }
+    if !entries_whole(log, words, slots, j, wrap, count) {
+        return Latest::Nothing;
     }
     Latest::Is(Sequence {
         stamp,

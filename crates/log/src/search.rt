@@ -3,25 +3,25 @@ ghost use mathlib.Core.Path.{_≡_};
 ghost use Prim.Native.Nat.{_+_, _*_, _≤_, _<_};
 ghost use lib.Dec.{ltb};
 ghost use lib.ListN.{length};
-ghost use Rattle.log.specs.Log.{completeBelow, latest as latestOf, ahead as aheadOf, hits};
-ghost use Rattle.log.specs.Search.{rank, candidateOf, higher as higherOf, candidateBelow, hitAt};
+ghost use Rattle.log.specs.Log.{slotAt, completeBelow, latest as latestOf, hits};
+ghost use Rattle.log.specs.Append.{circular as circularOf};
+ghost use Rattle.log.specs.Search.{rank, higher as higherOf, candidateBelow, hitAt};
 use crate::Latest;
 use crate::Sequence;
 use crate::Timestamp;
-use crate::closed_at;
+use crate::entries_whole;
 use crate::entry_back;
 use crate::slot_at;
+use crate::stamp_high;
+use crate::tail::circular;
 use slot::Content;
 
-// A whole timestamp above the base, complete or not, if there is one.
-enum Candidate {
-    Absent,
-    Whole {
-        stamp: u64,
-        count: usize,
-        slot: usize,
-        wrap: u64,
-    },
+// A whole timestamp above the base, complete or not; none if its slot is not one of the log's.
+struct Candidate {
+    stamp: u64,
+    count: usize,
+    slot: usize,
+    wrap: u64,
 }
 
 // Does timestamp s at slot j come after timestamp t at slot k, where timestamps are tried from the greatest down, equal ones by the higher slot?
@@ -38,52 +38,56 @@ fn ranks_below(s: u64, j: usize, t: u64, k: usize) -> bool
     j < k
 }
 
-// Slot j as a candidate, where the last one tried is timestamp t at slot k.
-fn as_candidate(content: Content, base: u64, t: u64, k: usize, j: usize) -> Candidate
-    requires { ⌜ (j < 256) × (k ≤ 256) ⌝ }
-    ensures { λ r. ⌜ r ≡ candidateOf base t k j content ⌝ }
+// The higher of a candidate and slot j, where the last one tried is timestamp t at slot k.
+fn higher(
+    log: &[u64],
+    words: usize,
+    base: u64,
+    t: u64,
+    k: usize,
+    j: usize,
+    best: Candidate,
+) -> Candidate
+    requires { ⌜ (2 * j + 1 < length (now log)) × (j < 256) × (k ≤ 256) ⌝ }
+    ensures { λ r. ⌜ r ≡ higherOf base t k j (slotAt words (now (log .entry)) j) best ⌝ }
 {
+    if !stamp_high(log, j) {
+        return best;
+    }
+    let content = slot_at(log, words, j);
     let Content::Stamp { count, stamp, wrap } = content else {
-        return Candidate::Absent;
+        return best;
     };
     if stamp <= base {
-        return Candidate::Absent;
+        return best;
     }
-    if ranks_below(stamp, j, t, k) {
-        return Candidate::Whole {
-            stamp,
-            count,
-            slot: j,
-            wrap,
-        };
+    if stamp < best.stamp {
+        return best;
     }
-    Candidate::Absent
-}
-
-// The one of the greater timestamp; of equals the second, which has the higher slot.
-fn higher(a: Candidate, b: Candidate) -> Candidate
-    ensures { λ r. ⌜ r ≡ higherOf a b ⌝ }
-{
-    let Candidate::Whole { stamp: t, .. } = b else {
-        return a;
-    };
-    let Candidate::Whole { stamp: s, .. } = a else {
-        return b;
-    };
-    if t < s {
-        return a;
+    if !ranks_below(stamp, j, t, k) {
+        return best;
     }
-    b
+    Candidate {
+        stamp,
+        count,
+        slot: j,
+        wrap,
+    }
 }
 
 // The candidate that is tried next after timestamp t at slot k.
 fn next_candidate(log: &[u64], words: usize, slots: usize, base: u64, t: u64, k: usize) -> Candidate
     requires { ⌜ (length (now log) ≡ 2 * slots) × (slots ≤ 256) × (k ≤ 256) ⌝ }
-    ensures { λ r. ⌜ r ≡ candidateBelow words base (now (log .entry)) t k slots ⌝ }
+    ensures { λ r. ⌜ r ≡ candidateBelow words slots base (now (log .entry)) t k slots ⌝ }
 {
-    let mut best = Candidate::Absent;
+    let mut best = Candidate {
+        stamp: base,
+        count: 0,
+        slot: slots,
+        wrap: 0,
+    };
     for j in 0..slots {
-        best = higher(best, as_candidate(slot_at(log, words, j), base, t, k, j));
+        best = higher(log, words, base, t, k, j, best);
     }
     best
 }
@@ -98,17 +102,13 @@ pub fn latest(log: &[u64], words: usize, slots: usize, base: u64) -> Latest
     let mut slot: usize = 256;
     'stamps: loop {
         let next = next_candidate(log, words, slots, base, stamp, slot);
-        let Candidate::Whole {
-            stamp: s,
-            count,
-            slot: j,
-            wrap,
-        } = next
-        else {
+        stamp = next.stamp;
+        slot = next.slot;
+        let count = next.count;
+        let wrap = next.wrap;
+        if slot == slots {
             return Latest::Nothing;
-        };
-        stamp = s;
-        slot = j;
+        }
         for i in 0..count {
             if !entry_back(log, words, slots, slot, wrap, i + 1) {
                 continue 'stamps;
@@ -118,18 +118,7 @@ pub fn latest(log: &[u64], words: usize, slots: usize, base: u64) -> Latest
     }
 }
 
-// How many slots slot j comes after slot k, circularly.
-fn ahead(slots: usize, k: usize, j: usize) -> usize
-    requires { ⌜ (slots ≤ 256) × (k < slots) × (j < slots) ⌝ }
-    ensures { λ r. ⌜ r ≡ aheadOf slots k j ⌝ }
-{
-    if k <= j {
-        return j - k;
-    }
-    j + slots - k
-}
-
-// Does slot j close a sequence, stamped at or above `least`, with a slot among the `count` slots from slot `next` on?
+// Does the slot `distance` places after slot `next` close a sequence, stamped at or above `least`, with a slot among the `count` slots from slot `next` on?
 fn hit_at(
     log: &[u64],
     words: usize,
@@ -138,22 +127,38 @@ fn hit_at(
     next: usize,
     count: usize,
     least: u64,
-    j: usize,
+    distance: usize,
 ) -> bool
-    requires { ⌜ (length (now log) ≡ 2 * slots) × (34 ≤ slots) × (slots ≤ 256) × (next < slots) × (1 ≤ count) × (count ≤ slots) × (j < slots) ⌝ }
-    ensures { λ r. ⌜ r ≡ hitAt words slots base (now (log .entry)) next count least j ⌝ }
+    requires { ⌜ (length (now log) ≡ 2 * slots) × (34 ≤ slots) × (slots ≤ 256) × (next < slots) × (1 ≤ count) × (count ≤ 17) × (distance < slots) ⌝ }
+    ensures { λ r. ⌜ r ≡ hitAt words slots base (now (log .entry)) next count least (circularOf slots (next + distance)) ⌝ }
 {
-    let closed = closed_at(log, words, slots, base, j);
-    let Latest::Is(sequence) = closed else {
-        return false;
-    };
-    if sequence.stamp < least {
+    let j = circular(slots, next + distance);
+    if !stamp_high(log, j) {
         return false;
     }
-    ahead(slots, next, j) < count + sequence.count
+    let content = slot_at(log, words, j);
+    let Content::Stamp {
+        count: entries,
+        stamp: s,
+        wrap,
+    } = content
+    else {
+        return false;
+    };
+    if s <= base {
+        return false;
+    }
+    if s < least {
+        return false;
+    }
+    if count + entries <= distance {
+        return false;
+    }
+    entries_whole(log, words, slots, j, wrap, entries)
 }
 
-// Would writing `count` slots from slot `next` on hit a slot of a sequence stamped at or above the bound? One pass over the slots.
+// Would writing `count` slots from slot `next` on hit a slot of a sequence stamped at or above the bound? A sequence has at most 16 entries and
+// its timestamp follows them, so one pass over `count` and 16 slots tells.
 pub fn would_hit(
     log: &[u64],
     words: usize,
@@ -163,14 +168,14 @@ pub fn would_hit(
     count: usize,
     bound: Timestamp,
 ) -> bool
-    requires { ⌜ (length (now log) ≡ 2 * slots) × (34 ≤ slots) × (slots ≤ 256) × (next < slots) × (1 ≤ count) × (count ≤ slots) ⌝ }
+    requires { ⌜ (length (now log) ≡ 2 * slots) × (34 ≤ slots) × (slots ≤ 256) × (next < slots) × (1 ≤ count) × (count ≤ 17) ⌝ }
     ensures { λ r. ⌜ r ≡ hits slots next count bound (completeBelow words slots base (now (log .entry)) 0 slots) ⌝ }
 {
     let Timestamp::At(least) = bound else {
         return false;
     };
-    for j in 0..slots {
-        if hit_at(log, words, slots, base, next, count, least, j) {
+    for distance in 0..count + 16 {
+        if hit_at(log, words, slots, base, next, count, least, distance) {
             return true;
         }
     }

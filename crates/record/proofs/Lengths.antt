@@ -1,5 +1,5 @@
 -- The arrays' lengths, which a record or a lane has by its type. Of a parameter: `lanes-eight (c .args .state) (c .good .1 .0)`, by its place; of a
--- call's result: `redo-sixteen (c .lane-of .result) (c .lane-of .ok)`. The value has to be written out. Assumes nothing.
+-- call's result: `redo-sixteen (c .start-lane .result) (c .start-lane .ok)`. The value has to be written out. Assumes nothing.
 use mathlib.Core.Path.{_≡_, sym, _∙_}
 use lib.ListN.{length, length-map}
 use denote.Laws.{Is}

@@ -10,7 +10,7 @@ ghost use lib.ListN.{take};
 ghost use Rattle.record.specs.Record.{startLane, startRecord, laneAt, cursorOf, isLogged, loggedIn};
 ghost use Rattle.record.specs.Record.{stampOk, floorOk, pairsOk, phaseOk, laneOk, recordOk, spent};
 ghost use Rattle.record.specs.Record.{lesser, boundOf, floorAfterDrain, floorAfterAppend};
-ghost use Rattle.record.specs.Record.{withLane, withClock, withLast, drainedLane, appendedLane, idleLane, pairsOf};
+ghost use Rattle.record.specs.Record.{withLane, withClock, drainedLane, appendedLane, idleLane, pairsOf};
 
 // A word number and its new value. 01: a pair.
 pub struct Pair {
@@ -41,6 +41,8 @@ pub struct Lane {
     pub redo: [Pair; 16],
 }
 
+// 2,576 bytes, and a function that takes a record and indexes its lanes copies it: so the calls' inner functions take a lane or numbers where these do, and a
+// call changes its record once, at its end.
 pub struct Record {
     pub clock: u64,
     // the timestamp of the last commit
@@ -70,14 +72,6 @@ pub fn start_record(base: u64) -> Record
         last: base,
         lanes: [start_lane(); 8],
     }
-}
-
-// One lane's state.
-pub fn lane_of(state: Record, lane: usize) -> Lane
-    requires { ⌜ lane < 8 ⌝ }
-    ensures { λ r. ⌜ r ≡ laneAt state lane ⌝ }
-{
-    state.lanes[lane]
 }
 
 // Where a lane's log goes on.
@@ -274,18 +268,14 @@ pub fn with_lane(mut state: Record, lane: usize, after: Lane) -> Record
     state
 }
 
-// The record with its clock moved.
-pub fn with_clock(state: Record, clock: u64) -> Record
-    ensures { λ r. ⌜ r ≡ withClock state clock ⌝ }
+// The record with its clock moved to a new timestamp and a lane's state replaced.
+pub fn stamped(mut state: Record, stamp: u64, lane: usize, after: Lane) -> Record
+    requires { ⌜ lane < 8 ⌝ }
+    ensures { λ r. ⌜ r ≡ withLane (withClock state stamp) lane after ⌝ }
 {
-    Record { clock, ..state }
-}
-
-// The record with another last commit.
-pub fn with_last(state: Record, last: u64) -> Record
-    ensures { λ r. ⌜ r ≡ withLast state last ⌝ }
-{
-    Record { last, ..state }
+    state.clock = stamp;
+    state.lanes[lane] = after;
+    state
 }
 
 // A lane after a drain that found this latest sequence.
@@ -297,6 +287,17 @@ pub fn drained_lane(latest: Latest, lane: Lane) -> Lane
         floor: floor_after_drain(latest, floor),
         ..lane
     }
+}
+
+// The record after a drain of the lane that found this latest sequence.
+pub fn drained(mut state: Record, lane: usize, latest: Latest) -> Record
+    requires { ⌜ lane < 8 ⌝ }
+    ensures { λ r. ⌜ r ≡ withLane state lane (drainedLane latest (laneAt state lane)) ⌝ }
+{
+    let at = state.lanes[lane];
+    let after = drained_lane(latest, at);
+    state.lanes[lane] = after;
+    state
 }
 
 // A lane after an append that ended at a cursor, with the phase and the redo log that it then has.

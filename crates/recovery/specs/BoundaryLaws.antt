@@ -71,19 +71,6 @@ latest-in (r ∷ qs) m e = go (latest qs) refl (latest-in qs)
         (λ t. record { by = r; found = here; stamp = at-one (rw (p, t) at e) })
         (λ t. let i = ih m (ap contribution p ∙ rw (p, t) at e) in record { by = i .by; found = there (i .found); stamp = i .stamp })
 
-later-is : (s : Sequence) (l : Latest) → contribution (later s l) ≡ None → ⊥
-unfolding later contribution
-later-is s Nothing e = let z : _≡_ {A = ℕ} 0 1 = cc in omega arith
-later-is s (Is r) e =
-    split (ltb (r .stamp) (s .stamp))
-    (λ t. let f : At (s .stamp) ≡ None = rw t at e in let z : _≡_ {A = ℕ} 0 1 = cc in omega arith)
-    (λ t. let f : At (r .stamp) ≡ None = rw t at e in let z : _≡_ {A = ℕ} 0 1 = cc in omega arith)
-
-pub latest-none : (qs : List Complete) → contribution (latest qs) ≡ None → qs ≡ []
-unfolding latest
-latest-none [] e = refl
-latest-none (q ∷ qs) e = absurd (later-is (sequenceOf q) (latest qs) e)
-
 -- ---- the least of them
 -- a timestamp that is there, and not above m
 pub record Below (m : ℕ) (t : Timestamp) : Type 0 where
@@ -103,12 +90,6 @@ below-right : (m : ℕ) (t : Timestamp) → Below m (lesser t (At m))
 unfolding lesser
 below-right m None = record { stamp = m; is = refl; most = le-refl m }
 below-right m (At a) = record { stamp = min a m; is = refl; most = omega arith }
-
-lesser-none : (t u : Timestamp) → lesser t u ≡ None → (t ≡ None) × (u ≡ None)
-unfolding lesser
-lesser-none None u e = (refl, e)
-lesser-none (At a) None e = absurd (let z : _≡_ {A = ℕ} 0 1 = cc in omega arith)
-lesser-none (At a) (At c) e = absurd (let z : _≡_ {A = ℕ} 0 1 = cc in omega arith)
 
 module _ (z : Sizes) (image : List ℕ) where
   below-lane : (k L m : ℕ) → L < k → contribution (latestIn z image L) ≡ At m → Below m (boundaryBelow z image k)
@@ -160,15 +141,3 @@ module _ (z : Sizes) (image : List ℕ) where
       let r = boundary-is b e in
       let q = latest-in (completeIn z image (r .lane)) b (r .latest) in
       record { by = q .by; found = lane-in z image z.lanes (r .lane) (r .low) (q .found); stamp = q .stamp }
-
-  none-below : (k : ℕ) → boundaryBelow z image k ≡ None → completeOf z image k ≡ []
-  unfolding boundaryBelow completeOf latestIn
-  none-below zero e = refl
-  none-below (suc k) e =
-      let r = lesser-none (boundaryBelow z image k) (contribution (latestIn z image k)) e in
-      rw (none-below k (r .0), latest-none (completeIn z image k) (r .1))
-
-  -- there is none only where nothing is complete
-  pub boundary-none : boundary z image ≡ None → completeOf z image z.lanes ≡ []
-  unfolding boundary
-  boundary-none e = none-below z.lanes e

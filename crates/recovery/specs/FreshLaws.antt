@@ -39,9 +39,6 @@ module _ (z : Sizes) (c : List ℕ) (size : length c ≡ imageLength z) where
   unfolding baseOf imageLength
   recovered-base = at 0 (omega arith) ∙ low 0 (newBase z c) (omega arith)
 
-  pub recovered-even : baseOf c % 2 ≡ 0 → baseOf (recoveredImage z c) % 2 ≡ 0
-  recovered-even h = rw recovered-base (newBase-even z c h)
-
   -- a data word: the first old value of the last sequence undone that names it, and as it was where none does
   pub recovered-word : (w : ℕ) → w < z.words → getD (recoveredImage z c) (1 + w) 0 ≡ firstsOf (undone z c) w (getD c (1 + w) 0)
   unfolding imageLength undoStores

@@ -5,7 +5,9 @@ pub mod Picking
 pub mod Undo
 pub mod LimitLaws
 pub mod PickingLaws
+pub mod LanesLaws
 pub mod ScanLaws
+pub mod EntryLaws
 pub mod UndoLaws
 pub mod RecoveryLaws
 pub mod OrderLaws

@@ -1,19 +1,20 @@
--- Laws of stores up to a limit: none, one, a list after another, zeros; and undoing, which leaves the logs as they are. Assumes nothing.
-use mathlib.Core.Path.{_≡_, refl, ap, _∙_}
-use mathlib.Core.List.{List, [], _∷_, _++_}
-use Prim.Native.Nat.{ℕ, zero, suc, _+_, _-_, _≤_, _<_}
+-- Laws of stores up to a limit: none, one, a list after another, zeros; and stores to data words, which leave the base and the logs as they are. Assumes nothing.
+use mathlib.Core.Path.{_≡_, refl, sym, ap, _∙_}
+use mathlib.Core.List.{List, [], _∷_, _++_, append-assoc}
+use Prim.Native.Nat.{ℕ, zero, suc, _+_, _-_, _≤_, _<_, min}
+use native.Mathlib.Nat.{zero-min, min-zero, suc-min-suc}
 use native.Mathlib.Omega.{arith}
-use lib.ListN.{length, set, take, length-append}
-use lib.Seq.{take-nil}
-use Rattle.laws.specs.Lists.{All, none, more, All-take}
-use Rattle.image.specs.Image.{logOf}
-use Rattle.image.specs.ImageLaws.{logOf-set-data}
+use lib.ListN.{length, set, take, drop, replicate, length-append, length-replicate}
+use lib.Seq.{take-nil, sets, sets-eq}
+use borrow.Rule.Slice.PartMut.{midOf, putMid, mid-len, post-is}
+use Rattle.laws.specs.Lists.{All, All-take}
 use Rattle.image.specs.Stores.{Store, stored}
 use Rattle.image.specs.StoresLaws.{length-stored, stored-append}
 use Rattle.image.specs.declared.Sizes.{Sizes}
 use Rattle.log.specs.Log.{Old}
 use Rattle.recovery.specs.Recovery.{undoEntries, zeros}
 use Rattle.recovery.specs.UndoStoreLaws.{OnData}
+use Rattle.recovery.specs.AgainLaws.{Alike, alike-data}
 use Rattle.recovery.specs.Limit.{limited}
 
 -- ---- a list of stores
@@ -55,13 +56,37 @@ module _ (limit due : ℕ) where
   unfolding limited
   length-limited xs image = length-stored (take (limit - due) xs) image
 
--- ---- zeros, as a loop makes them
-pub zeros-more : (at n : ℕ) → zeros at (suc n) ≡ zeros at n ++ (record { at = at + n; value = 0 } ∷ [])
+-- ---- zeros, as one stretch
+take-zeros : (m at n : ℕ) → take m (zeros at n) ≡ zeros at (min m n)
 unfolding zeros
-zeros-more at zero = ap (λ i. record { at = i; value = 0 } ∷ []) (let e : at ≡ at + 0 = omega arith in e)
-zeros-more at (suc n) =
-    ap (λ l. record { at = at; value = 0 } ∷ l)
-    (zeros-more (suc at) n ∙ ap (λ i. zeros (suc at) n ++ (record { at = i; value = 0 } ∷ [])) (let e : suc at + n ≡ at + suc n = omega arith in e))
+take-zeros zero at n = ap (zeros at) (sym (zero-min n))
+take-zeros (suc m) at zero = ap (zeros at) (sym (min-zero (suc m)))
+take-zeros (suc m) at (suc n) = ap (λ l. record { at = at; value = 0 } ∷ l) (take-zeros m (suc at) n) ∙ ap (zeros at) (sym (suc-min-suc m n))
+
+stored-zeros : (k at : ℕ) (image : List ℕ) → stored (zeros at k) image ≡ sets image at (replicate k 0)
+unfolding zeros stored
+stored-zeros zero at image = refl
+stored-zeros (suc k) at image = stored-zeros k (suc at) (set image at 0)
+
+-- a part of k zeros put back is what the limit makes of n zeros, where it lets k through
+pub limited-zeros : (limit due at n k : ℕ) (image ys : List ℕ) → k ≡ min (limit - due) n → at + k ≤ length image → ys ≡ replicate (length (midOf at (at + k - at) image)) 0
+    → putMid at (at + k - at) image ys ≡ limited limit due (zeros at n) image
+unfolding limited
+limited-zeros limit due at n k image ys e h d =
+    ap (λ (l : List ℕ). take at image ++ (ys ++ l)) (post-is at (at + k) image (omega arith))
+    ∙ ap (λ (l : List ℕ). take at image ++ (l ++ drop (at + k) image)) (d ∙ ap (λ (m : ℕ). replicate m 0) (mid-len at (at + k) image h ∙ back))
+    ∙ sym (append-assoc (take at image) (replicate k 0) (drop (at + k) image))
+    ∙ ap (λ (m : ℕ). take at image ++ replicate k 0 ++ drop (at + m) image) (sym long)
+    ∙ sym (sets-eq (replicate k 0) image at (rw long h))
+    ∙ sym (stored-zeros k at image)
+    ∙ ap (λ (m : ℕ). stored (zeros at m) image) e
+    ∙ ap (λ (l : List Store). stored l image) (sym (take-zeros (limit - due) at n))
+  where
+    back : at + k - at ≡ k
+    back = omega arith
+
+    long : length {A = ℕ} (replicate k 0) ≡ k
+    long = length-replicate {A = ℕ} k 0
 
 pub length-zeros : (at n : ℕ) → length (zeros at n) ≡ n
 unfolding zeros
@@ -74,16 +99,7 @@ unfolding undoEntries
 length-undo [] = refl
 length-undo (e ∷ es) = length-append (undoEntries es) _ ∙ rw (length-undo es) (omega arith)
 
--- stores to data words leave the logs as they are
-stored-logs : (z : Sizes) (L : ℕ) {xs : List Store} (image : List ℕ) → All (OnData (z .words)) xs → logOf z L (stored xs image) ≡ logOf z L image
-unfolding stored
-stored-logs z L image none = refl
-stored-logs z L image (more {x = s} h hs) = stored-logs z L (set image (s .at) (s .value)) hs ∙ at-word (s .at) h
-  where
-    at-word : (i : ℕ) → (1 ≤ i) × (i ≤ z .words) → logOf z L (set image i (s .value)) ≡ logOf z L image
-    at-word zero h = absurd (omega arith)
-    at-word (suc i) h = ap (λ k. logOf z L (set image k (s .value))) (let e : suc i ≡ 1 + i = omega arith in e) ∙ logOf-set-data z L image i (s .value) (omega arith)
-
-pub limited-logs : (z : Sizes) (limit due L : ℕ) {xs : List Store} (image : List ℕ) → All (OnData (z .words)) xs → logOf z L (limited limit due xs image) ≡ logOf z L image
+-- stores to data words leave the base and the logs as they are
+pub limited-alike : (z : Sizes) (limit due : ℕ) {xs : List Store} (image : List ℕ) → 0 < length image → All (OnData (z .words)) xs → Alike z (limited limit due xs image) image
 unfolding limited
-limited-logs z limit due L image h = stored-logs z L image (All-take (limit - due) h)
+limited-alike z limit due image pos h = alike-data z image pos (All-take (limit - due) h)

@@ -1,10 +1,9 @@
--- Laws of recovery: the boundary lane by lane, the logs cleared word by word, all stores together, and the call's three outcomes. Assumes nothing.
-use mathlib.Core.Path.{_≡_, refl, sym, ap, _∙_}
+-- Laws of recovery: all stores together, and the call's three outcomes. Assumes nothing.
+use mathlib.Core.Path.{_≡_, sym, ap, _∙_}
 use mathlib.Core.Bool.{true}
 use mathlib.Core.List.{List, [], _∷_, _++_}
 use Prim.Native.Nat.{ℕ, suc, _+_, _-_, _*_, _≤_, _<_}
 use native.Mathlib.Omega.{arith}
-use native.Mathlib.Numerals.{add-one}
 use lib.ListN.{length, getD, take, replicate, length-append}
 use borrow.Author.Tests.{le-leb, lt-leb, ne-eqb, not-false}
 use Rattle.image.specs.Image.{buffersOk, imageLength, baseOf}
@@ -12,60 +11,17 @@ use Rattle.image.specs.ImageLaws.{Buffers, buffers-in}
 use Rattle.image.specs.Stores.{Store, stored}
 use Rattle.image.specs.StoresLaws.{length-stored}
 use Rattle.image.specs.declared.Sizes.{Sizes}
-use Rattle.log.specs.Log.{latestIn, contribution}
 use Rattle.log.specs.declared.Timestamp.{Timestamp}
-use Rattle.log.specs.declared.Timestamp.the-variants.{None}
-use Rattle.record.specs.Record.{lesser, startRecord}
+use Rattle.record.specs.Record.{startRecord}
 use Rattle.record.specs.declared.Record.{Record}
 use Rattle.store.specs.Machine.{Machine}
 use Rattle.store.specs.Calls.{badBuffers, started}
 use Rattle.store.specs.StoreLaws.{first-none}
 use Rattle.store.specs.Interface.{machineOf}
 use Rattle.recovery.specs.declared.Recovered.the-variants.{Refused, Cut, Finished}
-use Rattle.recovery.specs.Recovery.{boundaryBelow, boundary, undoStores, newBase, zeros, recoveryStores, recoveredNvm, recoverRefusal, allMade, recoverStep}
+use Rattle.recovery.specs.Recovery.{boundary, undoStores, newBase, zeros, recoveryStores, recoveredNvm, recoverRefusal, allMade, recoverStep}
 use Rattle.recovery.specs.Limit.{limited}
-use Rattle.recovery.specs.LimitLaws.{limited-none, limited-append, length-limited, zeros-more, length-zeros}
-
--- ---- the boundary of the lanes below k
-module _ (z : Sizes) (image : List ℕ) where
-  pub boundary-none : None ≡ boundaryBelow z image 0
-  unfolding boundaryBelow
-  boundary-none = refl
-
-  pub boundary-more : (k : ℕ) (b : Timestamp) → b ≡ boundaryBelow z image k → lesser b (contribution (latestIn z image k)) ≡ boundaryBelow z image (k + 1)
-  unfolding boundaryBelow
-  boundary-more k b e = rw (add-one, e)
-
-  pub boundary-all : (k : ℕ) (b : Timestamp) → b ≡ boundaryBelow z image k → k ≡ z .lanes → b ≡ boundary z image
-  unfolding boundary
-  boundary-all k b e h = e ∙ ap (boundaryBelow z image) h
-
--- ---- the logs, of which the first i words are cleared
-pub record ClearedTo (at : ℕ) (image : List ℕ) (limit due i : ℕ) (nvm : List ℕ) (total : ℕ) : Type 0 where
-  pub memory : nvm ≡ limited limit due (zeros at i) image
-  pub counted : total ≡ due + i
-
-module _ (at : ℕ) (image : List ℕ) (limit due : ℕ) where
-  pub cleared-none : ClearedTo at image limit due 0 image due
-  unfolding zeros
-  cleared-none = record { memory = sym (limited-none limit due image); counted = omega arith }
-
-  module _ (i : ℕ) (nvm : List ℕ) (total : ℕ) (c : ClearedTo at image limit due i nvm total) where
-    pub cleared-long : length nvm ≡ length image
-    cleared-long = ap length (c .memory) ∙ length-limited limit due (zeros at i) image
-
-    pub cleared-more : (nvm′ : List ℕ) (total′ : ℕ) → nvm′ ≡ limited limit total (record { at = at + i; value = 0 } ∷ []) nvm → total′ ≡ total + 1
-        → ClearedTo at image limit due (i + 1) nvm′ total′
-    cleared-more nvm′ total′ m t =
-        let x : Store = record { at = at + i; value = 0 } in
-        record {
-          memory =
-              m ∙ ap (limited limit total (x ∷ [])) (c .memory)
-              ∙ ap (λ d. limited limit d (x ∷ []) (limited limit due (zeros at i) image)) (c .counted ∙ ap (λ n. due + n) (sym (length-zeros at i)))
-              ∙ sym (limited-append limit due (zeros at i) (x ∷ []) image)
-              ∙ ap (λ l. limited limit due l image) (sym (ap (zeros at) (add-one i) ∙ zeros-more at i));
-          counted = omega (arith, c .counted);
-        }
+use Rattle.recovery.specs.LimitLaws.{limited-append, length-zeros}
 
 -- ---- all stores
 whole : (limit : ℕ) (xs : List Store) (image : List ℕ) → limited limit 0 xs image ≡ stored (take limit xs) image

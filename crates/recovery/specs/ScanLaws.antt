@@ -1,272 +1,227 @@
--- Laws of the pass over all logs, slots numbered through: what it lists is what recovery undoes, and the greatest whole timestamp is the new base. Assumes nothing.
+-- Laws of reading the logs: what a slot offers, a lane's timestamps tried from the greatest down, and the lanes one after another: the boundary and the new base.
+-- Assumes nothing.
 use mathlib.Core.Path.{_≡_, refl, sym, ap, subst, _∙_}
 use mathlib.Core.Logic.{_≢_}
-use mathlib.Core.Bool.{Bool, true, false, cond, _&&_}
-use mathlib.Core.List.{List, [], _∷_, _++_, append-nil, append-assoc}
-use Prim.Native.Nat.{ℕ, zero, suc, _+_, _*_, _/_, _%_, max, _≤_, _<_}
+use mathlib.Core.Bool.{true, false}
+use mathlib.Core.List.{List}
+use Prim.Native.Nat.{ℕ, _+_, _-_, _*_, max, _≤_, _<_}
 use native.Mathlib.Omega.{arith}
 use native.Mathlib.Numerals.{add-one}
-use native.Mathlib.Nat.{div-add-mod', mod-lt, mul-le-mul, mul-le-mul-right, suc-mul}
-use lib.Arith.{digits-div, digits-mod}
-use lib.Dec.{leb, ltb, eqb}
+use native.Mathlib.Nat.{add-sub-cancel-left}
+use lib.Dec.{ltb, eqb}
 use lib.ListN.{length, getD, set, length-set}
 use lib.Seq.{getD-set-same, getD-set-other}
 use borrow.Author.Count.{below-none, below-more}
-use borrow.Author.Tests.{leb-true, leb-false, ltb-true, ltb-false, le-ltb, lt-ltb, ne-eqb}
-use Rattle.laws.specs.Tests.{split, and-left}
+use borrow.Author.Tests.{ltb-true, lt-ltb, eqb-true, eqb-false}
+use borrow.Rule.Slice.PartMut.{putMid}
+use Rattle.laws.specs.Tests.{split}
+use Rattle.winners.specs.Winners.{AtMost, greatestAt, Tournament}
+use Rattle.winners.specs.GreatestLaws.{greatest-low, greatest-most}
 use Rattle.slot.specs.declared.Content.{Content}
 use Rattle.slot.specs.declared.Content.the-variants.{Empty, Torn, Entry, Stamp}
 use Rattle.image.specs.Image.{sizesOk, baseOf, logOf}
-use Rattle.image.specs.ImageLaws.{sizes-in}
 use Rattle.image.specs.declared.Sizes.{Sizes}
-use Rattle.log.specs.Log.{Complete, slotAt, entriesBack, closes, completeBelow, completeIn, sequenceOf, later, latest}
-use Rattle.log.specs.Search.{closedAt}
-use Rattle.log.specs.SearchLaws.{Closed, closed-from}
+use Rattle.log.specs.Log.{slotAt, entriesBack, latestIn, contribution}
+use Rattle.log.specs.LogLaws.{stamp-in, latest-in}
+use Rattle.log.specs.Search.{entryBack, closedAt}
+use Rattle.log.specs.SearchLaws.{Closed, closed-from, closed-bad, closed-whole, NotAbove, Below, latest-none, latest-is}
 use Rattle.log.specs.declared.Timestamp.{Timestamp}
 use Rattle.log.specs.declared.Timestamp.the-variants.{None, At}
 use Rattle.log.specs.declared.Sequence.{Sequence}
 use Rattle.log.specs.declared.Latest.{Latest}
 use Rattle.log.specs.declared.Latest.the-variants.{Nothing, Is}
-use Rattle.recovery.specs.Recovery.{boundary, completeOf, atOrAbove, ordered, undoneFrom, undone, wholeStamp, greatestBelow, greatestOf, newBase}
-use Rattle.recovery.specs.Picking.{contentAt, undoStamp, stampAt, Lists, countOf, wrapOf, sequenceFrom, sequenceAt, Whole, listed, remaining, wholeTo}
-use Rattle.recovery.specs.PickingLaws.{remaining-none, Numbered}
+use Rattle.record.specs.Record.{lesser}
+use Rattle.recovery.specs.Recovery.{boundaryBelow, boundary, wholeStamp, greatestBelow, greatestOf, newBase}
+use Rattle.recovery.specs.Picking.{countOf, wrapOf, offered, Offers, partOf, Offering, Tournaments}
+use Rattle.recovery.specs.PickingLaws.{not-above, is-below}
+use Rattle.recovery.specs.LanesLaws.{lane-inside, put-here, put-other, trees-put}
 
--- ---- numbers
-div-mono : (N i k : ℕ) → 0 < N → i ≤ k → i / N ≤ k / N
-div-mono N i k pos h =
-    split (leb (i / N) (k / N))
-    (λ e. leb-true _ _ e)
-    (λ e. absurd (omega (arith, div-add-mod' i N, div-add-mod' k N, mod-lt k pos, mul-le-mul-right N (let l : suc (k / N) ≤ i / N = leb-false (i / N) (k / N) e in l), suc-mul (k / N) N)))
+-- ---- one slot
+-- a timestamp that is offered says how many entries it closes
+offered-by : (base : ℕ) (c : Content) → offered base (wholeStamp c) ≢ 0
+    → (c ≡ Stamp (countOf c) (offered base (wholeStamp c)) (wrapOf c)) × (base < offered base (wholeStamp c))
+unfolding offered wholeStamp countOf wrapOf
+offered-by base Empty h = absurd (h (split (ltb base 0) (λ e. rw e) (λ e. rw e)))
+offered-by base Torn h = absurd (h (split (ltb base 0) (λ e. rw e) (λ e. rw e)))
+offered-by base (Entry i v p) h = absurd (h (split (ltb base 0) (λ e. rw e) (λ e. rw e)))
+offered-by base (Stamp n s p) h = split (ltb base s) (λ e. rw e (refl, ltb-true base s e)) (λ e. absurd (h (rw e)))
 
-mod-mono : (N i k : ℕ) → i ≤ k → i / N ≡ k / N → i % N ≤ k % N
-mod-mono N i k h e = omega (arith, div-add-mod' i N, div-add-mod' k N, ap (λ q. q * N) e)
+never : {A : Type 0} {q : Sequence} → Nothing ≡ Is q → A
+never e = absurd (let z : _≡_ {A = ℕ} 0 1 = cc in omega arith)
 
--- ---- the sequence at a number
-module _ (z : Sizes) (image : List ℕ) where
-  lane-at : (k : ℕ) → sequenceAt z image k .lane ≡ k / z.slots
-  unfolding sequenceAt sequenceFrom
-  lane-at k = refl
+module _ (W N base : ℕ) (log : List ℕ) (j : ℕ) where
+  -- a complete sequence's timestamp is offered
+  pub closed-offered : (q : Sequence) → Closed W N base log j q → offered base (wholeStamp (slotAt W log j)) ≡ q .stamp
+  unfolding offered wholeStamp
+  closed-offered q c = rw (c .reads, lt-ltb base (q .stamp) (c .above))
 
-  slot-at : (k : ℕ) → sequenceAt z image k .slot ≡ k % z.slots
-  unfolding sequenceAt sequenceFrom
-  slot-at k = refl
+  offered-none : offered base (wholeStamp (slotAt W log j)) ≡ 0 → closedAt W N base log j ≡ Nothing
+  offered-none h = by (closedAt W N base log j) refl
+    where
+      by : (x : Latest) → closedAt W N base log j ≡ x → x ≡ Nothing
+      by Nothing e = refl
+      by (Is q) e = let c = closed-from W N base log j q e in absurd (omega (arith, closed-offered q c, c .above))
 
-  -- the numbers go by lane, then slot
-  pub numbered : 0 < z.slots → Numbered (sequenceAt z image)
-  numbered pos =
+-- ---- the pass over a lane's slots, up to slot j
+pub record OfferedTo (z : Sizes) (image : List ℕ) (L greatest j : ℕ) (s : List ℕ) (most : ℕ) : Type 0 where
+  pub long : length s ≡ z .slots
+  pub stamps : (i : ℕ) → i < j → getD s i 0 ≡ offered (baseOf image) (wholeStamp (slotAt (z .words) (logOf z L image) i))
+  pub whole : most ≡ max greatest (greatestBelow (z .words) (logOf z L image) j)
+
+module _ (z : Sizes) (image : List ℕ) (L greatest : ℕ) where
+  pub offered-start : (s : List ℕ) → length s ≡ z .slots → OfferedTo z image L greatest 0 s greatest
+  unfolding greatestBelow
+  offered-start s e =
+      record { long = e; stamps = below-none (λ i. getD s i 0 ≡ offered (baseOf image) (wholeStamp (slotAt (z .words) (logOf z L image) i))); whole = omega arith }
+
+  pub offered-more : (j : ℕ) (s : List ℕ) (most : ℕ) → OfferedTo z image L greatest j s most → j < z .slots
+      → (c : Content) (w v m : ℕ) → c ≡ slotAt (z .words) (logOf z L image) j → w ≡ wholeStamp c → v ≡ offered (baseOf image) w → m ≡ max most w
+      → OfferedTo z image L greatest (j + 1) (set s j v) m
+  unfolding greatestBelow
+  offered-more j s most r h c w v m e₁ e₂ e₃ e₄ =
+      let d : w ≡ wholeStamp (slotAt (z .words) (logOf z L image) j) = e₂ ∙ ap wholeStamp e₁ in
       record {
-        lanes = λ i k h. rw (lane-at i, lane-at k) (div-mono z.slots i k pos (omega arith));
-        slots = λ i k h e. rw (slot-at i, slot-at k) (mod-mono z.slots i k (omega arith) (sym (lane-at i) ∙ e ∙ lane-at k));
+        long = length-set s j v ∙ r .long;
+        stamps = below-more (λ i. getD (set s j v) i 0 ≡ offered (baseOf image) (wholeStamp (slotAt (z .words) (logOf z L image) i))) j
+            (λ i l. getD-set-other s j i v 0 (λ e. omega arith) ∙ r .stamps i l)
+            (getD-set-same s j v 0 (rw (r .long) h) ∙ e₃ ∙ ap (offered (baseOf image)) d);
+        whole = rw add-one (omega (arith, d, e₄, r .whole));
       }
 
--- ---- all complete sequences, by number
-unfoldable closesAt : Sizes → List ℕ → ℕ → List Complete
-closesAt z image k = closes z.words z.slots (baseOf image) (logOf z (k / z.slots) image) (k / z.slots) (k % z.slots) (contentAt z image k)
-
-unfoldable completeTo : Sizes → List ℕ → (n : ℕ) → List Complete
-completeTo z image zero = []
-completeTo z image (suc n) = completeTo z image n ++ closesAt z image n
-
-module _ (z : Sizes) (image : List ℕ) where
-  closes-at : (L j : ℕ) → j < z.slots
-      → closesAt z image (L * z.slots + j) ≡ closes z.words z.slots (baseOf image) (logOf z L image) L j (slotAt z.words (logOf z L image) j)
-  unfolding contentAt closesAt
-  closes-at L j h = rw (digits-div L h, digits-mod L h)
-
-  complete-lane : (L : ℕ) → completeTo z image (L * z.slots) ≡ completeOf z image L → (j : ℕ) → j ≤ z.slots
-      → completeTo z image (L * z.slots + j) ≡ completeOf z image L ++ completeBelow z.words z.slots (baseOf image) (logOf z L image) L j
-  unfolding completeBelow completeTo
-  complete-lane L e zero h = ap (completeTo z image) (let d : L * z.slots + 0 ≡ L * z.slots = omega arith in d) ∙ e ∙ sym (append-nil (completeOf z image L))
-  complete-lane L e (suc j) h =
-      ap (completeTo z image) (let d : L * z.slots + suc j ≡ suc (L * z.slots + j) = omega arith in d)
-      ∙ ap (λ l. l ++ closesAt z image (L * z.slots + j)) (complete-lane L e j (omega arith))
-      ∙ ap (λ l. (completeOf z image L ++ completeBelow z.words z.slots (baseOf image) (logOf z L image) L j) ++ l) (closes-at L j (omega arith))
-      ∙ append-assoc (completeOf z image L) _ _
-
-  complete-all : (L : ℕ) → completeTo z image (L * z.slots) ≡ completeOf z image L
-  unfolding completeOf completeIn completeTo
-  complete-all zero = ap (completeTo z image) (let d : 0 * z.slots ≡ 0 = omega arith in d)
-  complete-all (suc L) = ap (completeTo z image) (suc-mul L z.slots) ∙ complete-lane L (complete-all L) z.slots (omega arith)
-
--- ---- what is listed
-above-append : (b : ℕ) (xs ys : List Complete) → atOrAbove b (xs ++ ys) ≡ atOrAbove b xs ++ atOrAbove b ys
-unfolding atOrAbove
-above-append b [] ys = refl
-above-append b (x ∷ xs) ys =
-    split (leb b (x .stamp)) (λ e. rw e (ap (λ l. x ∷ l) (above-append b xs ys))) (λ e. rw e (above-append b xs ys))
-
--- one slot's sequence, if it is complete and stamped at or above b
-module _ (W N base : ℕ) (log : List ℕ) (L j b : ℕ) where
-  above-stamp : (n s p : ℕ) (t : Bool) → (ltb base s && eqb (length (entriesBack W N log j p n)) n) ≡ t
-      → atOrAbove b (cond t (record { stamp = s; lane = L; slot = j; entries = entriesBack W N log j p n } ∷ []) [])
-      ≡ listed (undoStamp (At b) (latest (cond t (record { stamp = s; lane = 0; slot = j; entries = entriesBack W N log j p n } ∷ []) [])))
-      (record { stamp = s; lane = L; slot = j; entries = entriesBack W N log j p n })
-  unfolding atOrAbove undoStamp latest later sequenceOf listed
-  above-stamp n s p false h = refl
-  above-stamp n s p true h =
-      let g : base < s = ltb-true base s (and-left _ _ h) in
-      split (leb b s)
-      (λ e. rw (e, le-ltb s b (leb-true b s e), ne-eqb s 0 (λ z. omega arith)))
-      (λ e. rw (e, lt-ltb s b (leb-false b s e)))
-
-  above-slot : (c : Content) → atOrAbove b (closes W N base log L j c) ≡ listed (undoStamp (At b) (latest (closes W N base log 0 j c))) (sequenceFrom W N log L j c)
-  unfolding atOrAbove closes undoStamp latest listed sequenceFrom wholeStamp countOf wrapOf
-  above-slot Empty = refl
-  above-slot Torn = refl
-  above-slot (Entry i v p) = refl
-  above-slot (Stamp n s p) = above-stamp n s p (ltb base s && eqb (length (entriesBack W N log j p n)) n) refl
-
-module _ (z : Sizes) (image : List ℕ) where
-  above-at : (b k : ℕ) → atOrAbove b (closesAt z image k) ≡ listed (stampAt z image (At b) k) (sequenceAt z image k)
-  unfolding closesAt stampAt sequenceAt closedAt contentAt
-  above-at b k = above-slot z.words z.slots (baseOf image) (logOf z (k / z.slots) image) (k / z.slots) (k % z.slots) b (contentAt z image k)
-
-  above-all : (b : ℕ) (a : List ℕ) (n : ℕ) → ((k : ℕ) → k < n → getD a k 0 ≡ stampAt z image (At b) k)
-      → atOrAbove b (completeTo z image n) ≡ remaining (sequenceAt z image) a n
-  unfolding completeTo remaining atOrAbove
-  above-all b a zero h = refl
-  above-all b a (suc n) h =
-      above-append b (completeTo z image n) (closesAt z image n)
-      ∙ ap (λ l. l ++ atOrAbove b (closesAt z image n)) (above-all b a n (λ k l. h k (omega arith)))
-      ∙ ap (λ l. remaining (sequenceAt z image) a n ++ l) (above-at b n ∙ ap (λ s. listed s (sequenceAt z image n)) (sym (h n (omega arith))))
-
-listed-from : (z : Sizes) (image a : List ℕ) (b : Timestamp) → Lists z image b a
-    → ordered (remaining (sequenceAt z image) a (z .lanes * z .slots)) ≡ undoneFrom b (completeOf z image (z .lanes))
-unfolding undoneFrom stampAt undoStamp ordered
-listed-from z image a None d = ap ordered (remaining-none (sequenceAt z image) (z .lanes * z .slots) a (d .at))
-listed-from z image a (At b) d = ap ordered (sym (above-all z image b a (z .lanes * z .slots) (d .at)) ∙ ap (atOrAbove b) (complete-all z image (z .lanes)))
-
--- what the array lists from the boundary on, in the order of undoing, is what recovery undoes
-pub listed-undone : (z : Sizes) (image a : List ℕ) → Lists z image (boundary z image) a → ordered (remaining (sequenceAt z image) a (z .lanes * z .slots)) ≡ undone z image
-unfolding undone
-listed-undone z image a d = listed-from z image a (boundary z image) d
-
-pub lists-same : (z : Sizes) (image a : List ℕ) {b c : Timestamp} → b ≡ c → Lists z image b a → Lists z image c a
-lists-same z image a e d = subst (λ b. Lists z image b a) e d
-
--- ---- the new base
-max-assoc : (a b c : ℕ) → max (max a b) c ≡ max a (max b c)
-max-assoc a b c = omega arith
-
-module _ (z : Sizes) (image : List ℕ) where
-  whole-at : (L j : ℕ) → j < z.slots → contentAt z image (L * z.slots + j) ≡ slotAt z.words (logOf z L image) j
-  unfolding contentAt
-  whole-at L j h = rw (digits-div L h, digits-mod L h)
-
-  whole-lane : (L : ℕ) → wholeTo z image (L * z.slots) ≡ max (baseOf image) (greatestOf z image L) → (j : ℕ) → j ≤ z.slots
-      → wholeTo z image (L * z.slots + j) ≡ max (baseOf image) (max (greatestOf z image L) (greatestBelow z.words (logOf z L image) j))
-  unfolding greatestBelow wholeTo
-  whole-lane L e zero h =
-      ap (wholeTo z image) (let d : L * z.slots + 0 ≡ L * z.slots = omega arith in d) ∙ e
-      ∙ ap (max (baseOf image)) (let d : greatestOf z image L ≡ max (greatestOf z image L) 0 = omega arith in d)
-  whole-lane L e (suc j) h =
-      ap (wholeTo z image) (let d : L * z.slots + suc j ≡ suc (L * z.slots + j) = omega arith in d)
-      ∙ ap (λ c. max (wholeTo z image (L * z.slots + j)) (wholeStamp c)) (whole-at L j (omega arith))
-      ∙ ap (λ m. max m (wholeStamp (slotAt z.words (logOf z L image) j))) (whole-lane L e j (omega arith))
-      ∙ max-assoc (baseOf image) (max (greatestOf z image L) (greatestBelow z.words (logOf z L image) j)) (wholeStamp (slotAt z.words (logOf z L image) j))
-      ∙ ap (max (baseOf image)) (max-assoc (greatestOf z image L) (greatestBelow z.words (logOf z L image) j) (wholeStamp (slotAt z.words (logOf z L image) j)))
-
-  whole-all : (L : ℕ) → wholeTo z image (L * z.slots) ≡ max (baseOf image) (greatestOf z image L)
-  unfolding greatestOf wholeTo
-  whole-all zero = ap (wholeTo z image) (let d : 0 * z.slots ≡ 0 = omega arith in d) ∙ (let d : baseOf image ≡ max (baseOf image) 0 = omega arith in d)
-  whole-all (suc L) = ap (wholeTo z image) (suc-mul L z.slots) ∙ whole-lane L (whole-all L) z.slots (omega arith)
-
-  -- the greatest of the base and all whole timestamps is the new base
-  pub whole-new : wholeTo z image (z.lanes * z.slots) ≡ newBase z image
-  unfolding newBase
-  whole-new = whole-all z.lanes
-
--- ---- the slots' numbers
-pub record NumberIn (z : Sizes) (k : ℕ) : Type 0 where
-  pub lane : k / z .slots < z .lanes
-  pub slot : k % z .slots < z .slots
-  pub small : k < 2048
-
-pub numbers-small : (z : Sizes) → sizesOk z ≡ true → z .lanes * z .slots ≤ 2048
-numbers-small z ok = let s = sizes-in z ok in mul-le-mul {n₁ = z .lanes} {m₁ = z .slots} {n₂ = 8} {m₂ = 256} (s .lanes-high) (s .slots-high)
-
-pub numbers-some : (z : Sizes) → sizesOk z ≡ true → 0 < z .lanes * z .slots
-numbers-some z ok = let s = sizes-in z ok in omega (arith, mul-le-mul {n₁ = 1} {m₁ = 34} {n₂ = z .lanes} {m₂ = z .slots} (s .lanes-low) (s .slots-low))
-
-pub number-in : (z : Sizes) (k : ℕ) → sizesOk z ≡ true → k < z .lanes * z .slots → NumberIn z k
-number-in z k ok h =
-    let s = sizes-in z ok in
+  pub offered-all : (j : ℕ) (s : List ℕ) (most : ℕ) → OfferedTo z image L greatest j s most → j ≡ z .slots
+      → Offers z image L s × (most ≡ max greatest (greatestBelow (z .words) (logOf z L image) (z .slots)))
+  offered-all j s most r e = (
     record {
-      lane = low;
-      slot = mod-lt k (omega arith);
-      small = omega (arith, numbers-small z ok);
-    }
-  where
-    low : k / z .slots < z .lanes
-    low =
-        split (ltb (k / z .slots) (z .lanes))
-        (λ e. ltb-true _ _ e)
-        (λ e. absurd (omega (arith, div-add-mod' k (z .slots), mul-le-mul-right (z .slots) (let l : z .lanes ≤ k / z .slots = ltb-false (k / z .slots) (z .lanes) e in l))))
+      long = r .long;
+      some = λ i h _. r .stamps i (rw e h);
+      every = λ i h d. offered-none (z .words) (z .slots) (baseOf image) (logOf z L image) i (sym (r .stamps i (rw e h)) ∙ d);
+    },
+    r .whole ∙ ap (λ n. max greatest (greatestBelow (z .words) (logOf z L image) n)) e,
+  )
 
--- ---- the pass, up to number k
-pub record Scanned (z : Sizes) (image : List ℕ) (b : Timestamp) (k : ℕ) (a : List ℕ) (base : ℕ) : Type 0 where
-  pub long : length a ≡ 2048
-  pub stamps : (i : ℕ) → i < k → getD a i 0 ≡ stampAt z image b i
-  pub whole : base ≡ wholeTo z image k
+-- ---- the search for a lane's latest sequence: m is the place of the greatest timestamp that is offered
+module _ (z : Sizes) (image : List ℕ) (L : ℕ) (pos : 0 < z .slots) (s : List ℕ)
+    (o : Offers z image L s) (m : ℕ) (e : m ≡ greatestAt s (length s)) where
+  pub search-low : m < z .slots
+  search-low = rw (e, o .long) (greatest-low s (z .slots) pos)
 
-module _ (z : Sizes) (image : List ℕ) (b : Timestamp) where
-  pub scanned-none : (a : List ℕ) → length a ≡ 2048 → Scanned z image b 0 a (getD image 0 0)
-  unfolding wholeTo baseOf
-  scanned-none a e = record { long = e; stamps = below-none (λ i. getD a i 0 ≡ stampAt z image b i); whole = refl }
+  most : (i : ℕ) → i < z .slots → AtMost s i m
+  most i h = rw e (greatest-most s (length s) i (rw (o .long) h))
 
-  pub scanned-more : (k : ℕ) (a : List ℕ) (base : ℕ) → Scanned z image b k a base → k < 2048
-      → (q : Latest) (s : ℕ) → q ≡ closedAt z.words z.slots (baseOf image) (logOf z (k / z.slots) image) (k % z.slots) → s ≡ undoStamp b q
-      → (c : Content) (w m : ℕ) → c ≡ slotAt z.words (logOf z (k / z.slots) image) (k % z.slots) → w ≡ wholeStamp c → m ≡ max base w
-      → Scanned z image b (k + 1) (set a k s) m
-  unfolding stampAt contentAt wholeTo
-  scanned-more k a base r h q s e₁ e₂ c w m e₃ e₄ e₅ =
+  -- none is offered
+  pub search-none : getD s m 0 ≡ 0 → None ≡ contribution (latestIn z image L)
+  unfolding contribution
+  search-none h =
+      rw (
+        latest-in z image L,
+        latest-none (z .words) (z .slots) (baseOf image) (logOf z L image) (z .slots)
+            (λ i l. o .every i l (omega (arith, not-above s i m (most i l)))),
+      )
+
+  module _ (h : getD s m 0 ≢ 0) (c : Content) (r : c ≡ slotAt (z .words) (logOf z L image) m) where
+    says : (c ≡ Stamp (countOf c) (getD s m 0) (wrapOf c)) × (baseOf image < getD s m 0)
+    says =
+        let f : getD s m 0 ≡ offered (baseOf image) (wholeStamp c) = o .some m search-low h ∙ ap (λ x. offered (baseOf image) (wholeStamp x)) (sym r) in
+        rw f (offered-by (baseOf image) c (λ d. h (f ∙ d)))
+
+    pub search-few : (countOf c ≤ 16) × (wrapOf c ≤ 1)
+    search-few = let f = stamp-in (z .words) (logOf z L image) m _ _ _ (sym r ∙ says .0) in (f .count, f .wrap)
+
+    -- it is incomplete, and offered no more
+    pub search-drops : (i : ℕ) → i < countOf c → entryBack (z .words) (z .slots) (logOf z L image) m (wrapOf c) (i + 1) ≡ false
+        → Offers z image L (set s m 0)
+    search-drops i l b =
+        record {
+          long = length-set s m 0 ∙ o .long;
+          some = λ j k n. split (eqb j m)
+              (λ t. absurd (n (rw (eqb-true j m t) (getD-set-same s m 0 0 (rw (o .long) search-low)))))
+              (λ t. let g : getD (set s m 0) j 0 ≡ getD s j 0 = getD-set-other s m j 0 0 (eqb-false j m t) in g ∙ o .some j k (λ d. n (g ∙ d)));
+          every = λ j k n. split (eqb j m)
+              (λ t. rw (eqb-true j m t) (sym (closed-bad (z .words) (z .slots) (baseOf image) (logOf z L image) m r (says .0) i l b)))
+              (λ t. o .every j k (sym (getD-set-other s m j 0 0 (eqb-false j m t)) ∙ n));
+        }
+
+    -- it is complete: the latest
+    module _ (w : length (entriesBack (z .words) (z .slots) (logOf z L image) m (wrapOf c) (countOf c)) ≡ countOf c) where
+      closed-stamp : (i : ℕ) → i < z .slots → (q : Sequence) → closedAt (z .words) (z .slots) (baseOf image) (logOf z L image) i ≡ Is q → q .stamp ≡ getD s i 0
+      closed-stamp i k q x =
+          sym (o .some i k (λ d. never (sym (o .every i k d) ∙ x)) ∙ closed-offered (z .words) (z .slots) (baseOf image) (logOf z L image) i q (closed-from (z .words) (z .slots) (baseOf image) (logOf z L image) i q x))
+
+      below : (i : ℕ) → i < m → NotAbove (getD s m 0) (closedAt (z .words) (z .slots) (baseOf image) (logOf z L image) i)
+      unfolding NotAbove
+      below i k = by (closedAt (z .words) (z .slots) (baseOf image) (logOf z L image) i) refl
+        where
+          by : (x : Latest) → closedAt (z .words) (z .slots) (baseOf image) (logOf z L image) i ≡ x → NotAbove (getD s m 0) x
+          by Nothing x = tt
+          by (Is q) x = rw (closed-stamp i (omega (arith, search-low)) q x) (not-above s i m (most i (omega (arith, search-low))))
+
+      above : (i : ℕ) → m < i → i < z .slots → Below (getD s m 0) (closedAt (z .words) (z .slots) (baseOf image) (logOf z L image) i)
+      unfolding Below
+      above i k l = by (closedAt (z .words) (z .slots) (baseOf image) (logOf z L image) i) refl
+        where
+          by : (x : Latest) → closedAt (z .words) (z .slots) (baseOf image) (logOf z L image) i ≡ x → Below (getD s m 0) x
+          by Nothing x = tt
+          by (Is q) x = rw (closed-stamp i l q x) (is-below s i m k (most i l))
+
+      pub search-latest : At (getD s m 0) ≡ contribution (latestIn z image L)
+      unfolding contribution
+      search-latest =
+          rw (
+            latest-in z image L,
+            latest-is (z .words) (z .slots) (baseOf image) (logOf z L image) m (z .slots)
+                (record { stamp = getD s m 0; count = countOf c; slot = m }) search-low
+                (sym (closed-whole (z .words) (z .slots) (baseOf image) (logOf z L image) m r (says .0) (says .1) w)) below above,
+          )
+
+-- ---- the lanes below k
+pub record Scanned (z : Sizes) (image : List ℕ) (room k : ℕ) (a t : List ℕ) (b : Timestamp) (base : ℕ) : Type 0 where
+  pub trees : Tournaments room (z .slots) k a t
+  pub offering : Offering z image k a
+  pub least : b ≡ boundaryBelow z image k
+  pub most : base ≡ max (baseOf image) (greatestOf z image k)
+
+module _ (z : Sizes) (image : List ℕ) (room : ℕ) where
+  pub scanned-none : (a t : List ℕ) → length a ≡ room → length t ≡ room → Scanned z image room 0 a t None (getD image 0 0)
+  unfolding boundaryBelow greatestOf baseOf
+  scanned-none a t e f =
       record {
-        long = length-set a k s ∙ r .long;
-        stamps = below-more (λ i. getD (set a k s) i 0 ≡ stampAt z image b i) k
-            (λ i l. getD-set-other a k i s 0 (λ e. omega arith) ∙ r .stamps i l)
-            (getD-set-same a k s 0 (rw (r .long) h) ∙ e₂ ∙ ap (undoStamp b) e₁);
-        whole = e₅ ∙ rw (e₄, e₃, r .whole, add-one);
+        trees = record { long = e; tree-long = f; at = λ L h. absurd (omega arith) };
+        offering = record { at = λ L h. absurd (omega arith) };
+        least = refl;
+        most = omega arith;
       }
 
-  pub scanned-all : (k : ℕ) (a : List ℕ) (base : ℕ) → Scanned z image b k a base → k ≡ z .lanes * z .slots
-      → Lists z image b a × (base ≡ newBase z image)
-  scanned-all k a base r e = (record { at = λ i h. r .stamps i (rw e h) }, r .whole ∙ ap (wholeTo z image) e ∙ whole-new z image)
+  module _ (i : z .lanes * z .slots ≤ room) (k : ℕ) (a t : List ℕ) (b : Timestamp) (base : ℕ) (r : Scanned z image room k a t b base) (l : k < z .lanes) (s u : List ℕ)
+      (o : Offers z image k s) (w : Tournament s u) where
+    fits : k * z .slots + z .slots ≤ length a
+    fits = rw (r .trees .long) (lane-inside z k room i l)
 
--- ---- what the pass says of a number that it lists
-pub record Listed (z : Sizes) (image : List ℕ) (k s : ℕ) : Type 0 where
-  pub complete : Whole z image k
-  pub stamp : sequenceAt z image k .stamp ≡ s
+    offers : (L : ℕ) → L < k + 1 → Offers z image L (partOf (z .slots) L (putMid (k * z .slots) (z .slots) a s))
+    offers L h =
+        split (eqb L k)
+        (λ d. rw (eqb-true L k d, put-here (z .slots) k a s fits (o .long)) o)
+        (λ d. rw (put-other (z .slots) k a s fits (o .long) L (eqb-false L k d)) (r .offering .at L (omega (arith, eqb-false L k d))))
 
-undo-none : (q : Latest) → undoStamp None q ≡ 0
-unfolding undoStamp
-undo-none q = refl
+    pub scanned-more : (b′ : Timestamp) (base′ : ℕ)
+        → b′ ≡ lesser b (contribution (latestIn z image k)) → base′ ≡ max base (greatestBelow (z .words) (logOf z k image) (z .slots))
+        → Scanned z image room (k + 1) (putMid (k * z .slots) (k * z .slots + z .slots - k * z .slots) a s) (putMid (k * z .slots) (k * z .slots + z .slots - k * z .slots) t u) b′ base′
+    unfolding boundaryBelow greatestOf
+    scanned-more b′ base′ g h =
+        rw (add-sub-cancel-left (k * z .slots) (z .slots))
+        (record {
+          trees = trees-put room (z .slots) k a t s u (r .trees .long) (r .trees .tree-long) (lane-inside z k room i l) (o .long) w (k + 1)
+              (λ M m d. r .trees .at M (omega (arith, d)));
+          offering = record { at = offers };
+          least = rw (add-one, ← r .least) g;
+          most = rw add-one (omega (arith, h, r .most));
+        })
 
-undo-nothing : (b : ℕ) → undoStamp (At b) Nothing ≡ 0
-unfolding undoStamp
-undo-nothing b = refl
-
-undo-low : (b : ℕ) (q : Sequence) → ltb (q .stamp) b ≡ true → undoStamp (At b) (Is q) ≡ 0
-unfolding undoStamp
-undo-low b q e = rw e
-
-undo-high : (b : ℕ) (q : Sequence) → ltb (q .stamp) b ≡ false → undoStamp (At b) (Is q) ≡ q .stamp
-unfolding undoStamp
-undo-high b q e = rw e
-
-closed-listed : (z : Sizes) (image : List ℕ) (k : ℕ) (q : Sequence)
-    → Closed z.words z.slots (baseOf image) (logOf z (k / z.slots) image) (k % z.slots) q → Listed z image k (q .stamp)
-unfolding sequenceAt sequenceFrom contentAt wholeStamp countOf wrapOf
-closed-listed z image k q c = record { complete = rw (c .reads) (c .whole); stamp = rw (c .reads) }
-
-pub listed-whole : (z : Sizes) (image : List ℕ) (b : Timestamp) (k : ℕ) → stampAt z image b k ≢ 0 → Listed z image k (stampAt z image b k)
-unfolding stampAt
-listed-whole z image b k h = by b (closedAt z.words z.slots (baseOf image) (logOf z (k / z.slots) image) (k % z.slots)) refl h
-  where
-    by : (b : Timestamp) (q : Latest) → closedAt z.words z.slots (baseOf image) (logOf z (k / z.slots) image) (k % z.slots) ≡ q → undoStamp b q ≢ 0
-        → Listed z image k (undoStamp b q)
-    by None q e h = absurd (h (undo-none q))
-    by (At b) Nothing e h = absurd (h (undo-nothing b))
-    by (At b) (Is q) e h =
-        split (ltb (q .stamp) b)
-        (λ t. absurd (h (undo-low b q t)))
-        (λ t. rw (undo-high b q t) (closed-listed z image k q (closed-from z.words z.slots (baseOf image) (logOf z (k / z.slots) image) (k % z.slots) q e)))
+  pub scanned-all : (k : ℕ) (a t : List ℕ) (b : Timestamp) (base : ℕ) → Scanned z image room k a t b base → k ≡ z .lanes
+      → (b ≡ boundary z image) × (base ≡ newBase z image) × Offering z image (z .lanes) a × Tournaments room (z .slots) (z .lanes) a t
+  unfolding boundary newBase
+  scanned-all k a t b base r e = (
+    r .least ∙ ap (boundaryBelow z image) e,
+    r .most ∙ ap (λ n. max (baseOf image) (greatestOf z image n)) e,
+    subst (λ n. Offering z image n a) e (r .offering),
+    subst (λ n. Tournaments room (z .slots) n a t) e (r .trees),
+  )

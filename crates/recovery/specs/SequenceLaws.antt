@@ -86,14 +86,6 @@ sound-below W N base log L (suc k) =
     (All-map (higher W base (wholeStamp (slotAt W log k)) _ (omega arith)) (sound-closes W N base log L k _ _ (slotAt W log k) (slot-from W log k)))
 
 -- ---- whole timestamps, complete or not
-below-greatest : (W : ℕ) (log : List ℕ) (k j : ℕ) → j < k → wholeStamp (slotAt W log j) ≤ greatestBelow W log k
-unfolding greatestBelow
-below-greatest W log zero j h = absurd (omega arith)
-below-greatest W log (suc k) j h =
-    split (ltb j k)
-    (λ e. let r = below-greatest W log k j (ltb-true j k e) in omega arith)
-    (λ e. let p : k ≡ j = omega (arith, ltb-false j k e) in rw p (omega arith))
-
 whole-even : (W a v : ℕ) (x : Content) → From W a v x → wholeStamp x % 2 ≡ 0
 unfolding From wholeStamp
 whole-even W a v Empty h = refl
@@ -122,27 +114,6 @@ module _ (z : Sizes) (image : List ℕ) where
   sound = All-map (higher z.words (baseOf image) (greatestOf z image z.lanes) _ (omega arith)) (sound-of z.lanes)
 
   -- ---- the new base
-  pub base-kept : baseOf image ≤ newBase z image
-  unfolding newBase
-  base-kept = omega arith
-
-  of-greatest : (k L : ℕ) → L < k → greatestBelow z.words (logOf z L image) z.slots ≤ greatestOf z image k
-  unfolding greatestOf
-  of-greatest zero L h = absurd (omega arith)
-  of-greatest (suc k) L h =
-      split (ltb L k)
-      (λ e. let r = of-greatest k L (ltb-true L k e) in omega arith)
-      (λ e. let p : k ≡ L = omega (arith, ltb-false L k e) in rw p (omega arith))
-
-  -- every whole timestamp, complete or not, is at most the new base
-  pub whole-under : (L j : ℕ) → L < z.lanes → j < z.slots → wholeStamp (slotAt z.words (logOf z L image) j) ≤ newBase z image
-  unfolding newBase
-  whole-under L j h g = omega (arith, below-greatest z.words (logOf z L image) z.slots j g, of-greatest z.lanes L h)
-
-  pub stamp-under : (L j n s p : ℕ) → L < z.lanes → j < z.slots → slotAt z.words (logOf z L image) j ≡ Stamp n s p → s ≤ newBase z image
-  unfolding wholeStamp
-  stamp-under L j n s p h g e = rw e at (whole-under L j h g)
-
   of-even : (k : ℕ) → greatestOf z image k % 2 ≡ 0
   unfolding greatestOf
   of-even zero = refl

@@ -22,7 +22,7 @@ unfolding undoEntries
 data-entries W nil = nil
 data-entries W (more h hs) = All-append (data-entries W hs) (more (omega arith, omega arith) nil)
 
-data-sequences : (W : ℕ) {qs : List Complete} → All (λ q. All (Low W) (q .entries)) qs → All (OnData W) (undoSequences qs)
+pub data-sequences : (W : ℕ) {qs : List Complete} → All (λ q. All (Low W) (q .entries)) qs → All (OnData W) (undoSequences qs)
 unfolding undoSequences
 data-sequences W nil = nil
 data-sequences W (more h hs) = All-append (data-entries W h) (data-sequences W hs)

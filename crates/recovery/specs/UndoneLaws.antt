@@ -42,13 +42,6 @@ unfolding firstOld writes
 firstOld-none [] w x h = refl
 firstOld-none (e ∷ es) w x h = rw (or-left (eqb e.word w) _ h) (firstOld-none es w x (or-right (eqb e.word w) _ h))
 
--- where an entry names the word, what stood there before does not matter
-pub firstOld-forgets : (es : List Old) (w x y : ℕ) → writes es w ≡ true → firstOld es w x ≡ firstOld es w y
-unfolding firstOld writes
-firstOld-forgets [] w x y h = clash false h refl
-firstOld-forgets (e ∷ es) w x y h =
-    split (eqb e.word w) (λ t. rw t) (λ t. rw t (firstOld-forgets es w x y (rw t at h)))
-
 -- ---- sequences
 unfoldable pub firstsOf : List Complete → (w x : ℕ) → ℕ
 firstsOf [] w x = x

@@ -1,7 +1,7 @@
 // Recovery: from the non-volatile memory alone, the words at one boundary. The logs are read in scan.rt, undoing is in undo.rt, stores up to the limit in stores.rt.
 ghost use mathlib.Core.Path.{_≡_};
 ghost use mathlib.Core.Bool.{true};
-ghost use Prim.Native.Nat.{_+_, _*_};
+ghost use Prim.Native.Nat.{_*_, _≤_};
 ghost use lib.ListN.{length, replicate};
 ghost use Rattle.image.specs.Image.{sizesOk, imageLength};
 ghost use Rattle.store.specs.Interface.{blankOf};
@@ -36,8 +36,9 @@ pub struct Restart {
     pub state: Record,
 }
 
-// How many stores were due: those that undo entries, and all.
+// The boundary, and how many stores were due: those that undo entries, and all.
 struct Due {
+    boundary: Timestamp,
     undone: usize,
     all: usize,
 }
@@ -55,20 +56,49 @@ pub fn recover_refusal(sizes: Sizes, cache: &[u64], nvm: &[u64], flags: &[u8]) -
     0
 }
 
-// All stores, as far as the limit goes: entries undone, the base timestamp, the log words.
-fn make_stores(sizes: Sizes, nvm: &mut [u64], boundary: Timestamp, limit: usize) -> Due
-    requires { ⌜ (sizesOk sizes ≡ true) × (length (now nvm) ≡ imageLength sizes) × (boundary ≡ boundaryOf sizes (now nvm)) ⌝ }
+// All stores, as far as the limit goes: entries undone, the base timestamp, the log words. The arrays have a place for each slot of each lane.
+fn make_stores(
+    sizes: Sizes,
+    nvm: &mut [u64],
+    stamps: &mut [u64],
+    tree: &mut [u16],
+    limit: usize,
+) -> Due
+    requires { ⌜ (sizesOk sizes ≡ true) × (length (now nvm) ≡ imageLength sizes) × (sizes .lanes * sizes .slots ≤ length (now stamps)) × (length (now tree) ≡ length (now stamps)) ⌝ }
+    ensures boundary { λ r. ⌜ r .boundary ≡ boundaryOf sizes (now (nvm .entry)) ⌝ }
     ensures undo { λ r. ⌜ r .undone ≡ length (undoStores sizes (now (nvm .entry))) ⌝ }
     ensures counted { λ r. ⌜ r .all ≡ length (recoveryStores sizes (now (nvm .entry))) ⌝ }
     ensures written { λ r. ⌜ now (nvm .exit) ≡ recoveredNvm sizes limit (now (nvm .entry)) ⌝ }
 {
+    let found = scan::scan(sizes, nvm, stamps, tree);
+    let boundary = found.boundary;
+    let undone = undo::undo_all(sizes, nvm, stamps, tree, boundary, limit);
+    let due = stores::put(nvm, 0, found.base, limit, undone);
+    let all = stores::clear_logs(sizes, nvm, limit, due);
+    Due {
+        boundary,
+        undone,
+        all,
+    }
+}
+
+// The same in arrays of its own. Small logs have small ones: setting the great ones to 0 costs as much as recovering a small image.
+fn recover_nvm(sizes: Sizes, nvm: &mut [u64], limit: usize) -> Due
+    requires { ⌜ (sizesOk sizes ≡ true) × (length (now nvm) ≡ imageLength sizes) ⌝ }
+    ensures boundary { λ r. ⌜ r .boundary ≡ boundaryOf sizes (now (nvm .entry)) ⌝ }
+    ensures undo { λ r. ⌜ r .undone ≡ length (undoStores sizes (now (nvm .entry))) ⌝ }
+    ensures counted { λ r. ⌜ r .all ≡ length (recoveryStores sizes (now (nvm .entry))) ⌝ }
+    ensures written { λ r. ⌜ now (nvm .exit) ≡ recoveredNvm sizes limit (now (nvm .entry)) ⌝ }
+{
+    if sizes.lanes * sizes.slots <= 256 {
+        let mut stamps = [0u64; 256];
+        let mut tree = [0u16; 256];
+        return make_stores(sizes, nvm, &mut stamps, &mut tree, limit);
+    }
     // 8 lanes of 256 slots
     let mut stamps = [0u64; 2048];
-    let base = scan::scan(sizes, nvm, boundary, &mut stamps);
-    let undone = undo::undo_all(sizes, nvm, &mut stamps, limit);
-    let due = stores::put(nvm, 0, base, limit, undone);
-    let all = stores::clear_logs(sizes, nvm, limit, due);
-    Due { undone, all }
+    let mut tree = [0u16; 2048];
+    make_stores(sizes, nvm, &mut stamps, &mut tree, limit)
 }
 
 // The cache equals non-volatile memory, and nothing is flushed.
@@ -77,16 +107,15 @@ fn refill(cache: &mut [u64], nvm: &[u64], flags: &mut [u8])
     ensures cached { λ r. ⌜ now (cache .exit) ≡ now (nvm .entry) ⌝ }
     ensures unflushed { λ r. ⌜ now (flags .exit) ≡ replicate (length (now (cache .entry))) 0 ⌝ }
 {
-    for i in 0..cache.len() {
-        cache[i] = nvm[i];
-        flags[i] = 0;
-    }
+    image::bulk::copy_words(nvm, cache);
+    image::bulk::clear_flags(flags);
 }
 
 // Recovers from non-volatile memory alone, making at most `limit` stores to it; cache and flags are not read.
-// It searches each lane's log for its latest sequence (one pass over it, and one more for each greater timestamp that is not complete), decodes every slot once
-// into a list of timestamps (16 KB of stack), passes over that list once for each sequence undone, makes a store for each entry undone, one for the base and one for
-// each log word, and where it finishes passes over the image once. At the greatest sizes that is at most 2,048 passes over 2,048 timestamps.
+// One pass over all slots makes an array of timestamps with a winner tree for each lane (up to 23 KB of stack). Each lane's are tried from the greatest down, up to its
+// latest sequence; then all from the boundary on are taken from the greatest down. Each one tried or taken costs the reading of its sequence, a step for each level
+// of its tree, at most 8, and where it is taken a look at each lane. A store is made for each entry undone, one for the base and one for each log word, and where it
+// finishes the image is passed over once.
 pub fn recover(
     sizes: Sizes,
     cache: &mut [u64],
@@ -104,14 +133,14 @@ pub fn recover(
             state: blank,
         };
     }
-    let boundary = scan::boundary(sizes, nvm);
-    let due = make_stores(sizes, nvm, boundary, limit);
+    let due = recover_nvm(sizes, nvm, limit);
     if limit < due.all {
         return Restart {
             answer: Recovered::Cut,
             state: blank,
         };
     }
+    let boundary = due.boundary;
     refill(cache, nvm, flags);
     Restart {
         answer: Recovered::Finished(Finished {

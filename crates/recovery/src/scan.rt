@@ -1,38 +1,23 @@
-// What recovery finds in the logs: the boundary, the timestamps to undo, and the new base timestamp.
+// What recovery finds in the logs: each lane's timestamps, offered to a winner tree, the boundary, and the new base timestamp.
 ghost use mathlib.Core.Path.{_≡_};
 ghost use mathlib.Core.Bool.{true};
-ghost use Prim.Native.Nat.{_<_, max};
+ghost use Prim.Native.Nat.{_*_, _≤_, _<_, max};
 ghost use lib.ListN.{length};
-ghost use Rattle.image.specs.Image.{sizesOk, imageLength, baseOf, logOf};
-ghost use Rattle.log.specs.Log.{slotAt, contribution as contributionOf};
-ghost use Rattle.log.specs.Search.{closedAt};
-ghost use Rattle.recovery.specs.Recovery.{boundary as boundaryOf, wholeStamp, newBase};
-ghost use Rattle.recovery.specs.Picking.{undoStamp, Lists};
+ghost use Rattle.winners.specs.Winners.{Tournament};
+ghost use Rattle.image.specs.Image.{sizesOk, imageLength, logOf};
+ghost use Rattle.log.specs.Log.{slotAt, latestIn, contribution};
+ghost use Rattle.log.specs.Search.{entryBack};
+ghost use Rattle.record.specs.Record.{lesser};
+ghost use Rattle.recovery.specs.Recovery.{boundary as boundaryOf, wholeStamp, greatestBelow, newBase};
+ghost use Rattle.recovery.specs.Picking.{countOf, wrapOf, offered as offeredOf, Offers, Offering, Tournaments};
 use image::Sizes;
-use log::Latest;
 use log::Timestamp;
 use slot::Content;
 
-// The timestamp that a lane gives to the boundary: its latest sequence's.
-fn contribution(latest: Latest) -> Timestamp
-    ensures { λ r. ⌜ r ≡ contributionOf latest ⌝ }
-{
-    match latest {
-        Latest::Nothing => Timestamp::None,
-        Latest::Is(sequence) => Timestamp::At(sequence.stamp),
-    }
-}
-
-// The boundary: the least of the lanes' latest timestamps.
-pub fn boundary(sizes: Sizes, nvm: &[u64]) -> Timestamp
-    requires { ⌜ (sizesOk sizes ≡ true) × (length (now nvm) ≡ imageLength sizes) ⌝ }
-    ensures { λ r. ⌜ r ≡ boundaryOf sizes (now (nvm .entry)) ⌝ }
-{
-    let mut least = Timestamp::None;
-    for lane in 0..sizes.lanes {
-        least = record::lesser(least, contribution(store::latest_in(sizes, nvm, lane)));
-    }
-    least
+// What the lanes read so far give: the boundary, and the new base.
+pub struct Found {
+    pub boundary: Timestamp,
+    pub base: u64,
 }
 
 // What slot j of a lane's log says.
@@ -45,31 +30,14 @@ pub fn slot_in(sizes: Sizes, nvm: &[u64], lane: usize, j: usize) -> Content
     log::slot_at(&nvm[start..end], sizes.words, j)
 }
 
-// The sequence that slot j of a lane's log closes, if it is complete.
-fn closed_in(sizes: Sizes, nvm: &[u64], lane: usize, j: usize) -> Latest
-    requires { ⌜ (sizesOk sizes ≡ true) × (length (now nvm) ≡ imageLength sizes) × (lane < sizes .lanes) × (j < sizes .slots) ⌝ }
-    ensures { λ r. ⌜ r ≡ closedAt (sizes .words) (sizes .slots) (baseOf (now (nvm .entry))) (logOf sizes lane (now (nvm .entry))) j ⌝ }
+// Is the slot i places before slot j of a lane's log a whole entry with the wrap bit that it should have, where slot j has this one?
+fn entry_in(sizes: Sizes, nvm: &[u64], lane: usize, j: usize, wrap: u64, i: usize) -> bool
+    requires { ⌜ (sizesOk sizes ≡ true) × (length (now nvm) ≡ imageLength sizes) × (lane < sizes .lanes) × (j < sizes .slots) × (i ≤ sizes .slots) × (wrap ≤ 1) ⌝ }
+    ensures { λ r. ⌜ r ≡ entryBack (sizes .words) (sizes .slots) (logOf sizes lane (now (nvm .entry))) j wrap i ⌝ }
 {
     let start = image::log_start(sizes, lane);
     let end = start + 2 * sizes.slots;
-    log::closed_at(&nvm[start..end], sizes.words, sizes.slots, nvm[0], j)
-}
-
-// The timestamp to undo where a slot closes this: at or above the boundary, 0 for none.
-fn stamp_to_undo(boundary: Timestamp, closed: Latest) -> u64
-    ensures { λ r. ⌜ r ≡ undoStamp boundary closed ⌝ }
-{
-    match boundary {
-        Timestamp::None => 0,
-        Timestamp::At(least) => match closed {
-            Latest::Nothing => 0,
-            Latest::Is(sequence) => if sequence.stamp < least {
-                0
-            } else {
-                sequence.stamp
-            },
-        },
-    }
+    log::entry_back(&nvm[start..end], sizes.words, sizes.slots, j, wrap, i)
 }
 
 // The timestamp of a slot, complete or not, 0 where it has none.
@@ -84,26 +52,136 @@ fn whole_stamp(content: Content) -> u64
     }
 }
 
+// How many entries a timestamp closes, 0 where there is none.
+fn count_of(content: Content) -> usize
+    ensures { λ r. ⌜ r ≡ countOf content ⌝ }
+{
+    match content {
+        Content::Empty => 0,
+        Content::Torn => 0,
+        Content::Entry { .. } => 0,
+        Content::Stamp { count, .. } => count,
+    }
+}
+
+// The wrap bit of a timestamp, 0 where there is none.
+fn wrap_of(content: Content) -> u64
+    ensures { λ r. ⌜ r ≡ wrapOf content ⌝ }
+{
+    match content {
+        Content::Empty => 0,
+        Content::Torn => 0,
+        Content::Entry { .. } => 0,
+        Content::Stamp { wrap, .. } => wrap,
+    }
+}
+
 fn greater(a: u64, b: u64) -> u64
     ensures { λ r. ⌜ r ≡ max a b ⌝ }
 {
     if a < b { b } else { a }
 }
 
-// One pass over all slots, numbered through by lane, then slot: the timestamp to undo at each number, 0 for none; and the new base, the greatest of the
-// base and all whole timestamps.
-pub fn scan(sizes: Sizes, nvm: &[u64], boundary: Timestamp, stamps: &mut [u64]) -> u64
-    requires { ⌜ (sizesOk sizes ≡ true) × (length (now nvm) ≡ imageLength sizes) × (length (now stamps) ≡ 2048) ⌝ }
-    ensures listed { λ r. ⌜ Lists sizes (now (nvm .entry)) boundary (now (stamps .exit)) ⌝ }
-    ensures base { λ r. ⌜ r ≡ newBase sizes (now (nvm .entry)) ⌝ }
+// A whole timestamp above the base, 0 for any other.
+fn offered(base: u64, stamp: u64) -> u64
+    ensures { λ r. ⌜ r ≡ offeredOf base stamp ⌝ }
+{
+    if base < stamp { stamp } else { 0 }
+}
+
+// One pass over a lane's slots: what each offers, and the greatest of all whole timestamps and the one given.
+fn offer(sizes: Sizes, nvm: &[u64], lane: usize, stamps: &mut [u64], greatest: u64) -> u64
+    requires { ⌜ (sizesOk sizes ≡ true) × (length (now nvm) ≡ imageLength sizes) × (lane < sizes .lanes) × (length (now stamps) ≡ sizes .slots) ⌝ }
+    ensures offers { λ r. ⌜ Offers sizes (now (nvm .entry)) lane (now (stamps .exit)) ⌝ }
+    ensures most { λ r. ⌜ r ≡ max greatest (greatestBelow (sizes .words) (logOf sizes lane (now (nvm .entry))) (sizes .slots)) ⌝ }
+{
+    let base = nvm[0];
+    let mut most = greatest;
+    for j in 0..sizes.slots {
+        let stamp = whole_stamp(slot_in(sizes, nvm, lane, j));
+        stamps[j] = offered(base, stamp);
+        most = greater(most, stamp);
+    }
+    most
+}
+
+// The timestamp of a lane's latest sequence. Those offered are tried from the greatest down, each over its entries, up to the first complete one; those found
+// incomplete are offered no more.
+fn latest(sizes: Sizes, nvm: &[u64], lane: usize, stamps: &mut [u64], tree: &mut [u16]) -> Timestamp
+    requires { ⌜ (sizesOk sizes ≡ true) × (length (now nvm) ≡ imageLength sizes) × (lane < sizes .lanes) × Offers sizes (now nvm) lane (now stamps) × Tournament (now stamps) (now tree) ⌝ }
+    ensures found { λ r. ⌜ r ≡ contribution (latestIn sizes (now (nvm .entry)) lane) ⌝ }
+    ensures offers { λ r. ⌜ Offers sizes (now (nvm .entry)) lane (now (stamps .exit)) ⌝ }
+    ensures again { λ r. ⌜ Tournament (now (stamps .exit)) (now (tree .exit)) ⌝ }
+{
+    'stamps: loop {
+        let j = winners::winner(stamps, tree);
+        let stamp = stamps[j];
+        if stamp == 0 {
+            return Timestamp::None;
+        }
+        let content = slot_in(sizes, nvm, lane, j);
+        let count = count_of(content);
+        let wrap = wrap_of(content);
+        for i in 0..count {
+            if !entry_in(sizes, nvm, lane, j, wrap, i + 1) {
+                winners::drop_at(stamps, tree, j);
+                continue 'stamps;
+            }
+        }
+        return Timestamp::At(stamp);
+    }
+}
+
+// Reads a lane's log: its timestamps into a winner tree, and what it gives with the lanes before it.
+fn read_lane(
+    sizes: Sizes,
+    nvm: &[u64],
+    lane: usize,
+    stamps: &mut [u64],
+    tree: &mut [u16],
+    found: Found,
+) -> Found
+    requires { ⌜ (sizesOk sizes ≡ true) × (length (now nvm) ≡ imageLength sizes) × (lane < sizes .lanes) × (length (now stamps) ≡ sizes .slots) × (length (now tree) ≡ sizes .slots) ⌝ }
+    ensures boundary { λ r. ⌜ r .boundary ≡ lesser (found .boundary) (contribution (latestIn sizes (now (nvm .entry)) lane)) ⌝ }
+    ensures base { λ r. ⌜ r .base ≡ max (found .base) (greatestBelow (sizes .words) (logOf sizes lane (now (nvm .entry))) (sizes .slots)) ⌝ }
+    ensures offers { λ r. ⌜ Offers sizes (now (nvm .entry)) lane (now (stamps .exit)) ⌝ }
+    ensures tree { λ r. ⌜ Tournament (now (stamps .exit)) (now (tree .exit)) ⌝ }
+{
+    let boundary = found.boundary;
+    let base = offer(sizes, nvm, lane, stamps, found.base);
+    winners::build(stamps, tree);
+    let newest = latest(sizes, nvm, lane, stamps, tree);
+    Found {
+        boundary: record::lesser(boundary, newest),
+        base,
+    }
+}
+
+// Reads all logs, each lane's timestamps into its part of the array: the boundary, which is the least of the lanes' latest timestamps, and the new base, which
+// is the greatest of the base and all whole timestamps.
+pub fn scan(sizes: Sizes, nvm: &[u64], stamps: &mut [u64], tree: &mut [u16]) -> Found
+    requires { ⌜ (sizesOk sizes ≡ true) × (length (now nvm) ≡ imageLength sizes) × (sizes .lanes * sizes .slots ≤ length (now stamps)) × (length (now tree) ≡ length (now stamps)) ⌝ }
+    ensures boundary { λ r. ⌜ r .boundary ≡ boundaryOf sizes (now (nvm .entry)) ⌝ }
+    ensures base { λ r. ⌜ r .base ≡ newBase sizes (now (nvm .entry)) ⌝ }
+    ensures offering { λ r. ⌜ Offering sizes (now (nvm .entry)) (sizes .lanes) (now (stamps .exit)) ⌝ }
+    ensures trees { λ r. ⌜ Tournaments (length (now (stamps .entry))) (sizes .slots) (sizes .lanes) (now (stamps .exit)) (now (tree .exit)) ⌝ }
 {
     let slots = sizes.slots;
-    let mut base = nvm[0];
-    for k in 0..sizes.lanes * slots {
-        let lane = k / slots;
-        let j = k % slots;
-        stamps[k] = stamp_to_undo(boundary, closed_in(sizes, nvm, lane, j));
-        base = greater(base, whole_stamp(slot_in(sizes, nvm, lane, j)));
+    let mut found = Found {
+        boundary: Timestamp::None,
+        base: nvm[0],
+    };
+    for lane in 0..sizes.lanes {
+        let from = lane * slots;
+        let to = from + slots;
+        found = read_lane(
+            sizes,
+            nvm,
+            lane,
+            &mut stamps[from..to],
+            &mut tree[from..to],
+            found,
+        );
     }
-    base
+    found
 }

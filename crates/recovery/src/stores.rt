@@ -2,7 +2,7 @@
 ghost use mathlib.Core.Path.{_≡_};
 ghost use mathlib.Core.Bool.{true};
 ghost use mathlib.Core.List.{[], _∷_};
-ghost use Prim.Native.Nat.{_+_, _*_, _<_, _^_};
+ghost use Prim.Native.Nat.{_+_, _-_, _*_, _<_, _^_, min};
 ghost use lib.ListN.{length};
 ghost use Rattle.image.specs.Image.{sizesOk, imageLength};
 ghost use Rattle.recovery.specs.Recovery.{zeros};
@@ -21,15 +21,29 @@ pub fn put(nvm: &mut [u64], at: usize, value: u64, limit: usize, due: usize) -> 
     due + 1
 }
 
-// The log words become 0, in rising order.
+// How many of `count` stores are made, where `due` stores were due before them.
+fn made(limit: usize, due: usize, count: usize) -> usize
+    ensures { λ r. ⌜ r ≡ min (limit - due) count ⌝ }
+{
+    if limit <= due {
+        return 0;
+    }
+    let left = limit - due;
+    if left < count {
+        return left;
+    }
+    count
+}
+
+// The log words become 0, in rising order: one stretch, as long as the limit lets it be.
 pub fn clear_logs(sizes: Sizes, nvm: &mut [u64], limit: usize, due: usize) -> usize
     requires { ⌜ (sizesOk sizes ≡ true) × (length (now nvm) ≡ imageLength sizes) × (due < 65536) ⌝ }
     ensures counted { λ r. ⌜ r ≡ due + 2 * sizes .lanes * sizes .slots ⌝ }
     ensures written { λ r. ⌜ now (nvm .exit) ≡ limited limit due (zeros (1 + sizes .words) (2 * sizes .lanes * sizes .slots)) (now (nvm .entry)) ⌝ }
 {
-    let mut total = due;
-    for i in 0..2 * sizes.lanes * sizes.slots {
-        total = put(nvm, 1 + sizes.words + i, 0, limit, total);
-    }
-    total
+    let count = 2 * sizes.lanes * sizes.slots;
+    let start = 1 + sizes.words;
+    let end = start + made(limit, due, count);
+    image::bulk::clear_words(&mut nvm[start..end]);
+    due + count
 }

@@ -1,6 +1,6 @@
 -- Laws of reading: a word is two halves of four bytes; the image word by word; which inputs are well formed. Assumes nothing.
 use mathlib.Core.Path.{_≡_, refl, sym, ap, _∙_}
-use mathlib.Core.Bool.{Bool, true, false, _&&_}
+use mathlib.Core.Bool.{true, false, and-false}
 use mathlib.Core.List.{List, [], _∷_, _++_}
 use Prim.Native.Nat.{ℕ, zero, suc, _+_, _*_, _≤_, _<_}
 use native.Mathlib.Omega.{arith}
@@ -72,15 +72,11 @@ length-words input zero = refl
 length-words input (suc n) = length-append (wordsIn input n) _ ∙ rw (length-words input n) (omega arith)
 
 -- ---- well formed inputs
-both-false : (a : Bool) → (a && false) ≡ false
-both-false true = refl
-both-false false = refl
-
 module _ (input : List ℕ) where
   -- too short for the sizes
   pub short-input : length input < 24 → false ≡ wellFormed input
   unfolding wellFormed
-  short-input h = rw (ne-eqb (length input) (8 * (3 + imageLength (sizesIn input))) (λ e. omega arith)) (sym (both-false (sizesOk (sizesIn input))))
+  short-input h = rw (ne-eqb (length input) (8 * (3 + imageLength (sizesIn input))) (λ e. omega arith)) (sym (and-false (sizesOk (sizesIn input))))
 
   pub bad-sizes : sizesOk (sizesIn input) ≡ false → false ≡ wellFormed input
   unfolding wellFormed

@@ -8,10 +8,9 @@ use native.Mathlib.Omega.{arith}
 use lib.ListN.{length}
 use lib.Seq.{take-all}
 use borrow.Author.Tests.{eq-eqb, ne-eqb}
-use Rattle.image.specs.Image.{sizesOk, imageLength, buffersOk, baseOf}
-use Rattle.image.specs.ImageLaws.{sizes-in}
+use Rattle.image.specs.Image.{imageLength, baseOf}
+use Rattle.image.specs.ImageLaws.{sizes-in, buffers-good}
 use Rattle.image.specs.Stores.{stored}
-use Rattle.image.specs.declared.Sizes.{Sizes}
 use Rattle.store.specs.Calls.{badBuffers}
 use Rattle.store.specs.Interface.{blankOf}
 use Rattle.store.specs.Machine.{Machine}
@@ -22,11 +21,6 @@ use Rattle.report.specs.Report.{sizesIn, imageIn, wellFormed, refusedLin
 use Rattle.report.specs.ReadingLaws.{length-words, well-sized}
 use Rattle.report.specs.ReportLaws.{report-refused, length-blank}
 use Rattle.report.specs.StoresLaws.{no-limit}
-
-buffers-good : (z : Sizes) (cache nvm flags : ℕ) → sizesOk z ≡ true → cache ≡ imageLength z → nvm ≡ imageLength z → flags ≡ imageLength z
-    → buffersOk z cache nvm flags ≡ true
-unfolding buffersOk
-buffers-good z cache nvm flags s c n f = rw (s, eq-eqb cache (imageLength z) c, eq-eqb nvm (imageLength z) n, eq-eqb flags (imageLength z) f)
 
 -- input that is not well formed
 pub bad-input : (input : List ℕ) → wellFormed input ≡ false → reportOf input ≡ refusedLine 1

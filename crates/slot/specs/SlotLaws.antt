@@ -1,5 +1,5 @@
 -- Laws of the slot format, once for any wrap bit: what was made is read back, a reading comes from nothing else, and two makings differ. Assumes nothing.
-use Prim.Native.Nat.{ℕ, _+_, _-_, _*_, _/_, _%_, _^_, _≤_, _<_}
+use Prim.Native.Nat.{ℕ, _+_, _-_, _*_, _/_, _%_, _≤_, _<_}
 use mathlib.Core.Path.{_≡_, _∙_, ap}
 use mathlib.Core.Bool.{Bool, true, false, _&&_}
 use native.Mathlib.Omega.{arith}
@@ -162,22 +162,6 @@ pub stamp-only : (W a v n s p : ℕ) → readOf W a v ≡ Stamp n s p → StampF
 unfolding From
 stamp-only W a v n s p e = rw e at (read-from W a v)
 
--- both words of a whole slot have its wrap bit
-pub entry-wrap : (W a v i o p : ℕ) → readOf W a v ≡ Entry i o p → (a % 2 ≡ p) × (v % 2 ≡ p)
-unfolding entryOf
-entry-wrap W a v i o p e = let f = entry-only W a v i o p e in (omega arith, omega arith)
-
-pub stamp-wrap : (W a v n s p : ℕ) → readOf W a v ≡ Stamp n s p → (a % 2 ≡ p) × (v % 2 ≡ p)
-unfolding stampOf
-stamp-wrap W a v n s p e = let f = stamp-only W a v n s p e in (omega arith, omega arith)
-
--- a commit replaces only the value word: the new stamp is read with the old count and wrap bit
-pub stamp-again : (W a v n s p t : ℕ) → W < 4096 → readOf W a v ≡ Stamp n s p → t % 2 ≡ 0 → readOf W a (t + p) ≡ Stamp n t p
-unfolding stampOf
-stamp-again W a v n s p t k e even =
-    let f = stamp-only W a v n s p e in
-    rw (f .address) (stamp-read W n t p k (f .count) even (f .wrap))
-
 -- ---- both words made have the wrap bit
 
 pub entry-bits : (i v p : ℕ) → p ≤ 1 → (entryOf i v p .address % 2 ≡ p) × (entryOf i v p .value % 2 ≡ p)
@@ -211,18 +195,3 @@ unfolding entryOf stampOf
 entry-not-stamp i v p n s q h g e =
     let d : 8 * (i + 1) + 2 * (v % 2) + p ≡ 8 * (4096 + n) + q = ap (λ (s : Slot). s .address) e in
     omega arith
-
--- ---- the words fit
-
-pub entry-fits : (i v p : ℕ) → i < 4095 → v < 2 ^ 64 → p ≤ 1 → (entryOf i v p .address < 2 ^ 64) × (entryOf i v p .value < 2 ^ 64)
-unfolding entryOf
-entry-fits i v p h g k = (omega arith, omega arith)
-
-pub stamp-fits : (n s p : ℕ) → n ≤ 16 → s + 1 < 2 ^ 64 → p ≤ 1 → (stampOf n s p .address < 2 ^ 64) × (stampOf n s p .value < 2 ^ 64)
-unfolding stampOf
-stamp-fits n s p h g k = (omega arith, omega arith)
-
--- and so does an old value that is read
-pub old-fits : (W a v i o p : ℕ) → readOf W a v ≡ Entry i o p → v < 2 ^ 64 → o < 2 ^ 64
-unfolding entryOf
-old-fits W a v i o p e h = let f = entry-only W a v i o p e in omega arith

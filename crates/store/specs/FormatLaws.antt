@@ -1,68 +1,67 @@
--- Format's image word by word, and a buffer that is filled with an image from the front: what stands in it once the words below i are stored. Assumes nothing.
-use Prim.Native.Nat.{ℕ, zero, suc, _+_, _-_, _*_, _≤_, _<_}
-use mathlib.Core.Path.{_≡_, refl, sym, _∙_, ap}
-use mathlib.Core.List.{List, _++_}
+-- Format's image, made in parts: the base timestamp, the start words, the logs. Assumes nothing.
+use Prim.Native.Nat.{ℕ, _+_, _-_, _*_, _≤_}
+use mathlib.Core.Path.{_≡_, sym, _∙_, ap}
+use mathlib.Core.List.{List, _∷_, _++_, append-assoc, append-nil}
 use native.Mathlib.Omega.{arith}
-use lib.ListN.{length, getD, set, replicate, length-set, length-append, length-replicate, List·getD-append}
-use lib.Seq.{ext-getD, getD-set-same, getD-set-other, getD-append-add}
-use borrow.Author.Count.{below-none, below-more}
+use lib.ListN.{length, set, take, drop, replicate, length-set, length-append, length-replicate, drop-of-length-le}
+use lib.Seq.{take-at, take-suc-set}
+use borrow.Rule.Slice.PartMut.{midOf, putMid, same-len-mid, mid-len, post-is}
 use Rattle.image.specs.Image.{imageLength}
 use Rattle.image.specs.declared.Sizes.{Sizes}
 use Rattle.store.specs.Calls.{startImage}
 
--- ---- the image
--- zeros, at any index
-pub getD-zeros : (n i : ℕ) → _≡_ {A = ℕ} (getD (replicate n 0) i 0) 0
-getD-zeros zero i = refl
-getD-zeros (suc n) zero = refl
-getD-zeros (suc n) (suc i) = getD-zeros n i
+pub length-startImage : (z : Sizes) (start : List ℕ) → length start ≡ z .words → length (startImage z start) ≡ imageLength z
+unfolding startImage imageLength
+length-startImage z start e = rw (length-append start (replicate (2 * z .lanes * z .slots) 0), length-replicate {A = ℕ} (2 * z .lanes * z .slots) 0, e) (omega arith)
 
-module _ (z : Sizes) (start : List ℕ) (e : length start ≡ z .words) where
-  pub length-startImage : length (startImage z start) ≡ imageLength z
-  unfolding startImage imageLength
-  length-startImage = rw (length-append start (replicate (2 * z .lanes * z .slots) 0), length-replicate {A = ℕ} (2 * z .lanes * z .slots) 0, e) (omega arith)
+-- what base timestamp and start words leave is the logs
+logs-left : (z : Sizes) (start words : ℕ) → start ≡ z .words → words ≡ imageLength z → words - (1 + start) ≡ 2 * z .lanes * z .slots
+unfolding imageLength
+logs-left z start words e n = omega arith
 
-  -- the base timestamp
-  pub start-base : (i : ℕ) → i < 1 → getD (startImage z start) i 0 ≡ 0
-  unfolding startImage
-  start-base zero h = refl
-  start-base (suc i) h = absurd (omega arith)
+-- a part that reaches to the end, put back
+put-last : (at : ℕ) (xs ys : List ℕ) → at ≤ length xs → putMid at (length xs - at) xs ys ≡ take at xs ++ ys
+put-last at xs ys h =
+    ap (λ (l : List ℕ). take at xs ++ (ys ++ l)) (post-is at (length xs) xs h ∙ drop-of-length-le xs {i = length xs} (omega arith))
+    ∙ ap (λ (l : List ℕ). take at xs ++ l) (append-nil ys)
 
-  -- the data words
-  pub start-data : (i : ℕ) → 1 ≤ i → i ≤ z .words → getD (startImage z start) i 0 ≡ getD start (i - 1) 0
-  unfolding startImage
-  start-data zero h k = absurd (omega arith)
-  start-data (suc i) h k =
-      List·getD-append start (replicate (2 * z .lanes * z .slots) 0) 0 i (omega arith)
-      ∙ ap (λ j. getD start j 0) (let q : i ≡ suc i - 1 = omega arith in q)
+module _ (z : Sizes) (start words : List ℕ) (e : length start ≡ z .words) (n : length words ≡ imageLength z) where
+  -- the part for the start words lies in the buffer
+  pub start-inside : 1 + length start ≤ length (set words 0 0)
+  unfolding imageLength
+  start-inside = omega (arith, length-set words 0 0)
 
-  -- the logs, and past the image
-  pub start-logs : (i : ℕ) → z .words < i → getD (startImage z start) i 0 ≡ 0
-  unfolding startImage
-  start-logs zero h = refl
-  start-logs (suc i) h =
-      ap (λ j. getD (start ++ replicate (2 * z .lanes * z .slots) 0) j 0) (let q : i ≡ length start + (i - length start) = omega arith in q)
-      ∙ getD-append-add start (replicate (2 * z .lanes * z .slots) 0) (i - length start) 0
-      ∙ getD-zeros (2 * z .lanes * z .slots) (i - length start)
+  -- base timestamp and start words stored
+  module _ (ys : List ℕ) (c : ys ≡ start) where
+    abbrev begun : List ℕ
+    begun = putMid 1 (1 + length start - 1) (set words 0 0) ys
 
--- ---- filling
--- a buffer of n words whose first i are the image's
-pub record Filled (n : ℕ) (image : List ℕ) (i : ℕ) (xs : List ℕ) : Type 0 where
-  pub in-all : length xs ≡ n
-  pub below : (k : ℕ) → k < i → getD xs k 0 ≡ getD image k 0
+    length-begun : length begun ≡ length words
+    length-begun =
+        same-len-mid 1 (1 + length start - 1) (set words 0 0) ys
+        (ap length c ∙ (let q : length start ≡ 1 + length start - 1 = omega arith in q) ∙ sym (mid-len 1 (1 + length start) (set words 0 0) start-inside))
+        ∙ length-set words 0 0
 
-module _ (n : ℕ) (image : List ℕ) where
-  pub filled-none : (xs : List ℕ) → length xs ≡ n → Filled n image 0 xs
-  filled-none xs e = record { in-all = e; below = below-none (λ k. getD xs k 0 ≡ getD image k 0) }
+    -- the part for the logs lies in the buffer
+    pub logs-inside : 1 + length start ≤ length begun
+    logs-inside = omega (arith, start-inside, length-set words 0 0, length-begun)
 
-  pub filled-more : (i : ℕ) (xs : List ℕ) (v : ℕ) → Filled n image i xs → i < n → v ≡ getD image i 0 → Filled n image (i + 1) (set xs i v)
-  filled-more i xs v d h e =
-      record {
-        in-all = length-set xs i v ∙ d .in-all;
-        below = below-more (λ k. getD (set xs i v) k 0 ≡ getD image k 0) i
-            (λ k l. getD-set-other xs i k v 0 (λ q. omega arith) ∙ d .below k l)
-            (getD-set-same xs i v 0 (rw (d .in-all) h) ∙ e);
-      }
+    take-begun : take (1 + length start) begun ≡ 0 ∷ start
+    take-begun =
+        let rest : List ℕ = drop (1 + length start - 1) (drop 1 (set words 0 0)) in
+        ap (take (1 + length start)) (sym (append-assoc (take 1 (set words 0 0)) ys rest) ∙ ap (λ (l : List ℕ). l ++ rest) front)
+        ∙ take-at (0 ∷ start) rest (1 + length start) (omega arith)
+      where
+        front : take 1 (set words 0 0) ++ ys ≡ 0 ∷ start
+        front = ap (λ (l : List ℕ). l ++ ys) (take-suc-set words 0 0 (omega (arith, start-inside, length-set words 0 0))) ∙ ap (λ (l : List ℕ). 0 ∷ l) c
 
-  pub filled-all : (i : ℕ) (xs : List ℕ) → Filled n image i xs → length image ≡ n → n ≤ i → xs ≡ image
-  filled-all i xs d e h = ext-getD 0 xs image (d .in-all ∙ sym e) (λ k l. d .below k (omega (arith, d .in-all)))
+    -- and the logs cleared
+    pub begun-cleared : (zs : List ℕ) → zs ≡ replicate (length (midOf (1 + length start) (length begun - (1 + length start)) begun)) 0
+        → putMid (1 + length start) (length begun - (1 + length start)) begun zs ≡ startImage z start
+    unfolding startImage
+    begun-cleared zs d =
+        put-last (1 + length start) begun zs logs-inside
+        ∙ ap (λ (l : List ℕ). l ++ zs) take-begun
+        ∙ ap (λ (l : List ℕ). 0 ∷ (start ++ l))
+        (d ∙ ap (λ (k : ℕ). replicate k 0)
+        (mid-len (1 + length start) (length begun) begun (omega arith) ∙ logs-left z (length start) (length begun) e (length-begun ∙ n)))

@@ -2,4 +2,5 @@ pub mod Machine
 pub mod Calls
 pub mod Interface
 pub mod StoreLaws
+pub mod WritesLaws
 pub mod FormatLaws

@@ -5,6 +5,7 @@ use mathlib.Core.Bool.{Bool, true, false, cond}
 use mathlib.Core.List.{List, [], _∷_}
 use native.Mathlib.Nat.{add-sub-cancel-left}
 use native.Mathlib.Omega.{arith}
+use native.Mathlib.Decide.{ℕ-discrete}
 use lib.ListN.{length, take, drop}
 use lib.Dec.{ltb}
 use lib.Seq.{getD-set-same, set-out}
@@ -16,12 +17,12 @@ use Rattle.image.specs.ImageLaws.{sizes-in, length-small, log-fits, length-log,
 use Rattle.image.specs.Flush.{drainedNvm, drainedFlags}
 use Rattle.image.specs.declared.Sizes.{Sizes}
 use Rattle.log.specs.Log.{latestIn}
-use Rattle.record.specs.Record.{noLane, laneAt, isLogged, spent, withLane, drainedLane}
+use Rattle.record.specs.Record.{noLane, laneAt, withLane, drainedLane}
 use Rattle.record.specs.declared.Lane.{Lane}
 use Rattle.record.specs.declared.Record.{Record}
 use Rattle.store.specs.declared.Answer.the-variants.{Refused}
 use Rattle.store.specs.Machine.{Machine, Step, Cause, firstCause, unless}
-use Rattle.store.specs.Calls.{badBuffers, badRecord, badLane, badTxn, notLogged, clockSpent, formatRefusal, writeBackRefusal, drainRefusal, drained}
+use Rattle.store.specs.Calls.{badBuffers, badRecord, badLane, badTxn, formatRefusal, writeBackRefusal, drainRefusal, drained}
 use Rattle.store.specs.Interface.{machineOf, Checked, drainedState}
 
 -- ---- the first cause
@@ -53,22 +54,6 @@ module _ (cs : List Cause) where
   pub passes-txn : (z : Sizes) (f : List ℕ) → txnOk 16 (z .words) f ≡ true → firstCause (badTxn z f ∷ cs) ≡ firstCause cs
   unfolding badTxn
   passes-txn z f e = first-fails _ cs (rw e)
-
-  pub refuses-idle : (L : ℕ) (m : Machine) → isLogged (laneAt (m .state) L .phase) ≡ false → firstCause (notLogged L m ∷ cs) ≡ 7
-  unfolding notLogged
-  refuses-idle L m e = first-holds _ cs (rw e)
-
-  pub passes-idle : (L : ℕ) (m : Machine) → isLogged (laneAt (m .state) L .phase) ≡ true → firstCause (notLogged L m ∷ cs) ≡ firstCause cs
-  unfolding notLogged
-  passes-idle L m e = first-fails _ cs (rw e)
-
-  pub refuses-spent : (m : Machine) → spent (m .state) ≡ true → firstCause (clockSpent m ∷ cs) ≡ 8
-  unfolding clockSpent
-  refuses-spent m e = first-holds _ cs e
-
-  pub passes-spent : (m : Machine) → spent (m .state) ≡ false → firstCause (clockSpent m ∷ cs) ≡ firstCause cs
-  unfolding clockSpent
-  passes-spent m e = first-fails _ cs e
 
 -- ---- the causes that every call on a lane has first: Drain's
 module _ (z : Sizes) (m : Machine) where
@@ -120,6 +105,11 @@ module _ (z : Sizes) (L : ℕ) (m : Machine) (cs : List Cause) where
 
   pub after-lane : drainRefusal z L m ≡ 0 → firstCause (badBuffers z m ∷ badRecord z m ∷ badLane z L ∷ cs) ≡ firstCause cs
   after-lane e = let h = lane-causes z m L e in first-fails _ _ (h .0) ∙ first-fails _ _ (h .1) ∙ first-fails _ _ (h .2)
+
+  -- where it is not refused, neither Drain's causes nor its own hold
+  pub lane-passed : firstCause (badBuffers z m ∷ badRecord z m ∷ badLane z L ∷ cs) ≡ 0 → (drainRefusal z L m ≡ 0) × (firstCause cs ≡ 0)
+  lane-passed h =
+      elim (ℕ-discrete (drainRefusal z L m) 0) [ yes e ↦ (e, sym (after-lane e) ∙ h) | no d ↦ absurd (d (sym (at-lane d) ∙ h)) ]
 
 -- ---- what Format and write-back know where they are not refused
 module _ (z : Sizes) (m : Machine) where

@@ -1,15 +1,17 @@
-// The calls' answers, and the calls that append and commit nothing: Format, write-back, Drain.
+// The calls' answers, the calls that append and commit nothing: Format, write-back, Drain, and what the other calls share.
 ghost use mathlib.Core.Path.{_≡_};
 ghost use mathlib.Core.Bool.{true};
 ghost use Prim.Native.Nat.{_<_};
-ghost use lib.ListN.{length, getD, replicate};
-ghost use Rattle.image.specs.Image.{sizesOk, imageLength};
+ghost use lib.ListN.{length, replicate};
+ghost use Rattle.txn.specs.Txn.{txnOk, run, writesOf};
+ghost use Rattle.image.specs.Image.{sizesOk, imageLength, dataOf};
 ghost use Rattle.log.specs.Log.{latestIn};
 ghost use Rattle.store.specs.Calls.{startImage, formatRefusal, formatStep, writeBackRefusal, writeBackStep, drainRefusal, drainStep};
 ghost use Rattle.store.specs.Interface.{machineOf, blankOf, stepOf, blankStepOf, drainedState};
 use image::Sizes;
 use log::Latest;
 use record::Record;
+use txn::Writes;
 
 // What Log answers where the transaction writes: the count of its writes and its timestamp.
 pub struct Appended {
@@ -72,33 +74,27 @@ pub fn format_refusal(sizes: Sizes, start: &[u64], cache: &[u64], nvm: &[u64], f
     0
 }
 
-// Word i of the image that Format leaves: a start word among the data words, 0 elsewhere.
-fn start_word(sizes: Sizes, start: &[u64], i: usize) -> u64
-    requires { ⌜ length (now start) ≡ sizes .words ⌝ }
-    ensures { λ r. ⌜ r ≡ getD (startImage sizes (now (start .entry))) i 0 ⌝ }
+// One image as Format leaves it: base timestamp 0, the start words, empty logs.
+fn fill_image(sizes: Sizes, start: &[u64], words: &mut [u64])
+    requires { ⌜ (length (now start) ≡ sizes .words) × (length (now words) ≡ imageLength sizes) ⌝ }
+    ensures { λ r. ⌜ now (words .exit) ≡ startImage sizes (now (start .entry)) ⌝ }
 {
-    if i < 1 {
-        return 0;
-    }
-    if sizes.words < i {
-        return 0;
-    }
-    start[i - 1]
+    let end = 1 + start.len();
+    words[0] = 0;
+    image::bulk::copy_words(start, &mut words[1..end]);
+    image::bulk::clear_words(&mut words[end..]);
 }
 
-// The start words in cache and non-volatile memory; base timestamp, logs and flags 0. One pass.
+// The start words in cache and non-volatile memory; base timestamp, logs and flags 0.
 fn fill(sizes: Sizes, start: &[u64], cache: &mut [u64], nvm: &mut [u64], flags: &mut [u8])
     requires { ⌜ (length (now start) ≡ sizes .words) × (length (now cache) ≡ imageLength sizes) × (length (now nvm) ≡ imageLength sizes) × (length (now flags) ≡ imageLength sizes) ⌝ }
     ensures cached { λ r. ⌜ now (cache .exit) ≡ startImage sizes (now (start .entry)) ⌝ }
     ensures persistent { λ r. ⌜ now (nvm .exit) ≡ startImage sizes (now (start .entry)) ⌝ }
     ensures unflushed { λ r. ⌜ now (flags .exit) ≡ replicate (imageLength sizes) 0 ⌝ }
 {
-    for i in 0..cache.len() {
-        let word = start_word(sizes, start, i);
-        cache[i] = word;
-        nvm[i] = word;
-        flags[i] = 0;
-    }
+    fill_image(sizes, start, cache);
+    fill_image(sizes, start, nvm);
+    image::bulk::clear_flags(flags);
 }
 
 // Starts the store with these words. It takes no record; beside a refusal the record is a blank one.
@@ -187,17 +183,22 @@ pub fn latest_in(sizes: Sizes, cache: &[u64], lane: usize) -> Latest
     log::search::latest(&cache[start..end], sizes.words, sizes.slots, cache[0])
 }
 
+// The writes of a transaction on the cached data words.
+pub fn writes_on(sizes: Sizes, cache: &[u64], txn: &[u64]) -> Writes
+    requires { ⌜ (sizesOk sizes ≡ true) × (length (now cache) ≡ imageLength sizes) × (txnOk 16 (sizes .words) (now txn) ≡ true) ⌝ }
+    ensures { λ r. ⌜ r ≡ writesOf 16 (run (sizes .words) (now (txn .entry)) (dataOf sizes (now (cache .entry)))) ⌝ }
+{
+    let end = 1 + sizes.words;
+    txn::run(txn, &cache[1..end])
+}
+
 // The record after the lane's drain: its floor is its latest sequence's timestamp.
 pub fn drained_state(sizes: Sizes, state: Record, cache: &[u64], lane: usize) -> Record
     requires { ⌜ (sizesOk sizes ≡ true) × (length (now cache) ≡ imageLength sizes) × (lane < sizes .lanes) ⌝ }
     ensures { λ r. ⌜ r ≡ drainedState sizes (now (cache .entry)) lane state ⌝ }
 {
     let latest = latest_in(sizes, cache, lane);
-    record::with_lane(
-        state,
-        lane,
-        record::drained_lane(latest, record::lane_of(state, lane)),
-    )
+    record::drained(state, lane, latest)
 }
 
 // Drains a lane: one pass over the flags, and one over the lane's log where its greatest timestamp is complete.

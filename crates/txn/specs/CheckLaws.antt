@@ -23,10 +23,6 @@ module _ (most W : ℕ) (f : List ℕ) (ok : txnOk most W f ≡ true) where
   unfolding txnOk
   counted = and-right (eqb (length f % 4) 0) _ ok
 
-  pub ok-whole : length f % 4 ≡ 0
-  unfolding txnOk
-  ok-whole = eqb-true (length f % 4) 0 (and-left _ _ ok)
-
   pub ok-some : 1 ≤ length f / 4
   ok-some = leb-true 1 (length f / 4) (and-left _ _ counted)
 
@@ -89,17 +85,13 @@ module _ (W : ℕ) (x : Instruction) where
       (or-cases (copyOk W x) _ h))
       (or-cases (setOk W x) _ h)
 
-some-low : (W : ℕ) (f : List ℕ) (n : ℕ) → 1 ≤ n → allOk W (instructionsFrom f 0 n) ≡ true → 1 ≤ W
-unfolding allOk instructionsFrom
-some-low W f zero h a = absurd (omega arith)
-some-low W f (suc n) h a =
-    let l = ok-low W (instructionAt f 0) (length (instructionsFrom f 1 n)) (and-left _ _ a) in
-    omega arith
-
--- a transaction that is ok needs a data word
-pub ok-words : (most W : ℕ) (f : List ℕ) → txnOk most W f ≡ true → 1 ≤ W
-unfolding instructions
-ok-words most W f ok = some-low W f (length f / 4) (ok-some most W f ok) (ok-all most W f ok)
+  -- a SKIP passes over none but those that follow it
+  pub ok-skip : (n : ℕ) → instructionOk W n x ≡ true → x .code ≡ 5 → x .k ≤ n
+  unfolding instructionOk setOk copyOk addOk pokeOk skipOk
+  ok-skip n h e =
+      let h₁ = and-right (eqb (x .a) 0) _ (rw e at h) in
+      let h₂ = and-right (leb 1 (x .k)) _ (and-right (ltb (x .b) W) _ h₁) in
+      leb-true (x .k) n (and-right (leb (x .k) 15) _ h₂)
 
 -- ---- one instruction's check, by its code
 module _ (W n code a b k : ℕ) where

@@ -1,169 +1,195 @@
--- Laws of a run in progress: a word's running value, one instruction by its code, and the loop over the instructions. Assumes nothing.
-use Prim.Native.Nat.{ℕ, suc, _+_, _-_, _*_, _/_, _%_, _^_, _≤_, _<_}
+-- Laws of a run in progress: before the first instruction, one instruction more, after the last one. Assumes nothing.
+use Prim.Native.Nat.{ℕ, zero, suc, _+_, _-_, _/_, _%_, _^_, _≤_, _<_}
 use mathlib.Core.Path.{_≡_, refl, sym, ap, _∙_}
-use mathlib.Core.Bool.{true, cond}
+use mathlib.Core.Bool.{true, cond, _&&_}
 use mathlib.Core.List.{List, [], _∷_, _++_, append-assoc, append-nil}
 use native.Mathlib.Omega.{arith}
-use native.Mathlib.Nat.{mod-lt}
+use native.Mathlib.Nat.{mod-lt, le-of-suc-le-suc}
 use lib.Dec.{eqb}
-use lib.ListN.{length, getD, take, replicate, length-append}
-use lib.Seq.{take-suc}
-use borrow.Author.Tests.{eq-eqb, ne-eqb, le-leb, lt-leb}
+use lib.ListN.{length, getD, set, replicate, length-append}
+use borrow.Author.Tests.{eq-eqb, ne-eqb, le-leb}
 use Rattle.laws.specs.Tests.{split, and-left, and-right}
-use Rattle.laws.specs.Lists.{getD-set}
 use Rattle.txn.specs.declared.Write.{Write}
-use Rattle.txn.specs.declared.Writes.{Writes}
-use Rattle.txn.specs.declared.Progress.{Progress}
-use Rattle.txn.specs.Txn.{Instruction, instructionAt, instructionsFrom, instructions, instructionOk, txnOk, target, result, emit, passed, applied, runFrom, run, noWrite, writesOf}
-use Rattle.txn.specs.CheckLaws.{ok-low, ok-all, from-next, all-next}
-use Rattle.txn.specs.TxnLaws.{length-applied, applied-append, length-emit}
-use Rattle.txn.specs.WritesLaws.{length-padded, padded-none, take-padded, set-padded}
-use Rattle.txn.specs.Progress.{soFar, running, pushed, joined, stepped, Room, Reached}
-
--- ---- a word's running value: that of the last write to it
-module _ (l : List Write) (ws : List ℕ) (word : ℕ) where
-  pub running-none : getD (applied (take 0 l) ws) word 0 ≡ getD ws word 0
-  unfolding applied
-  running-none = refl
-
-  last : (i : ℕ) → word < length ws → i < length l
-      → getD (applied (take (suc i) l) ws) word 0 ≡ cond (eqb (getD l i noWrite .word) word) (getD l i noWrite .new) (getD (applied (take i l) ws) word 0)
-  unfolding applied
-  last i h k =
-      let w = getD l i noWrite in
-      ap (λ r. getD (applied r ws) word 0) (take-suc l i noWrite k)
-      ∙ ap (λ r. getD r word 0) (applied-append (take i l) (w ∷ []) ws)
-      ∙ getD-set (applied (take i l) ws) (w .word) (w .new) word (omega (arith, length-applied (take i l) ws))
-
-  module _ (i : ℕ) (h : word < length ws) (k : i ≤ length l) (p : 0 < i) where
-    back : getD (applied (take i l) ws) word 0
-        ≡ cond (eqb (getD l (i - 1) noWrite .word) word) (getD l (i - 1) noWrite .new) (getD (applied (take (i - 1) l) ws) word 0)
-    back = let e : suc (i - 1) ≡ i = omega arith in rw e at (last (i - 1) h (omega arith))
-
-    pub running-found : getD l (i - 1) noWrite .word ≡ word → getD (applied (take i l) ws) word 0 ≡ getD l (i - 1) noWrite .new
-    running-found e = back ∙ rw (eq-eqb _ _ e)
-
-    pub running-other : (getD l (i - 1) noWrite .word ≡ word → ⊥) → getD (applied (take i l) ws) word 0 ≡ getD (applied (take (i - 1) l) ws) word 0
-    running-other e = back ∙ rw (ne-eqb _ _ e)
-
--- ---- one instruction, by its code
--- the word written is a data word
-pub written-low : (W code a x word : ℕ) → word ≡ cond (eqb code 4) (x % W) a → a < W → word < W
-written-low W code a x word t h = rw t (split (eqb code 4) (λ e. rw e (mod-lt x (omega arith))) (λ e. rw e h))
-
-module _ (p : Progress) (code a b k : ℕ) (ws : List ℕ) where
-  abbrev next : Progress
-  next = stepped p (record { code = code; a = a; b = b; k = k }) ws
-
-  -- it is passed over
-  pub step-over : 0 < p .passing → record { passing = p .passing - 1; writes = p .writes } ≡ next
-  unfolding stepped passed emit joined
-  step-over h = rw (le-leb 1 (p .passing) h)
-
-  module _ (now : p .passing ≤ 0) (x : ℕ) (h : x ≡ getD (running (p .writes) ws) b 0) where
-    pub step-skip : code ≡ 5 → x ≡ 0 → record { passing = k; writes = p .writes } ≡ next
-    unfolding stepped passed emit joined
-    step-skip e z = rw (lt-leb 1 (p .passing) (omega arith), eq-eqb code 5 e, eq-eqb (getD (running (p .writes) ws) b 0) 0 (sym h ∙ z))
-
-    pub step-stay : code ≡ 5 → (x ≡ 0 → ⊥) → record { passing = 0; writes = p .writes } ≡ next
-    unfolding stepped passed emit joined
-    step-stay e z = rw (lt-leb 1 (p .passing) (omega arith), eq-eqb code 5 e, ne-eqb (getD (running (p .writes) ws) b 0) 0 (λ q. z (h ∙ q)))
-
-    module _ (no : code ≡ 5 → ⊥) (word : ℕ) (t : word ≡ cond (eqb code 4) (x % length ws) a) where
-      word-is : word ≡ target (length ws) (record { code = code; a = a; b = b; k = k }) (running (p .writes) ws)
-      unfolding target
-      word-is = rw (← h) t
-
-      pub step-write : (old new : ℕ) (s : Writes) → old ≡ getD (running (p .writes) ws) word 0
-          → new ≡ cond (eqb code 2) x (cond (eqb code 3) ((x + k) % 2 ^ 64) k)
-          → s ≡ pushed (p .writes) (record { word = word; old = old; new = new })
-          → record { passing = 0; writes = s } ≡ next
-      unfolding stepped passed emit joined result
-      step-write old new s o v e = rw (lt-leb 1 (p .passing) (omega arith), ne-eqb code 5 no, e, o, v, ← word-is, h)
-
--- ---- the loop over the instructions
-soFar-of : (most : ℕ) (l : List Write) → length l ≤ most → soFar (writesOf most l) ≡ l
-unfolding soFar writesOf
-soFar-of most l h = take-padded most l h
-
-pushed-of : (most : ℕ) (l : List Write) (w : Write) → length l < most → pushed (writesOf most l) w ≡ writesOf most (l ++ (w ∷ []))
-unfolding pushed writesOf
-pushed-of most l w h = rw (set-padded most l w h, length-append l (w ∷ []))
-
-joined-of : (most : ℕ) (k l : List Write) → length k + length l ≤ most → joined (writesOf most k) l ≡ writesOf most (k ++ l)
-unfolding joined
-joined-of most k [] h = ap (writesOf most) (sym (append-nil k))
-joined-of most k (w ∷ l) h =
-    ap (λ s. joined s l) (pushed-of most k w (omega arith))
-    ∙ joined-of most (k ++ (w ∷ [])) l (omega (arith, length-append k (w ∷ [])))
-    ∙ ap (writesOf most) (append-assoc k (w ∷ []) l)
+use Rattle.txn.specs.Txn.{Instruction, instructionAt, instructionsFrom, instructions, instructionOk, allOk, txnOk, target, result, emit, passed, applied, runFrom, run, noWrite, writesOf}
+use Rattle.txn.specs.CheckLaws.{ok-few, ok-low, ok-skip, ok-all, from-next, all-next}
+use Rattle.txn.specs.TxnLaws.{applied-append}
+use Rattle.txn.specs.WritesLaws.{padded-none, set-padded}
+use Rattle.txn.specs.Lookup.{latest}
+use Rattle.txn.specs.LookupLaws.{seen-none, seen-more}
+use Rattle.txn.specs.Progress.{Reached}
 
 -- before the first instruction
 pub reached-none : (most : ℕ) (f ws : List ℕ) → txnOk most (length ws) f ≡ true
-    → Reached most f ws (length f / 4) 0 (record { passing = 0; writes = record { count = 0; list = replicate most noWrite } })
-unfolding writesOf run instructions applied
+    → Reached most f ws (length f / 4) 0 (replicate most noWrite) (replicate most 0) (replicate most 0) (replicate 64 0) 0
+unfolding run instructions applied
 reached-none most f ws ok =
     let z : length f / 4 - 0 ≡ length f / 4 = omega arith in
     record {
       done = [];
-      writes = rw (padded-none most);
+      counted = refl;
+      listed = padded-none most;
+      seen = seen-none most ws;
       few = omega arith;
+      fits = ok-few most (length ws) f ok;
       ok = rw z (ok-all most (length ws) f ok);
       rest = rw z;
     }
 
-module _ (most : ℕ) (f ws : List ℕ) (n i : ℕ) (p : Progress) (h : Reached most f ws n i p) where
-  -- after the last one
-  pub reached-all : n ≤ i → p .writes ≡ writesOf most (run (length ws) f ws)
-  unfolding instructionsFrom runFrom
-  reached-all l =
-      let z : n - i ≡ 0 = omega arith in
-      h .writes ∙ ap (writesOf most) (sym (append-nil (h .done)) ∙ sym (rw z at (h .rest)))
+-- passing over k instructions
+module _ (W : ℕ) (f : List ℕ) where
+  run-over : (k i m : ℕ) (ws : List ℕ) → k ≤ m → runFrom W k (instructionsFrom f i m) ws ≡ runFrom W 0 (instructionsFrom f (i + k) (m - k)) ws
+  unfolding runFrom instructionsFrom emit passed applied
+  run-over zero i m ws h = let e : i + 0 ≡ i = omega arith in let z : m - 0 ≡ m = omega arith in rw (e, z)
+  run-over (suc k) i zero ws h = absurd (omega arith)
+  run-over (suc k) i (suc m) ws h =
+      let e : i + suc k ≡ suc i + k = omega arith in
+      let z : suc m - suc k ≡ m - k = omega arith in
+      let p : suc k - 1 ≡ k = omega arith in
+      rw (le-leb 1 (suc k) (omega arith), p, e, z) (run-over k (suc i) m ws (le-of-suc-le-suc h))
 
-  module _ (l : i < n) (m : n ≤ most) where
-    -- room for one more
-    pub reached-room : Room most (p .writes)
-    unfolding writesOf
-    reached-room = rw (h .writes) (record { room = omega arith; whole = length-padded most (h .done) })
+  all-over : (k i m : ℕ) → k ≤ m → allOk W (instructionsFrom f i m) ≡ true → allOk W (instructionsFrom f (i + k) (m - k)) ≡ true
+  unfolding instructionsFrom allOk
+  all-over zero i m h a = let e : i + 0 ≡ i = omega arith in let z : m - 0 ≡ m = omega arith in rw (e, z) a
+  all-over (suc k) i zero h a = absurd (omega arith)
+  all-over (suc k) i (suc m) h a =
+      let e : i + suc k ≡ suc i + k = omega arith in
+      let z : suc m - suc k ≡ m - k = omega arith in
+      rw (e, z) (all-over k (suc i) m (le-of-suc-le-suc h) (and-right (instructionOk W (length (instructionsFrom f (suc i) m)) (instructionAt f i)) _ a))
 
-    -- a and b of the next instruction are words' numbers
-    pub reached-low : (getD f (4 * i + 1) 0 < length ws) × (getD f (4 * i + 2) 0 < length ws)
-    unfolding instructionAt
-    reached-low = ok-low (length ws) (instructionAt f i) (n - i - 1) (and-left _ _ (sym (all-next (length ws) f n i l) ∙ h .ok))
+module _ {most : ℕ} {f ws : List ℕ} {n i : ℕ} {list : List Write} {words news last : List ℕ} {count : ℕ}
+    (h : Reached most f ws n i list words news last count)
+  where
+    -- after the last one
+    pub reached-all : n ≤ i → record { count = count; list = list } ≡ writesOf most (run (length ws) f ws)
+    unfolding instructionsFrom runFrom writesOf
+    reached-all l =
+        let z : n - i ≡ 0 = omega arith in
+        rw (h .counted, h .listed) (ap (writesOf most) (sym (append-nil (h .done)) ∙ sym (rw z at (h .rest))))
 
-    now : running (p .writes) ws ≡ applied (h .done) ws
-    unfolding running
-    now = ap (λ s. applied s ws) (ap soFar (h .writes) ∙ soFar-of most (h .done) (omega arith))
+    module _ (l : i < n) where
+      -- the next instruction, those after it, and the data words as it sees them
+      abbrev next : Instruction
+      next = instructionAt f i
 
-    -- the next instruction's write, and the instructions after it
-    abbrev fresh : List Write
-    fresh = emit (length ws) (p .passing) (instructionAt f i) (applied (h .done) ws)
+      abbrev later : List Instruction
+      later = instructionsFrom f (i + 1) (n - (i + 1))
 
-    abbrev later : List Instruction
-    later = instructionsFrom f (i + 1) (n - (i + 1))
+      abbrev running : List ℕ
+      running = applied (h .done) ws
 
-    one : length fresh ≤ 1
-    one = length-emit (length ws) (p .passing) (instructionAt f i) (applied (h .done) ws)
+      all-ok : (instructionOk (length ws) (n - i - 1) next && allOk (length ws) later) ≡ true
+      all-ok = sym (all-next (length ws) f n i l) ∙ h .ok
 
-    wrote : stepped p (instructionAt f i) ws .writes ≡ writesOf most (h .done ++ fresh)
-    unfolding stepped
-    wrote =
-        rw (now, h .writes) (joined-of most (h .done) fresh (omega (arith, one)))
+      later-ok : allOk (length ws) later ≡ true
+      later-ok = and-right (instructionOk (length ws) (n - i - 1) next) _ all-ok
 
-    left : run (length ws) f ws ≡ (h .done ++ fresh) ++ runFrom (length ws) (stepped p (instructionAt f i) ws .passing) later (applied (h .done ++ fresh) ws)
-    unfolding stepped runFrom
-    left =
-        rw (now, applied-append (h .done) fresh ws, append-assoc (h .done) fresh)
-        (h .rest ∙ ap (λ xs. h .done ++ runFrom (length ws) (p .passing) xs (applied (h .done) ws)) (from-next f n i l))
+      low : (next .a < length ws) × (next .b < length ws)
+      low = ok-low (length ws) next (n - i - 1) (and-left _ _ all-ok)
 
-    -- one instruction more
-    pub reached-more : (q : Progress) → q ≡ stepped p (instructionAt f i) ws → Reached most f ws n (i + 1) q
-    reached-more q e =
-        rw e
-        (record {
-          done = h .done ++ fresh;
-          writes = wrote;
-          few = omega (arith, one, length-append (h .done) fresh);
-          ok = and-right (instructionOk (length ws) (n - i - 1) (instructionAt f i)) _ (sym (all-next (length ws) f n i l) ∙ h .ok);
-          rest = left;
-        })
+      within : (w : ℕ) → getD last (w % 64) 0 ≤ most
+      within w = omega (arith, h .seen .within w, h .few, h .fits)
+
+      -- its word b can be looked up
+      pub reached-b : (getD last (next .b % 64) 0 ≤ most) × (next .b < length ws)
+      reached-b = (within (next .b), low .1)
+
+      left : run (length ws) f ws
+          ≡ h .done ++ (emit (length ws) 0 next running
+          ++ runFrom (length ws) (passed 0 next running) later (applied (emit (length ws) 0 next running) running))
+      unfolding runFrom
+      left = h .rest ∙ ap (λ xs. h .done ++ runFrom (length ws) 0 xs running) (from-next f n i l)
+
+      -- x is the value of word b
+      module _ (x : ℕ) (v : x ≡ latest words news (getD last (next .b % 64) 0) ws (next .b)) where
+        x-is : getD running (next .b) 0 ≡ x
+        x-is = sym (v ∙ h .seen .by-bucket (next .b) (low .1))
+
+        module _ (yes : next .code ≡ 5) (d : ℕ) (e : d ≡ cond (eqb x 0) (next .k) 0) where
+          few-over : d ≤ n - (i + 1)
+          few-over = rw e (split (eqb x 0) (λ z. rw z (omega (arith, ok-skip (length ws) next (n - i - 1) (and-left _ _ all-ok) yes))) (λ z. rw z (omega arith)))
+
+          emitted-none : emit (length ws) 0 next running ≡ []
+          unfolding emit
+          emitted-none = rw (eq-eqb (next .code) 5 yes)
+
+          passes : passed 0 next running ≡ d
+          unfolding passed
+          passes = rw (eq-eqb (next .code) 5 yes, x-is) (sym e)
+
+          rest-over : run (length ws) f ws ≡ h .done ++ runFrom (length ws) d later running
+          unfolding applied
+          rest-over = rw (emitted-none, passes) at left
+
+          -- it is a SKIP that passes over d instructions
+          pub reached-skip : (i + 1 + d ≤ n) × Reached most f ws n (i + 1 + d) list words news last count
+          reached-skip =
+              let z : n - (i + 1 + d) ≡ n - (i + 1) - d = omega arith in
+              let s = few-over in (
+                omega arith,
+                record {
+                  done = h .done;
+                  counted = h .counted;
+                  listed = h .listed;
+                  seen = h .seen;
+                  few = omega (arith, h .few);
+                  fits = h .fits;
+                  ok = rw z (all-over (length ws) f d (i + 1) (n - (i + 1)) s later-ok);
+                  rest = rw z (rest-over ∙ ap (λ r. h .done ++ r) (run-over (length ws) f d (i + 1) (n - (i + 1)) running s));
+                },
+              )
+
+        module _ (no : next .code ≡ 5 → ⊥) (word : ℕ) (t : word ≡ cond (eqb (next .code) 4) (x % length ws) (next .a)) where
+          word-low : word < length ws
+          word-low = rw t (split (eqb (next .code) 4) (λ e. rw e (mod-lt x (omega (arith, low)))) (λ e. rw e (low .0)))
+
+          -- the word that it writes can be looked up
+          pub reached-target : (getD last (word % 64) 0 ≤ most) × (word < length ws)
+          reached-target = (within word, word-low)
+
+          module _ (old new : ℕ) (o : old ≡ latest words news (getD last (word % 64) 0) ws word)
+              (r : new ≡ cond (eqb (next .code) 2) x (cond (eqb (next .code) 3) ((x + next .k) % 2 ^ 64) (next .k)))
+            where
+              abbrev write : Write
+              write = record { word = word; old = old; new = new }
+
+              word-is : target (length ws) next running ≡ word
+              unfolding target
+              word-is = rw x-is (sym t)
+
+              old-is : getD running word 0 ≡ old
+              old-is = sym (o ∙ h .seen .by-bucket word word-low)
+
+              new-is : result next running ≡ new
+              unfolding result
+              new-is = rw x-is (sym r)
+
+              emitted : emit (length ws) 0 next running ≡ write ∷ []
+              unfolding emit
+              emitted = rw (ne-eqb (next .code) 5 no, word-is, old-is, new-is)
+
+              goes-on : passed 0 next running ≡ 0
+              unfolding passed
+              goes-on = rw (ne-eqb (next .code) 5 no)
+
+              stored : applied (h .done ++ (write ∷ [])) ws ≡ set running word new
+              unfolding applied
+              stored = applied-append (h .done) (write ∷ []) ws
+
+              rest-written : run (length ws) f ws ≡ (h .done ++ (write ∷ [])) ++ runFrom (length ws) 0 later (applied (h .done ++ (write ∷ [])) ws)
+              unfolding applied
+              rest-written = rw (stored, append-assoc (h .done) (write ∷ [])) (rw (emitted, goes-on) at left)
+
+              -- it writes
+              pub reached-write : Reached most f ws n (i + 1) (set list count write)
+                  (set words count word) (set news count new) (set last (word % 64) (count + 1)) (count + 1)
+              reached-write =
+                  record {
+                    done = h .done ++ (write ∷ []);
+                    counted = omega (arith, h .counted, length-append (h .done) (write ∷ []));
+                    listed = rw (h .listed, h .counted) (set-padded most (h .done) write (omega (arith, h .few, h .fits, h .counted)));
+                    seen = rw stored (seen-more most ws count words news last running (h .seen) word new (omega (arith, h .few, h .fits)));
+                    few = omega (arith, h .few);
+                    fits = h .fits;
+                    ok = later-ok;
+                    rest = rest-written;
+                  }

@@ -1,6 +1,6 @@
 -- Laws of a transaction's run: at most one write an instruction, every write to a word below W, each old value the running one, and the old
 -- values stored in reverse order restore the words. Assumes nothing.
-use Prim.Native.Nat.{ℕ, zero, suc, _+_, _-_, _*_, _/_, _^_, _≤_, _<_}
+use Prim.Native.Nat.{ℕ, _/_, _≤_, _<_}
 use mathlib.Core.Path.{_≡_, refl, ap, _∙_}
 use mathlib.Core.Bool.{true, _||_}
 use mathlib.Core.List.{List, [], _∷_, _++_}
@@ -12,7 +12,7 @@ use lib.Seq.{set-set, set-getD}
 use Rattle.laws.specs.Tests.{split, and-left, and-right}
 use Rattle.laws.specs.Lists.{All, none, more, All-append}
 use Rattle.txn.specs.declared.Write.{Write}
-use Rattle.txn.specs.Txn.{Instruction, instructionAt, instructionsFrom, instructions, instructionOk, allOk, txnOk, target, result, emit, passed, applied, runFrom, run, after}
+use Rattle.txn.specs.Txn.{Instruction, instructionsFrom, instructions, instructionOk, allOk, txnOk, target, emit, passed, applied, runFrom, run, after}
 use Rattle.txn.specs.CheckLaws.{length-from, ok-few, ok-all, ok-low}
 
 -- ---- the words after a list of writes
@@ -25,10 +25,6 @@ pub applied-append : (k l : List Write) (ws : List ℕ) → applied (k ++ l) ws 
 unfolding applied
 applied-append [] l ws = refl
 applied-append (w ∷ k) l ws = applied-append k l (set ws (w .word) (w .new))
-
-pub length-after : (W : ℕ) (f ws : List ℕ) → length (after W f ws) ≡ length ws
-unfolding after
-length-after W f ws = length-applied (run W f ws) ws
 
 -- ---- how many writes
 pub length-emit : (W n : ℕ) (x : Instruction) (ws : List ℕ) → length (emit W n x ws) ≤ 1
@@ -108,57 +104,3 @@ undone-chain (chain-cons {ws = ws} {w = w} e c) =
 pub undone-after : (W : ℕ) (f ws : List ℕ) → undone (run W f ws) (after W f ws) ≡ ws
 unfolding after
 undone-after W f ws = undone-chain (run-chain W f ws)
-
--- ---- the values fit 64 bits, if those of the data and of the transaction do
-abbrev pub Fits : ℕ → Type 0
-Fits v = v < 2 ^ 64
-
-abbrev pub WriteFits : Write → Type 0
-WriteFits w = Fits (w .old) × Fits (w .new)
-
-getD-fits : {l : List ℕ} (i : ℕ) → All Fits l → Fits (getD l i 0)
-getD-fits i none = omega arith
-getD-fits zero (more p h) = p
-getD-fits (suc i) (more p h) = getD-fits i h
-
-set-fits : {l : List ℕ} (i v : ℕ) → Fits v → All Fits l → All Fits (set l i v)
-set-fits i v q none = none
-set-fits zero v q (more p h) = more q h
-set-fits (suc i) v q (more p h) = more p (set-fits i v q h)
-
-pub applied-fits : {l : List Write} (ws : List ℕ) → All WriteFits l → All Fits ws → All Fits (applied l ws)
-unfolding applied
-applied-fits ws none h = h
-applied-fits ws (more {x = w} p r) h = applied-fits (set ws (w .word) (w .new)) r (set-fits (w .word) (w .new) (p .1) h)
-
-result-fits : (x : Instruction) (ws : List ℕ) → Fits (x .k) → All Fits ws → Fits (result x ws)
-unfolding result
-result-fits x ws k h =
-    split (eqb (x .code) 2) (λ e. rw e (getD-fits (x .b) h))
-    (λ e. split (eqb (x .code) 3) (λ d. rw (e, d) (mod-lt (getD ws (x .b) 0 + x .k) (omega arith))) (λ d. rw (e, d) k))
-
-emit-fits : (W n : ℕ) (x : Instruction) (ws : List ℕ) → Fits (x .k) → All Fits ws → All WriteFits (emit W n x ws)
-unfolding emit
-emit-fits W n x ws k h =
-    split (leb 1 n || eqb (x .code) 5) (λ e. rw e none)
-    (λ e. rw e (more (getD-fits (target W x ws) h, result-fits x ws k h) none))
-
-pub runFrom-fits : (W n : ℕ) {xs : List Instruction} (ws : List ℕ) → All (λ x. Fits (x .k)) xs → All Fits ws → All WriteFits (runFrom W n xs ws)
-unfolding runFrom
-runFrom-fits W n ws none h = none
-runFrom-fits W n ws (more {x = x} k ks) h =
-    let e = emit-fits W n x ws k h in
-    All-append e (runFrom-fits W (passed n x ws) (applied (emit W n x ws) ws) ks (applied-fits ws e h))
-
-from-fits : {f : List ℕ} (i n : ℕ) → All Fits f → All (λ x. Fits (x .k)) (instructionsFrom f i n)
-unfolding instructionsFrom instructionAt
-from-fits i zero h = none
-from-fits i (suc n) h = more (getD-fits (4 * i + 3) h) (from-fits (suc i) n h)
-
-pub run-fits : (W : ℕ) (f ws : List ℕ) → All Fits f → All Fits ws → All WriteFits (run W f ws)
-unfolding run instructions
-run-fits W f ws k h = runFrom-fits W 0 ws (from-fits 0 (length f / 4) k) h
-
-pub after-fits : (W : ℕ) (f ws : List ℕ) → All Fits f → All Fits ws → All Fits (after W f ws)
-unfolding after
-after-fits W f ws k h = applied-fits ws (run-fits W f ws k h) h

@@ -1,5 +1,5 @@
 -- Laws of a run's writes as the code hands them on: a list of `most` that begins with them. Assumes nothing.
-use Prim.Native.Nat.{ℕ, zero, suc, _+_, _≤_, _<_}
+use Prim.Native.Nat.{ℕ, zero, suc, _≤_, _<_}
 use mathlib.Core.Path.{_≡_, refl, ap}
 use mathlib.Core.Bool.{true}
 use mathlib.Core.List.{List, [], _∷_, _++_}
@@ -9,7 +9,7 @@ use lib.ListN.{length, getD, set, take, replicate}
 use Rattle.laws.specs.Lists.{All, none, more}
 use Rattle.txn.specs.declared.Write.{Write}
 use Rattle.txn.specs.Txn.{txnOk, run, noWrite, padded, writesOf}
-use Rattle.txn.specs.TxnLaws.{few-writes, run-low}
+use Rattle.txn.specs.TxnLaws.{few-writes}
 
 pub length-padded : (n : ℕ) (l : List Write) → length (padded n l) ≡ n
 unfolding padded
@@ -21,15 +21,6 @@ pub padded-none : (n : ℕ) → replicate n noWrite ≡ padded n []
 unfolding padded
 padded-none zero = refl
 padded-none (suc n) = ap {B = List Write} (λ r. noWrite ∷ r) (padded-none n)
-
--- what stands at i, past the writes too
-pub getD-padded : (n : ℕ) (l : List Write) (i : ℕ) → i < n → getD (padded n l) i noWrite ≡ getD l i noWrite
-unfolding padded
-getD-padded zero l i h = absurd (omega arith)
-getD-padded (suc n) [] zero h = refl
-getD-padded (suc n) [] (suc i) h = getD-padded n [] i (le-of-suc-le-suc h)
-getD-padded (suc n) (w ∷ l) zero h = refl
-getD-padded (suc n) (w ∷ l) (suc i) h = getD-padded n l i (le-of-suc-le-suc h)
 
 -- the first `count` of the list are the writes
 pub take-padded : (n : ℕ) (l : List Write) → length l ≤ n → take (length l) (padded n l) ≡ l
@@ -51,15 +42,8 @@ All-getD i none h = absurd (omega arith)
 All-getD zero (more p a) h = p
 All-getD (suc i) (more p a) h = All-getD i a (le-of-suc-le-suc h)
 
-pub All-padded : {P : Write → Type 0} {l : List Write} (n i : ℕ) → All P l → length l ≤ n → i < length l → P (getD (padded n l) i noWrite)
-All-padded {l = l} n i a k h = rw (getD-padded n l i (omega arith)) (All-getD i a h)
-
 -- the writes of a transaction that is ok, as the code hands them on
 module _ (most W : ℕ) (f ws : List ℕ) (ok : txnOk most W f ≡ true) where
   pub count-few : writesOf most (run W f ws) .count ≤ most
   unfolding writesOf
   count-few = few-writes most W f ws ok
-
-  pub word-low : (i : ℕ) → i < writesOf most (run W f ws) .count → getD (writesOf most (run W f ws) .list) i noWrite .word < W
-  unfolding writesOf
-  word-low i h = All-padded {P = λ w. w .word < W} most i (run-low most W f ws ok) (few-writes most W f ws ok) h

@@ -1,14 +1,17 @@
 // One transaction (01: frame): its static check, and its run on data words that stay as they are.
 ghost use mathlib.Core.Path.{_≡_};
 ghost use mathlib.Core.Bool.{true, cond, _&&_};
-ghost use Prim.Native.Nat.{_+_, _%_, _^_, _<_};
+ghost use Prim.Native.Nat.{_+_, _%_, _^_, _≤_, _<_};
 ghost use lib.Dec.{eqb, leb};
 ghost use lib.ListN.{getD, length};
 ghost use Rattle.txn.specs.Txn.{instructionOk, txnOk, run, writesOf};
-ghost use Rattle.txn.specs.Progress.{running, pushed, stepped, Room};
+ghost use Rattle.txn.specs.Lookup.{latest};
 
 // The greatest number of instructions.
 pub const MOST: usize = 16;
+
+// How many buckets of words there are: a word's is its number modulo this.
+const BUCKETS: usize = 64;
 
 // One write of a run: a word's number, its value before the write and after it.
 pub struct Write {
@@ -21,12 +24,6 @@ pub struct Write {
 pub struct Writes {
     pub count: usize,
     pub list: [Write; MOST],
-}
-
-// A run so far: its writes, and how many instructions are still to be passed over.
-struct Progress {
-    passing: u64,
-    writes: Writes,
 }
 
 // Is SKIP's distance k in range, where `after` instructions follow it?
@@ -86,32 +83,26 @@ pub fn txn_ok(txn: &[u64], words: usize) -> bool
     true
 }
 
-// The value of a word after the writes so far: the last write to it, or the data's.
-fn running(writes: Writes, memory: &[u64], word: usize) -> u64
-    requires { ⌜ Room 16 writes × (word < length (now memory)) ⌝ }
-    ensures { λ r. ⌜ r ≡ getD (running writes (now (memory .entry))) word 0 ⌝ }
+// The value of a word after the writes so far: that of the last write to it, or the data's. It looks back over the words written, from the
+// last write to the word's bucket on.
+fn value(
+    words: &[usize; MOST],
+    news: &[u64; MOST],
+    last: &[u8; BUCKETS],
+    memory: &[u64],
+    word: usize,
+) -> u64
+    requires { ⌜ (getD (now last) (word % 64) 0 ≤ 16) × (word < length (now memory)) ⌝ }
+    ensures { λ r. ⌜ r ≡ latest (now (words .entry)) (now (news .entry)) (getD (now (last .entry)) (word % 64) 0) (now (memory .entry)) word ⌝ }
 {
-    let mut i = writes.count;
+    let mut i = last[word % BUCKETS] as usize;
     while 0 < i {
         i -= 1;
-        let write = writes.list[i];
-        if write.word == word {
-            return write.new;
+        if words[i] == word {
+            return news[i];
         }
     }
     memory[word]
-}
-
-// One write more.
-fn push(writes: Writes, word: usize, old: u64, new: u64) -> Writes
-    requires { ⌜ Room 16 writes ⌝ }
-    ensures { λ r. ⌜ r ≡ pushed writes (record { word = word; old = old; new = new }) ⌝ }
-{
-    let mut longer = writes;
-    let at = writes.count;
-    longer.list[at] = Write { word, old, new };
-    longer.count = at + 1;
-    longer
 }
 
 // The word that an instruction other than SKIP writes, where x is the value of word b.
@@ -138,36 +129,18 @@ fn result(code: u64, x: u64, k: u64) -> u64
     k
 }
 
-// One instruction more.
-fn step(progress: Progress, code: u64, a: u64, b: u64, k: u64, memory: &[u64]) -> Progress
-    requires { ⌜ Room 16 (progress .writes) × (a < length (now memory)) × (b < length (now memory)) ⌝ }
-    ensures { λ r. ⌜ r ≡ stepped progress (record { code = code; a = a; b = b; k = k }) (now (memory .entry)) ⌝ }
+// How many instructions SKIP passes over, where x is the value of word b.
+fn distance(x: u64, k: u64) -> u64
+    ensures { λ r. ⌜ r ≡ cond (eqb x 0) k 0 ⌝ }
 {
-    let writes = progress.writes;
-    if 0 < progress.passing {
-        return Progress {
-            passing: progress.passing - 1,
-            writes,
-        };
+    if x == 0 {
+        return k;
     }
-    let x = running(writes, memory, b as usize);
-    if code == 5 {
-        if x == 0 {
-            return Progress { passing: k, writes };
-        }
-        return Progress { passing: 0, writes };
-    }
-    let word = target(code, a, x, memory.len());
-    let old = running(writes, memory, word);
-    let longer = push(writes, word, old, result(code, x, k));
-    Progress {
-        passing: 0,
-        writes: longer,
-    }
+    0
 }
 
-// The writes of a transaction, each instruction seeing those before it; the data stay as they are. To read a word it looks back over the
-// writes so far, at most 15.
+// The writes of a transaction, each instruction seeing those before it; the data stay as they are. A word is looked up at once, unless the
+// transaction writes several words of its bucket.
 pub fn run(txn: &[u64], memory: &[u64]) -> Writes
     requires { ⌜ txnOk 16 (length (now memory)) (now txn) ≡ true ⌝ }
     ensures { λ r. ⌜ r ≡ writesOf 16 (run (length (now (memory .entry))) (now (txn .entry)) (now (memory .entry))) ⌝ }
@@ -177,23 +150,32 @@ pub fn run(txn: &[u64], memory: &[u64]) -> Writes
         old: 0,
         new: 0,
     };
-    let mut progress = Progress {
-        passing: 0,
-        writes: Writes {
-            count: 0,
-            list: [none; MOST],
-        },
-    };
-    for i in 0..txn.len() / 4 {
+    let mut list = [none; MOST];
+    // the words and the new values once more, to be lent, and for each bucket the number of writes up to the last one to it, or 0
+    let mut words = [0usize; MOST];
+    let mut news = [0u64; MOST];
+    let mut last = [0u8; BUCKETS];
+    let mut count = 0;
+    let end = txn.len() / 4;
+    let mut i = 0;
+    while i < end {
         let at = 4 * i;
-        progress = step(
-            progress,
-            txn[at],
-            txn[at + 1],
-            txn[at + 2],
-            txn[at + 3],
-            memory,
-        );
+        i += 1;
+        let code = txn[at];
+        let k = txn[at + 3];
+        let x = value(&words, &news, &last, memory, txn[at + 2] as usize);
+        if code == 5 {
+            i += distance(x, k) as usize;
+            continue;
+        }
+        let word = target(code, txn[at + 1], x, memory.len());
+        let old = value(&words, &news, &last, memory, word);
+        let new = result(code, x, k);
+        list[count] = Write { word, old, new };
+        words[count] = word;
+        news[count] = new;
+        count += 1;
+        last[word % BUCKETS] = count as u8;
     }
-    progress.writes
+    Writes { count, list }
 }

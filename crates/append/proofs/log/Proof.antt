@@ -1,12 +1,11 @@
 -- `append::log` meets its contract: a refused call is the step refused; otherwise, as the plan says, the drained machine or the one appended to.
 -- Assumes nothing.
 use mathlib.Core.Path.{sym, _∙_}
-use native.Mathlib.Omega.{arith}
 use borrow.Author.Needs.{needs}
 use Rattle.record.proofs.Lengths.{lanes-eight}
 use Rattle.store.specs.Calls.{logStep}
 use Rattle.store.specs.StoreLaws.{step-refused}
-use Rattle.append.specs.AppendLaws.{count-of, log-known, log-clock, appendable, log-empty, log-writes}
+use Rattle.append.specs.AppendLaws.{log-known, log-clock, ready, log-empty, log-writes}
 use Rattle.append.proofs.log.Statement.{statement}
 use Rattle.append.proofs.log.Tie as tie
 
@@ -27,15 +26,21 @@ same-length-3 c = search needs
 
 returns : tie.Need-returns
 unfolding logStep
-returns c =
-    let p = c .before .before .before .before in
-    rw (c .refused .ensures) (step-refused _ _ _ _ (p .plan-log .ensures .number) (c .before .if1 .taken))
+returns c = rw (c .refused .ensures) (step-refused _ _ _ _ (c .before .before .before .plan-log .ensures .number) (c .before .if1 .taken))
 
 drain-requires : tie.Need-drain-requires
 drain-requires c κs =
     let e = c .before .before .before in
-    let k = log-known _ _ _ _ _ _ _ _ (e .before .before .before .plan-log .ensures) (e .if1 .left) in
+    let p = e .before .before in
+    let k = log-known _ _ _ _ _ _ _ _ (p .plan-log .ensures) (e .if1 .left) in
     (k .small, k .checked .in-nvm ∙ sym (k .checked .in-cache), k .checked .in-flags ∙ sym (k .checked .in-cache))
+
+drained-requires : tie.Need-drained-requires
+drained-requires c κs =
+    let d = c .before .before .before .before .before .before in
+    let e = d .before .before .before .before in
+    let p = e .before .before in
+    log-known _ _ _ _ _ _ _ _ (p .plan-log .ensures) (e .if1 .left) .small
 
 same-length-4 : tie.Need-same-length-4
 same-length-4 c = search needs
@@ -48,40 +53,20 @@ same-length-6 c = search needs
 
 returns-2 : tie.Need-returns-2
 returns-2 c =
-    let d = c .before .before .before .before .before in
-    let e = d .before .before .before .before in
-    log-empty _ _ _ _ _ _ _ _ _ (d .drain .ensures .0) (d .drain .ensures .1) (e .if1 .left) _ (e .before .before .before .plan-log .ensures) (c .if2 .taken)
-
-add-stamp : tie.Need-add-stamp
-add-stamp c =
     let o = c .before in
-    let d = o .before .before .before .before .before in
+    let d = o .before .before .before .before .before .before in
     let e = d .before .before .before .before in
-    omega (arith, log-clock _ _ _ _ _ _ _ _ (e .before .before .before .plan-log .ensures) (e .if1 .left) (o .if2 .left))
+    let p = e .before .before in
+    log-empty _ _ _ _ _ _ _ _ _ (d .drain .ensures .0) (d .drain .ensures .1) (e .if1 .left) _ (p .plan-log .ensures) _ (c .drained .ensures) (o .if2 .taken)
 
-lane-of-requires : tie.Need-lane-of-requires
-lane-of-requires c κs =
-    let d = c .before .before .before .before .before .before in
+log-writes-requires : tie.Need-log-writes-requires
+log-writes-requires c κs =
+    let o = c .before .before in
+    let d = o .before .before .before .before .before .before in
     let e = d .before .before .before .before in
-    log-known _ _ _ _ _ _ _ _ (e .before .before .before .plan-log .ensures) (e .if1 .left) .small
-
-pairs-of-requires : tie.Need-pairs-of-requires
-pairs-of-requires c κs =
-    let o = c .before .before .before .before in
-    let d = o .before .before .before .before .before in
-    let e = d .before .before .before .before in
-    let k = log-known _ _ _ _ _ _ _ _ (e .before .before .before .plan-log .ensures) (e .if1 .left) in
-    omega (arith, count-of _ _ (k .writes), k .few)
-
-appended-requires : tie.Need-appended-requires
-appended-requires c κs =
-    let o = c .before .before .before .before .before in
-    let d = o .before .before .before .before .before in
-    let e = d .before .before .before .before in
-    let p = e .before .before .before in
+    let p = e .before .before in
     let s = p .before .before .before .before .before .before .before .before in
-    let h = p .plan-log .ensures in
-    appendable _ _ _ _ _ _ _ _ (log-known _ _ _ _ _ _ _ _ h (e .if1 .left)) (lanes-eight (s .args .state) (s .good .1 .0)) (log-clock _ _ _ _ _ _ _ _ h (e .if1 .left) (o .if2 .left)) _ (d .drain .ensures .1)
+    ready _ _ _ _ _ _ _ _ (log-known _ _ _ _ _ _ _ _ (p .plan-log .ensures) (e .if1 .left)) (lanes-eight (s .args .state) (s .good .1 .0)) (log-clock _ _ _ _ _ _ _ _ (p .plan-log .ensures) (e .if1 .left) (o .if2 .left)) _ (d .drain .ensures .1)
 
 same-length-7 : tie.Need-same-length-7
 same-length-7 c = search needs
@@ -95,12 +80,11 @@ same-length-9 c = search needs
 returns-3 : tie.Need-returns-3
 returns-3 c =
     let a = c .before .before .before .before in
-    let q = a .before in
-    let l = q .before .before .before in
-    let o = l .before .before in
-    let d = o .before .before .before .before .before in
+    let o = a .before .before .before in
+    let d = o .before .before .before .before .before .before in
     let e = d .before .before .before .before in
-    log-writes _ _ _ _ _ _ _ _ _ (d .drain .ensures .0) (d .drain .ensures .1) (e .if1 .left) _ (e .before .before .before .plan-log .ensures) _ _ _ (l .lane-of .ensures) (q .pairs-of .ensures) (a .appended .ensures _) (o .if2 .left)
+    let p = e .before .before in
+    log-writes _ _ _ _ _ _ _ _ _ (d .drain .ensures .0) (d .drain .ensures .1) (e .if1 .left) _ (p .plan-log .ensures) _ (a .log-writes .ensures _) (o .if2 .left)
 
 pub log-spec : {M : Type 1} → statement M
 log-spec =
@@ -113,14 +97,12 @@ log-spec =
     same-length-3
     returns
     drain-requires
+    drained-requires
     same-length-4
     same-length-5
     same-length-6
     returns-2
-    add-stamp
-    lane-of-requires
-    pairs-of-requires
-    appended-requires
+    log-writes-requires
     same-length-7
     same-length-8
     same-length-9

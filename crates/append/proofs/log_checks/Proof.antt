@@ -1,8 +1,10 @@
 -- `append::log_checks` meets its contract: each return by its law, from the tests that led there.
 -- Assumes nothing.
 use mathlib.Core.Path.{sym, _∙_}
+use native.Mathlib.Omega.{arith}
 use borrow.Author.Tests.{not-true, not-false}
 use borrow.Author.Needs.{needs}
+use Rattle.record.specs.Record.{laneAt}
 use Rattle.store.specs.StoreLaws.{checked, lane-small}
 use Rattle.append.specs.AppendLaws.{checks-lane, checks-txn, checks-logged, checks-none}
 use Rattle.append.proofs.log_checks.Statement.{statement}
@@ -22,29 +24,35 @@ returns-2 c =
     let d = c .before .before in
     checks-txn _ _ _ _ (sym (d .before .drain-refusal .ensures) ∙ d .if1 .left) (sym (c .before .txn-ok .ensures) ∙ not-true _ (c .if2 .taken))
 
-lane-of-requires : tie.Need-lane-of-requires
-lane-of-requires c κs =
+mul-at : tie.Need-mul-at
+mul-at c =
     let d = c .before .before in
     let k = checked _ _ _ _ _ _ (sym (d .before .drain-refusal .ensures) ∙ d .if1 .left) in
-    lane-small _ _ (k .sizes-ok) (k .lane-below)
+    omega (arith, lane-small _ _ (k .sizes-ok) (k .lane-below))
+
+element-copy-out-at : tie.Need-element-copy-out-at
+element-copy-out-at c =
+    let d = c .before .before in
+    let k = checked _ _ _ _ _ _ (sym (d .before .drain-refusal .ensures) ∙ d .if1 .left) in
+    omega (arith, lane-small _ _ (k .sizes-ok) (k .lane-below))
 
 is-logged-requires : tie.Need-is-logged-requires
 is-logged-requires c κs = search needs
 
 returns-3 : tie.Need-returns-3
+unfolding laneAt
 returns-3 c =
-    let a = c .before .before in
-    let t = a .before in
+    let t = c .before .before .before in
     let d = t .before .before in
-    checks-logged _ _ _ _ (sym (d .before .drain-refusal .ensures) ∙ d .if1 .left) _ (a .lane-of .ensures) (sym (t .before .txn-ok .ensures) ∙ not-false _ (t .if2 .left))
+    checks-logged _ _ _ _ (sym (d .before .drain-refusal .ensures) ∙ d .if1 .left) (sym (t .before .txn-ok .ensures) ∙ not-false _ (t .if2 .left))
     (sym (c .before .is-logged .ensures) ∙ c .if3 .taken)
 
 returns-4 : tie.Need-returns-4
+unfolding laneAt
 returns-4 c =
-    let a = c .before .before in
-    let t = a .before in
+    let t = c .before .before .before in
     let d = t .before .before in
-    checks-none _ _ _ _ (sym (d .before .drain-refusal .ensures) ∙ d .if1 .left) _ (a .lane-of .ensures) (sym (t .before .txn-ok .ensures) ∙ not-false _ (t .if2 .left))
+    checks-none _ _ _ _ (sym (d .before .drain-refusal .ensures) ∙ d .if1 .left) (sym (t .before .txn-ok .ensures) ∙ not-false _ (t .if2 .left))
     (sym (c .before .is-logged .ensures) ∙ c .if3 .left)
 
 pub log-checks-spec : {M : Type 1} → statement M
@@ -55,7 +63,8 @@ log-checks-spec =
     returns
     txn-ok-requires
     returns-2
-    lane-of-requires
+    mul-at
+    element-copy-out-at
     is-logged-requires
     returns-3
     returns-4)

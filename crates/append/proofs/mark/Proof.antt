@@ -1,12 +1,15 @@
 -- `append::mark` meets its contract: a refused call is the step refused; otherwise the machine appended to, as the plan says.
 -- Assumes nothing.
+use Prim.Native.Nat.{_≤_, _<_}
 use mathlib.Core.Path.{sym, _∙_}
 use native.Mathlib.Omega.{arith}
+use lib.ListN.{length}
 use borrow.Author.Needs.{needs}
+use Rattle.record.specs.Record.{laneAt}
 use Rattle.record.proofs.Lengths.{lanes-eight}
 use Rattle.store.specs.Calls.{markStep}
 use Rattle.store.specs.StoreLaws.{step-refused}
-use Rattle.append.specs.AppendLaws.{mark-known, mark-clock, appendable, mark-taken}
+use Rattle.append.specs.AppendLaws.{mark-known, mark-clock, ready, appendable, appended-by, mark-taken}
 use Rattle.append.proofs.mark.Statement.{statement}
 use Rattle.append.proofs.mark.Tie as tie
 
@@ -27,40 +30,58 @@ same-length-3 c = search needs
 
 returns : tie.Need-returns
 unfolding markStep
-returns c =
-    let p = c .before .before .before .before in
-    rw (c .refused .ensures) (step-refused _ _ _ _ (p .plan-mark .ensures .number) (c .before .if1 .taken))
+returns c = rw (c .refused .ensures) (step-refused _ _ _ _ (c .before .before .before .plan-mark .ensures .number) (c .before .if1 .taken))
 
 drain-requires : tie.Need-drain-requires
 drain-requires c κs =
     let e = c .before .before .before in
-    let k = mark-known _ _ _ _ _ _ _ (e .before .before .before .plan-mark .ensures) (e .if1 .left) in
+    let p = e .before .before in
+    let k = mark-known _ _ _ _ _ _ _ (p .plan-mark .ensures) (e .if1 .left) in
     (k .small, k .checked .in-nvm ∙ sym (k .checked .in-cache), k .checked .in-flags ∙ sym (k .checked .in-cache))
 
-lane-of-requires : tie.Need-lane-of-requires
-lane-of-requires c κs =
+mul-old : tie.Need-mul-old
+mul-old c =
     let d = c .before .before .before .before in
     let e = d .before .before .before .before in
-    mark-known _ _ _ _ _ _ _ (e .before .before .before .plan-mark .ensures) (e .if1 .left) .small
+    let p = e .before .before in
+    omega (arith, mark-known _ _ _ _ _ _ _ (p .plan-mark .ensures) (e .if1 .left) .small)
 
-add-stamp : tie.Need-add-stamp
-add-stamp c =
-    let d = c .before .before .before .before .before .before .before in
+element-copy-out-old : tie.Need-element-copy-out-old
+element-copy-out-old c =
+    let d = c .before .before .before .before in
     let e = d .before .before .before .before in
-    omega (arith, mark-clock _ _ _ _ _ _ _ (e .before .before .before .plan-mark .ensures) (e .if1 .left))
+    let p = e .before .before in
+    omega (arith, mark-known _ _ _ _ _ _ _ (p .plan-mark .ensures) (e .if1 .left) .small)
+
+drained-lane-requires : tie.Need-drained-lane-requires
+drained-lane-requires c κs = search needs
 
 is-logged-requires : tie.Need-is-logged-requires
 is-logged-requires c κs = search needs
 
-appended-requires : tie.Need-appended-requires
-appended-requires c κs =
-    let l = c .before .before .before .before .before in
-    let d = l .before .before .before .before .before in
+add-stamp : tie.Need-add-stamp
+add-stamp c =
+    let d = c .before .before .before .before .before .before .before .before in
     let e = d .before .before .before .before in
-    let p = e .before .before .before in
+    let p = e .before .before in
+    omega (arith, mark-clock _ _ _ _ _ _ _ (p .plan-mark .ensures) (e .if1 .left))
+
+appended-requires : tie.Need-appended-requires
+unfolding laneAt
+appended-requires c κs =
+    let l = c .before .before .before .before in
+    let d = l .before .before .before .before .before .before in
+    let e = d .before .before .before .before in
+    let p = e .before .before in
     let s = p .before .before .before .before .before .before .before in
-    let h = p .plan-mark .ensures in
-    appendable _ _ _ _ _ _ _ _ (mark-known _ _ _ _ _ _ _ h (e .if1 .left)) (lanes-eight (s .args .state) (s .good .1 .0)) (mark-clock _ _ _ _ _ _ _ h (e .if1 .left)) _ (d .drain .ensures .1)
+    appendable _ _ _ _ _ _ _ _ (ready _ _ _ _ _ _ _ _ (mark-known _ _ _ _ _ _ _ (p .plan-mark .ensures) (e .if1 .left)) (lanes-eight (s .args .t2) (s .good .1 .0)) (mark-clock _ _ _ _ _ _ _ (p .plan-mark .ensures) (e .if1 .left)) _ (d .drain .ensures .1)) (l .drained-lane .ensures)
+
+stamped-requires : tie.Need-stamped-requires
+stamped-requires c κs =
+    let d = c .before .before .before .before .before .before .before .before .before .before .before .before .before .before .before in
+    let e = d .before .before .before .before in
+    let p = e .before .before in
+    mark-known _ _ _ _ _ _ _ (p .plan-mark .ensures) (e .if1 .left) .small
 
 same-length-4 : tie.Need-same-length-4
 same-length-4 c = search needs
@@ -72,13 +93,22 @@ same-length-6 : tie.Need-same-length-6
 same-length-6 c = search needs
 
 returns-2 : tie.Need-returns-2
+unfolding laneAt
 returns-2 c =
-    let a = c .before .before .before .before in
+    let a = c .before .before .before .before .before in
     let i = a .before .before .before in
-    let l = i .before .before .before in
-    let d = l .before .before .before .before .before in
+    let l = i .before .before in
+    let d = l .before .before .before .before .before .before in
     let e = d .before .before .before .before in
-    mark-taken _ _ _ _ _ _ _ _ _ (d .drain .ensures .0) (d .drain .ensures .1) (e .if1 .left) (e .before .before .before .plan-mark .ensures) _ _ (l .lane-of .ensures) (a .appended .ensures _) _ (i .is-logged .ensures)
+    let p = e .before .before in
+    let s = p .before .before .before .before .before .before .before in
+    let k = ready _ _ _ _ _ _ _ _ (mark-known _ _ _ _ _ _ _ (p .plan-mark .ensures) (e .if1 .left)) (lanes-eight (s .args .t2) (s .good .1 .0)) (mark-clock _ _ _ _ _ _ _ (p .plan-mark .ensures) (e .if1 .left)) _ (d .drain .ensures .1) in
+    let w = p .plan-mark .result .writes in
+    let n : w .count ≤ length (w .list) = omega (arith, k .few, k .full) in
+    let h : s .args .lane < length (s .args .t2 .lanes) = omega (arith, lanes-eight (s .args .t2) (s .good .1 .0), mark-known _ _ _ _ _ _ _ (p .plan-mark .ensures) (e .if1 .left) .small) in
+    mark-taken _ _ _ _ _ _ _ _ _ (d .drain .ensures .0) (d .drain .ensures .1) (e .if1 .left) (p .plan-mark .ensures) _ _ (l .drained-lane .ensures)
+    (appended-by _ _ _ _ _ (k .found) _ (l .drained-lane .ensures) h _ _ _ _ w n _ _ _ _ (a .appended .ensures .0) (c .stamped .ensures) (a .appended .ensures .1 .0) (a .appended .ensures .1 .1))
+    _ (i .is-logged .ensures)
 
 pub mark-spec : {M : Type 1} → statement M
 mark-spec =
@@ -91,10 +121,13 @@ mark-spec =
     same-length-3
     returns
     drain-requires
-    lane-of-requires
-    add-stamp
+    mul-old
+    element-copy-out-old
+    drained-lane-requires
     is-logged-requires
+    add-stamp
     appended-requires
+    stamped-requires
     same-length-4
     same-length-5
     same-length-6

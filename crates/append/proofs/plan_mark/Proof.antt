@@ -20,8 +20,8 @@ returns c =
     let d = c .before .before in
     planned-refused _ _ _ _ (mark-refused _ _ _ _ (d .drain-refusal .ensures) (c .before .if1 .taken)) (c .before .if1 .taken)
 
-drained-state-requires : tie.Need-drained-state-requires
-drained-state-requires c κs =
+latest-in-requires : tie.Need-latest-in-requires
+latest-in-requires c κs =
     let k = checked _ _ _ _ _ _ (sym (c .before .drain-refusal .ensures) ∙ c .if1 .left) in
     (k .sizes-ok, k .in-cache, k .lane-below)
 
@@ -30,7 +30,7 @@ append-refusal-requires c κs =
     let d = c .before in
     let s = d .before .before .before .before .before in
     let k = checked _ _ _ _ _ _ (sym (d .before .drain-refusal .ensures) ∙ d .if1 .left) in
-    searchable _ _ _ _ _ _ k (lanes-eight (s .args .state) (s .good .1 .0)) _ (omega arith) (omega arith)
+    searchable _ _ _ _ _ _ k (lanes-eight (s .args .state) (s .good .1 .0)) _ _ (c .latest-in .ensures) (omega arith) (omega arith)
 
 none-requires-2 : tie.Need-none-requires-2
 none-requires-2 c κs = search needs
@@ -41,9 +41,9 @@ returns-2 c =
     let d = a .before in
     let e = d .before in
     record {
-      number = mark-room _ _ _ _ _ (sym (e .before .drain-refusal .ensures) ∙ e .if1 .left) (d .drained-state .ensures) (a .append-refusal .ensures);
+      number = mark-room _ _ _ _ (sym (e .before .drain-refusal .ensures) ∙ e .if1 .left) (a .append-refusal .ensures);
       writes = λ z. c .none2 .ensures;
-      drained = λ z. d .drained-state .ensures;
+      latest = λ z. d .latest-in .ensures;
     }
 
 pub plan-mark-spec : {M : Type 1} → statement M
@@ -53,7 +53,7 @@ plan-mark-spec =
     drain-refusal-requires
     none-requires
     returns
-    drained-state-requires
+    latest-in-requires
     append-refusal-requires
     none-requires-2
     returns-2)

@@ -1,16 +1,21 @@
-// The record of the second implementation, in words: clock, last commit, then forty words for each of eight lanes. Its range check, and the floors. 01, refusals 2 and 9.
-use super::reading::Shape;
+// The record of the second implementation, in words: 64 for each of eight lanes, then clock and last commit, and from word 1,024 on the pairs. Its range check, and
+// the floors. 01, refusals 2 and 9.
+use crate::words::Bench;
+use crate::words::LANES;
+use crate::words::MOST;
+use crate::words::RECORD;
+use crate::words::SLOTS;
+use crate::words::STATE;
+use crate::words::WORDS;
+use crate::words::cell;
+use crate::words::clear;
 use crate::words::get;
 use crate::words::least;
 use crate::words::plus;
 use crate::words::put;
-use crate::words::times;
+use crate::words::set_row;
 
-pub(crate) const CLOCK: u64 = 0;
-
-pub(crate) const LAST: u64 = 1;
-
-// A lane's words: is a transaction logged, its first slot, count and timestamp, the next slot, the wrap bit, is there a floor, the floor, then sixteen pairs.
+// A lane's words: is a transaction logged, its first slot, count and timestamp, the next slot, the wrap bit, the floor.
 pub(crate) const HELD: u64 = 0;
 
 pub(crate) const FIRST: u64 = 1;
@@ -23,148 +28,129 @@ pub(crate) const NEXT: u64 = 4;
 
 pub(crate) const PRESENT: u64 = 5;
 
-pub(crate) const FLOORED: u64 = 6;
+pub(crate) const FLOOR: u64 = 6;
 
-pub(crate) const FLOOR: u64 = 7;
+pub(crate) const CLOCK: u64 = 512;
 
-pub(crate) const PAIRS: u64 = 8;
+pub(crate) const LAST: u64 = 513;
 
-// A floor or none.
-pub(crate) struct Bound {
-    pub(crate) is: bool,
-    pub(crate) stamp: u64,
+// All words of the record.
+pub(crate) const LENGTH: u64 = 1536;
+
+// No floor, and no boundary: a number above all timestamps, which are even.
+pub(crate) const NONE: u64 = MOST;
+
+pub(crate) fn field(bench: &Bench, lane: u64, field: u64) -> u64 {
+    get(bench, RECORD, lane << 6 | field)
 }
 
-fn index(lane: u64, field: u64) -> u64 {
-    plus(plus(2, times(40, lane)), field)
+pub(crate) fn set_field(bench: &mut Bench, lane: u64, field: u64, word: u64) {
+    put(bench, RECORD, lane << 6 | field, word);
 }
 
-pub(crate) fn field(record: &[u64; 322], lane: u64, field: u64) -> u64 {
-    get(record, index(lane, field))
+// The row of a pair, where the record is read as a table: its word is field 0, its new value field 2.
+pub(crate) fn pair(lane: u64, i: u64) -> u64 {
+    256 | lane << 4 | i
 }
 
-pub(crate) fn set_field(record: &mut [u64; 322], lane: u64, field: u64, word: u64) {
-    put(record, index(lane, field), word);
+// Whether a lane holds a transaction, and its first slot, count and timestamp.
+pub(crate) fn set_held(
+    bench: &mut Bench,
+    lane: u64,
+    held: u64,
+    first: u64,
+    count: u64,
+    stamp: u64,
+) {
+    set_row(bench, RECORD, lane << 4, held, first, count, stamp);
 }
 
-pub(crate) fn pair_word(record: &[u64; 322], lane: u64, i: u64) -> u64 {
-    field(record, lane, plus(PAIRS, times(2, i)))
+pub(crate) fn set_idle(bench: &mut Bench, lane: u64) {
+    set_held(bench, lane, 0, 0, 0, 0);
 }
 
-pub(crate) fn pair_value(record: &[u64; 322], lane: u64, i: u64) -> u64 {
-    field(record, lane, plus(plus(PAIRS, 1), times(2, i)))
+// A lane's next slot, wrap bit and floor.
+pub(crate) fn set_log(bench: &mut Bench, lane: u64, next: u64, wrap: u64, floor: u64) {
+    set_row(bench, RECORD, lane << 4 | 1, next, wrap, floor, 0);
 }
 
-pub(crate) fn set_pair(record: &mut [u64; 322], lane: u64, i: u64, word: u64, value: u64) {
-    set_field(record, lane, plus(PAIRS, times(2, i)), word);
-    set_field(record, lane, plus(plus(PAIRS, 1), times(2, i)), value);
+pub(crate) fn set_time(bench: &mut Bench, clock: u64, last: u64) {
+    set_row(bench, RECORD, 128, clock, last, 0, 0);
 }
 
-pub(crate) fn set_idle(record: &mut [u64; 322], lane: u64) {
-    set_field(record, lane, HELD, 0);
-    set_field(record, lane, FIRST, 0);
-    set_field(record, lane, COUNT, 0);
-    set_field(record, lane, STAMPED, 0);
+// The record of a start: everything 0 but the wrap bits, the floors, and clock and last commit, which are the base timestamp.
+pub(crate) fn set_start(bench: &mut Bench, base: u64) {
+    clear(bench, RECORD, LENGTH);
+    set_time(bench, base, base);
+    start_lanes(bench);
 }
 
-// The record of a start: everything 0 but the wrap bits, and clock and last commit, which are the base timestamp.
-pub(crate) fn set_start(record: &mut [u64; 322], base: u64) {
-    for i in 0..322 {
-        put(record, i, 0);
-    }
-    put(record, CLOCK, base);
-    put(record, LAST, base);
-    start_wraps(record);
-}
-
-fn start_wraps(record: &mut [u64; 322]) {
+fn start_lanes(bench: &mut Bench) {
     for lane in 0..8 {
-        set_field(record, lane, PRESENT, 1);
+        set_log(bench, lane, 0, 1, NONE);
     }
 }
 
 // Even and not above the clock.
-fn in_time(record: &[u64; 322], stamp: u64) -> bool {
-    stamp % 2 == 0 && stamp <= get(record, CLOCK)
+fn in_time(bench: &Bench, stamp: u64) -> bool {
+    stamp % 2 == 0 && stamp <= get(bench, RECORD, CLOCK)
 }
 
-fn pairs_ok(shape: Shape, record: &[u64; 322], lane: u64) -> bool {
-    for i in 0..least(field(record, lane, COUNT), 16) {
-        if shape.words <= pair_word(record, lane, i) {
+fn pairs_ok(bench: &Bench, lane: u64) -> bool {
+    for i in 0..field(bench, lane, COUNT) {
+        if get(bench, STATE, WORDS) <= cell(bench, RECORD, pair(lane, i), 0) {
             return false;
         }
     }
     true
 }
 
-fn held_ok(shape: Shape, record: &[u64; 322], lane: u64) -> bool {
-    let count = field(record, lane, COUNT);
-    field(record, lane, FIRST) < shape.slots
-        && 1 <= count
-        && count <= 16
-        && in_time(record, field(record, lane, STAMPED))
-        && pairs_ok(shape, record, lane)
+// 1 to 16.
+fn count_ok(count: u64) -> bool {
+    1 <= count && count <= 16
 }
 
-fn lane_ok(shape: Shape, record: &[u64; 322], lane: u64) -> bool {
-    let slot_ok = field(record, lane, NEXT) < shape.slots;
-    let wrap_ok = field(record, lane, PRESENT) < 2;
-    let floor_ok = field(record, lane, FLOORED) == 0 || in_time(record, field(record, lane, FLOOR));
-    let phase_ok = field(record, lane, HELD) == 0 || held_ok(shape, record, lane);
-    slot_ok && wrap_ok && floor_ok && phase_ok
+fn held_ok(bench: &Bench, lane: u64) -> bool {
+    field(bench, lane, FIRST) < get(bench, STATE, SLOTS)
+        && count_ok(field(bench, lane, COUNT))
+        && in_time(bench, field(bench, lane, STAMPED))
+        && pairs_ok(bench, lane)
+}
+
+fn floor_ok(bench: &Bench, floor: u64) -> bool {
+    floor == NONE || in_time(bench, floor)
+}
+
+fn lane_ok(bench: &Bench, lane: u64) -> bool {
+    field(bench, lane, NEXT) < get(bench, STATE, SLOTS)
+        && field(bench, lane, PRESENT) < 2
+        && floor_ok(bench, field(bench, lane, FLOOR))
+        && (field(bench, lane, HELD) == 0 || held_ok(bench, lane))
 }
 
 // How many of the first T lanes are out of range?
-fn bad_lanes(shape: Shape, record: &[u64; 322]) -> u64 {
+fn bad_lanes(bench: &Bench) -> u64 {
     let mut bad = 0;
-    for lane in 0..shape.lanes {
-        if !lane_ok(shape, record, lane) {
+    for lane in 0..get(bench, STATE, LANES) {
+        if !lane_ok(bench, lane) {
             bad = plus(bad, 1);
         }
     }
     bad
 }
 
-pub(crate) fn in_range(shape: Shape, record: &[u64; 322]) -> bool {
-    get(record, CLOCK) % 2 == 0
-        && in_time(record, get(record, LAST))
-        && bad_lanes(shape, record) == 0
+pub(crate) fn in_range(bench: &Bench) -> bool {
+    get(bench, RECORD, CLOCK) % 2 == 0
+        && in_time(bench, get(bench, RECORD, LAST))
+        && bad_lanes(bench) == 0
 }
 
-pub(crate) fn floor_of(record: &[u64; 322], lane: u64) -> Bound {
-    Bound {
-        is: field(record, lane, FLOORED) != 0,
-        stamp: field(record, lane, FLOOR),
-    }
-}
-
-pub(crate) fn set_floor(record: &mut [u64; 322], lane: u64, floor: Bound) {
-    if floor.is {
-        set_field(record, lane, FLOORED, 1);
-        set_field(record, lane, FLOOR, floor.stamp);
-    }
-}
-
-// The lesser, where none is above all.
-pub(crate) fn lesser(a: Bound, b: Bound) -> Bound {
-    if !a.is {
-        return b;
-    }
-    if !b.is {
-        return a;
-    }
-    if a.stamp < b.stamp {
-        return a;
-    }
-    b
-}
-
-// The least floor, where this lane's is the one given.
-pub(crate) fn least_floor(shape: Shape, record: &[u64; 322], lane: u64, own: Bound) -> Bound {
+// The least floor, where this lane's is the one given; none is above all.
+pub(crate) fn least_floor(bench: &Bench, lane: u64, own: u64) -> u64 {
     let mut bound = own;
-    for other in 0..shape.lanes {
+    for other in 0..get(bench, STATE, LANES) {
         if other != lane {
-            bound = lesser(bound, floor_of(record, other));
+            bound = least(bound, field(bench, other, FLOOR));
         }
     }
     bound

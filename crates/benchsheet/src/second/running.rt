@@ -1,7 +1,16 @@
 // How the second implementation checks and runs a transaction: which fields an instruction uses, and a program counter over a copy of the data words. 01, "Frames".
-use crate::words::ROOM;
+use crate::words::Bench;
+use crate::words::CACHE;
+use crate::words::DATA;
+use crate::words::STATE;
+use crate::words::TXN;
+use crate::words::USED;
+use crate::words::WORDS;
+use crate::words::WRITES;
 use crate::words::cell;
+use crate::words::copy;
 use crate::words::get;
+use crate::words::minus;
 use crate::words::plus;
 use crate::words::put;
 use crate::words::remainder;
@@ -33,57 +42,47 @@ fn operand_ok(words: u64, used: bool, word: u64) -> bool {
     word == 0
 }
 
-// Is k in range for instruction `at` of `count`?
-fn k_ok(code: u64, k: u64, at: u64, count: u64) -> bool {
+// Is k in range, where `after` instructions follow?
+fn k_ok(code: u64, k: u64, after: u64) -> bool {
     if code == COPY {
         return k == 0;
     }
     if code == SKIP {
-        return 1 <= k && k <= 15 && plus(plus(at, k), 1) <= count;
+        return 1 <= k && k <= 15 && k <= after;
     }
     true
 }
 
-fn instruction_ok(words: u64, txn: &[u64], at: u64, count: u64) -> bool {
-    let code = cell(txn, at, 0);
+fn instruction_ok(bench: &Bench, at: u64, after: u64) -> bool {
+    let words = get(bench, STATE, WORDS);
+    let code = cell(bench, TXN, at, 0);
     if code < SET || SKIP < code {
         return false;
     }
-    let uses_a = code <= ADD;
-    let uses_b = code != SET;
-    operand_ok(words, uses_a, cell(txn, at, 1))
-        && operand_ok(words, uses_b, cell(txn, at, 2))
-        && k_ok(code, cell(txn, at, 3), at, count)
+    operand_ok(words, code <= ADD, cell(bench, TXN, at, 1))
+        && operand_ok(words, code != SET, cell(bench, TXN, at, 2))
+        && k_ok(code, cell(bench, TXN, at, 3), after)
 }
 
-pub(crate) fn txn_ok(words: u64, txn: &[u64]) -> bool {
-    let length = txn.len() as u64;
-    if length % 4 != 0 {
-        return false;
-    }
-    if length < 4 || 64 < length {
+pub(crate) fn txn_ok(bench: &Bench) -> bool {
+    let length = get(bench, STATE, USED);
+    if length % 4 != 0 || length < 4 || 64 < length {
         return false;
     }
     let count = length / 4;
     for at in 0..count {
-        if !instruction_ok(words, txn, at, count) {
+        if !instruction_ok(bench, at, minus(count, plus(at, 1))) {
             return false;
         }
     }
     true
 }
 
-fn copy_data(words: u64, image: &[u64; ROOM], data: &mut [u64; 1024]) {
-    for i in 0..words {
-        put(data, i, get(image, plus(1, i)));
-    }
-}
-
 // The instruction that comes after a SKIP.
-fn after_skip(data: &[u64; 1024], txn: &[u64], at: u64) -> u64 {
+fn after_skip(bench: &Bench, at: u64) -> u64 {
     let next = plus(at, 1);
-    if get(data, cell(txn, at, 2)) == 0 {
-        return plus(next, cell(txn, at, 3));
+    if get(bench, DATA, plus(1, cell(bench, TXN, at, 2))) == 0 {
+        return plus(next, cell(bench, TXN, at, 3));
     }
     next
 }
@@ -106,30 +105,36 @@ fn result(code: u64, source: u64, k: u64) -> u64 {
 }
 
 // Write number n, by instruction `at`.
-fn write(words: u64, data: &mut [u64; 1024], txn: &[u64], at: u64, writes: &mut [u64; 64], n: u64) {
-    let code = cell(txn, at, 0);
-    let source = get(data, cell(txn, at, 2));
-    let word = target(words, code, cell(txn, at, 1), source);
-    let new = result(code, source, cell(txn, at, 3));
-    set_row(writes, n, word, get(data, word), new, 0);
-    put(data, word, new);
+fn write(bench: &mut Bench, at: u64, n: u64) {
+    let code = cell(bench, TXN, at, 0);
+    let source = get(bench, DATA, plus(1, cell(bench, TXN, at, 2)));
+    let word = target(
+        get(bench, STATE, WORDS),
+        code,
+        cell(bench, TXN, at, 1),
+        source,
+    );
+    let new = result(code, source, cell(bench, TXN, at, 3));
+    let old = get(bench, DATA, plus(1, word));
+    set_row(bench, WRITES, n, word, old, new, 0);
+    put(bench, DATA, plus(1, word), new);
 }
 
-// Runs a well-formed transaction on the image's data words, which stay as they are; how many writes it makes.
-pub(crate) fn run(words: u64, image: &[u64; ROOM], txn: &[u64], writes: &mut [u64; 64]) -> u64 {
-    let mut data = [0u64; 1024];
-    copy_data(words, image, &mut data);
-    let end = txn.len() as u64 / 4;
+// Runs a well-formed transaction on a copy of the cached image; how many writes it makes.
+pub(crate) fn run(bench: &mut Bench) -> u64 {
+    let words = get(bench, STATE, WORDS);
+    copy(bench, CACHE, DATA, 0, plus(words, 1));
+    let end = get(bench, STATE, USED) / 4;
     let mut at = 0;
     let mut count = 0;
     for _ in 0..16u64 {
         if end <= at {
             return count;
         }
-        if cell(txn, at, 0) == SKIP {
-            at = after_skip(&data, txn, at);
+        if cell(bench, TXN, at, 0) == SKIP {
+            at = after_skip(bench, at);
         } else {
-            write(words, &mut data, txn, at, writes, count);
+            write(bench, at, count);
             count = plus(count, 1);
             at = plus(at, 1);
         }

@@ -1,27 +1,28 @@
--- `commit::commit` meets its contract: the pairs' stores and then the timestamp's are those of `committed`, since no pair reaches a log word.
+-- `commit::commit` meets its contract: the pairs' stores and then the timestamp's are `commitWords`, since no pair reaches a log word.
 use mathlib.Core.Path.{sym, _∙_}
 use native.Mathlib.Omega.{arith}
 use Rattle.image.specs.ImageLaws.{sizes-in}
 use Rattle.store.specs.StoreLaws.{lane-small}
-use Rattle.commit.specs.CommitLaws.{pair-inside, restamp-inside, commit-done}
+use Rattle.commit.specs.CommitLaws.{pair-inside, restamp-inside, commit-written, commit-flushed}
 use borrow.Author.Needs.{needs}
 use Rattle.commit.proofs.commit.Statement.{statement}
 use Rattle.commit.proofs.commit.Tie as tie
 
-abbrev start : tie.After-write-pairs-arg → tie.Start
-start c = c .before .before .before .before .before
+abbrev start : tie.After-log-start → tie.Start
+start c = c .before .before .before
 
 log-start-requires : tie.Need-log-start-requires
 log-start-requires c κs = search needs
 
-stamp-slot-requires : tie.Need-stamp-slot-requires
-stamp-slot-requires c κs =
-    let k = c .before .before .before .pre .0 in
-    (lane-small _ _ (k .sizes-ok) (k .lane-below), omega (arith, k .logged .first, sizes-in _ (k .sizes-ok) .slots-high), k .logged .most)
+add-circular : tie.Need-add-circular
+add-circular c = let k = start (c .before) .pre .0 in omega (arith, k .first, k .most, sizes-in _ (k .sizes-ok) .slots-high)
+
+circular-requires : tie.Need-circular-requires
+circular-requires c κs = search needs
 
 write-pairs-requires : tie.Need-write-pairs-requires
 write-pairs-requires c κs =
-    let s = start (c .before) in
+    let s = start (c .before .before .before .before) in
     let k = s .pre .0 in (
       lane-small _ _ (k .sizes-ok) (k .lane-below),
       omega arith,
@@ -29,23 +30,14 @@ write-pairs-requires c κs =
       λ i h. pair-inside (s .args .sizes) (s .args .pairs) (s .args .count) _ (s .pre .2) (omega arith) (k .in-cache) i (omega arith),
     )
 
-add-restamp : tie.Need-add-restamp
-add-restamp c = search needs
-
 restamp-requires : tie.Need-restamp-requires
 restamp-requires c κs =
-    let w = c .before .before .before .before .before .before .before in
+    let w = c .before .before .before .before .before .before in
     let m = w .before .before .before in
-    let s = start (w .before .before) in
-    let k = s .pre .0 in
-    let h = restamp-inside _ _ _ _ _ _ _ k (m .before .log-start .ensures) (m .stamp-slot .ensures) _ _ _ (w .write-pairs .ensures .0) (w .write-pairs .ensures .1) in
-    (h .0, h .1, lane-small _ _ (k .sizes-ok) (k .lane-below), omega (arith, k .room))
-
-committed-state-requires : tie.Need-committed-state-requires
-committed-state-requires c κs =
-    let w = c .before .before .before .before .before .before .before .before .before .before .before .before in
-    let k = start (w .before .before) .pre .0 in
-    (lane-small _ _ (k .sizes-ok) (k .lane-below), omega (arith, k .room))
+    let l = m .before .before in
+    let k = start l .pre .0 in
+    let h = restamp-inside _ _ _ _ _ _ _ _ k (l .log-start .ensures) (m .circular .ensures) _ _ _ (w .write-pairs .ensures .0) (w .write-pairs .ensures .1) in
+    (h .0, h .1, lane-small _ _ (k .sizes-ok) (k .lane-below), k .room)
 
 same-length : tie.Need-same-length
 same-length c = search needs
@@ -55,22 +47,24 @@ same-length-2 c = search needs
 
 returns : tie.Need-returns
 returns c =
-    let p = c .before .before .before .before .before in
-    let w = p .before .before .before .before .before .before .before .before in
+    let p = c .before .before .before .before in
+    let w = p .before .before .before .before .before .before .before in
     let m = w .before .before .before in
-    commit-done _ _ _ _ _ _ _ _ _ _ (start (w .before .before) .pre .2) (m .before .log-start .ensures) (m .stamp-slot .ensures) (w .write-pairs .ensures .0) (w .write-pairs .ensures .1)
-    _ _ _ (c .committed-state .ensures) (p .restamp .ensures .0) (p .restamp .ensures .1)
+    let l = m .before .before in
+    let h = start l .pre .2 in (
+      commit-written _ _ _ _ _ _ _ _ _ h (l .log-start .ensures) (m .circular .ensures) (w .write-pairs .ensures .0) _ (p .restamp .ensures .0),
+      commit-flushed _ _ _ _ _ _ _ _ _ h (l .log-start .ensures) (m .circular .ensures) (w .write-pairs .ensures .0) _ _ _ (w .write-pairs .ensures .1) (p .restamp .ensures .1),
+    )
 
 pub commit-spec : {M : Type 1} → statement M
 commit-spec =
     tie.close
     (tie.spec
     log-start-requires
-    stamp-slot-requires
+    add-circular
+    circular-requires
     write-pairs-requires
-    add-restamp
     restamp-requires
-    committed-state-requires
     same-length
     same-length-2
     returns)

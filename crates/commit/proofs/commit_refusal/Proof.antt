@@ -5,29 +5,23 @@ use borrow.Author.Needs.{needs}
 use Rattle.commit.proofs.commit_refusal.Statement.{statement}
 use Rattle.commit.proofs.commit_refusal.Tie as tie
 
-lane-of-requires : tie.Need-lane-of-requires
-lane-of-requires c κs = search needs
-
 is-logged-requires : tie.Need-is-logged-requires
 is-logged-requires c κs = search needs
 
 returns : tie.Need-returns
-returns c = commit-idle _ _ _ (c .before .before .lane-of .ensures) _ (c .before .is-logged .ensures) (not-true _ (c .if1 .taken))
-
-spent-requires : tie.Need-spent-requires
-spent-requires c κs = search needs
+returns c = commit-idle _ _ _ (c .before .is-logged .ensures) (not-true _ (c .if1 .taken))
 
 returns-2 : tie.Need-returns-2
-returns-2 c =
-    let b = c .before .before in
-    commit-spent _ _ _ (b .before .before .lane-of .ensures) _ (b .before .is-logged .ensures) _ (not-false _ (b .if1 .left)) (c .before .spent .ensures) (c .if2 .taken)
+returns-2 c = let e = c .before in commit-spent _ _ _ (e .before .is-logged .ensures) (not-false _ (e .if1 .left)) (c .if2 .taken)
 
 returns-3 : tie.Need-returns-3
-returns-3 c =
-    let b = c .before .before in
-    commit-free _ _ _ (b .before .before .lane-of .ensures) _ (b .before .is-logged .ensures) _ (not-false _ (b .if1 .left)) (c .before .spent .ensures) (c .if2 .left)
+returns-3 c = let e = c .before in commit-free _ _ _ (e .before .is-logged .ensures) (not-false _ (e .if1 .left)) (c .if2 .left)
 
 pub commit-refusal-spec : {M : Type 1} → statement M
 commit-refusal-spec =
     tie.close
-    (tie.spec lane-of-requires is-logged-requires returns spent-requires returns-2 returns-3)
+    (tie.spec
+    is-logged-requires
+    returns
+    returns-2
+    returns-3)

@@ -1,5 +1,6 @@
--- `commit::committed_state` is `committedState`: its callees' results, put together.
-use Rattle.commit.specs.CommitLaws.{state-committed}
+-- `commit::committed_state` is `committedState`: three stores to the record.
+use Rattle.record.specs.Record.{laneAt, withLane, withClock, withLast}
+use Rattle.commit.specs.Commit.{committedState}
 use borrow.Author.Needs.{needs}
 use Rattle.commit.proofs.committed_state.Statement.{statement}
 use Rattle.commit.proofs.committed_state.Tie as tie
@@ -7,36 +8,33 @@ use Rattle.commit.proofs.committed_state.Tie as tie
 add-stamp : tie.Need-add-stamp
 add-stamp c = search needs
 
-lane-of-requires : tie.Need-lane-of-requires
-lane-of-requires c κs = search needs
+mul-at : tie.Need-mul-at
+mul-at c = search needs
 
-with-clock-requires : tie.Need-with-clock-requires
-with-clock-requires c κs = search needs
+element-copy-out-at : tie.Need-element-copy-out-at
+element-copy-out-at c = search needs
 
 idle-lane-requires : tie.Need-idle-lane-requires
 idle-lane-requires c κs = search needs
 
-with-lane-requires : tie.Need-with-lane-requires
-with-lane-requires c κs = search needs
+mul-idle : tie.Need-mul-idle
+mul-idle c = search needs
 
-with-last-requires : tie.Need-with-last-requires
-with-last-requires c κs = search needs
+element-set-from-idle : tie.Need-element-set-from-idle
+element-set-from-idle c = search needs
 
 returns : tie.Need-returns
-returns c =
-    let w = c .before in
-    let i = w .before in
-    let k = i .before in
-    state-committed _ _ _ _ _ _ _ (k .before .lane-of .ensures) (k .with-clock .ensures) (i .idle-lane .ensures) (w .with-lane .ensures) (c .with-last .ensures)
+unfolding committedState laneAt withLane withClock withLast
+returns c = rw (c .idle-lane .ensures)
 
 pub committed-state-spec : {M : Type 1} → statement M
 committed-state-spec =
     tie.close
     (tie.spec
     add-stamp
-    lane-of-requires
-    with-clock-requires
+    mul-at
+    element-copy-out-at
     idle-lane-requires
-    with-lane-requires
-    with-last-requires
+    mul-idle
+    element-set-from-idle
     returns)

@@ -1,29 +1,20 @@
 -- `commit::matches` meets its contract: the counts compared, then the entries in the part of the cache that is the lane's log.
 use denote.Ref.{now}
 use native.Mathlib.Omega.{arith}
-use Rattle.store.specs.StoreLaws.{LogPart, log-part, lane-small}
-use Rattle.commit.specs.CommitLaws.{is-held, matches-few, matches-log}
+use Rattle.store.specs.StoreLaws.{LogPart, log-part}
+use Rattle.commit.specs.CommitLaws.{matches-few, matches-log}
 use borrow.Author.Needs.{needs}
 use Rattle.commit.proofs.matches.Statement.{statement}
 use Rattle.commit.proofs.matches.Tie as tie
 
-lane-of-requires : tie.Need-lane-of-requires
-lane-of-requires c κs = let s = c .before in lane-small _ _ (s .pre .0) (s .pre .2)
-
-logged-in-requires : tie.Need-logged-in-requires
-logged-in-requires c κs = search needs
-
 returns : tie.Need-returns
-returns c =
-    let g = c .before .before .before in
-    let w = g .before .before .before .args .writes in
-    matches-few _ _ (w .list) (w .count) (search needs) _ _ _ _ (g .before .lane-of .ensures) (g .logged-in .ensures) (c .if1 .taken)
+returns c = let w = c .before .before .before .before .args .writes in matches-few _ _ _ (w .list) (w .count) (search needs) _ (c .if1 .taken)
 
 log-start-requires : tie.Need-log-start-requires
 log-start-requires c κs = search needs
 
-part : (c : tie.After-log-start) → let s = c .before .before .before .before .before .before .before in LogPart (s .args .sizes) (s .args .lane) (now (s .args .cache)) (c .log-start .result)
-part c = let s = c .before .before .before .before .before .before .before in log-part _ _ _ _ (s .pre .0) (s .pre .1) (s .pre .2) (c .log-start .ensures)
+part : (c : tie.After-log-start) → let s = c .before .before .before .before .before in LogPart (s .args .sizes) (s .args .lane) (now (s .args .cache)) (c .log-start .result)
+part c = let s = c .before .before .before .before .before in log-part _ _ _ _ (s .pre .0) (s .pre .1) (s .pre .2) (c .log-start .ensures)
 
 mul-end : tie.Need-mul-end
 mul-end c = omega (arith, part (c .before) .most)
@@ -46,25 +37,20 @@ part-entries-match-end c = part (c .before) .inside
 entries-match-requires : tie.Need-entries-match-requires
 entries-match-requires c κs =
     let d = part (c .before .before) in
-    let g = c .before .before .before .before .before .before in
-    let s = g .before .before .before in
-    let h = is-held _ _ _ _ (g .before .lane-of .ensures) (g .logged-in .ensures) in
-    (d .in-log, d .most, rw h (s .pre .3), s .pre .4, s .pre .5)
+    let s = c .before .before .before .before .before .before .before in
+    (d .in-log, d .most, s .pre .3, s .pre .4, s .pre .5)
 
 returns-2 : tie.Need-returns-2
 returns-2 c =
-    let p = c .before in
-    let e = p .before .before .before in
-    let g = e .before .before .before in
-    let w = g .before .before .before .args .writes in
-    matches-log _ _ (w .list) (w .count) (search needs) _ _ _ _ (g .before .lane-of .ensures) (g .logged-in .ensures) _ _ (e .if1 .left) (part (p .before .before) .is-log) (c .entries-match .ensures)
+    let l = c .before .before .before in
+    let e = l .before in
+    let w = e .before .before .before .before .args .writes in
+    matches-log _ _ _ (w .list) (w .count) (search needs) _ _ _ (e .if1 .left) (part l .is-log) (c .entries-match .ensures)
 
 pub matches-spec : {M : Type 1} → statement M
 matches-spec =
     tie.close
     (tie.spec
-    lane-of-requires
-    logged-in-requires
     returns
     log-start-requires
     mul-end

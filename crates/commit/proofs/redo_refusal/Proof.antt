@@ -1,5 +1,7 @@
 -- `commit::redo_refusal` meets its contract: Drain's causes first, then those of a commit.
 use mathlib.Core.Path.{sym, _∙_}
+use native.Mathlib.Omega.{arith}
+use Rattle.record.specs.Record.{laneAt}
 use Rattle.store.specs.StoreLaws.{checked, lane-small}
 use Rattle.commit.specs.CommitLaws.{redo-refused, redo-causes}
 use borrow.Author.Needs.{needs}
@@ -12,14 +14,36 @@ drain-refusal-requires c κs = search needs
 returns : tie.Need-returns
 returns c = redo-refused _ _ _ _ (c .before .drain-refusal .ensures) (c .if1 .taken)
 
-commit-refusal-requires : tie.Need-commit-refusal-requires
-commit-refusal-requires c κs =
+mul-at : tie.Need-mul-at
+mul-at c =
     let k = checked _ _ _ _ _ _ (sym (c .before .drain-refusal .ensures) ∙ c .if1 .left) in
-    lane-small _ _ (k .sizes-ok) (k .lane-below)
+    omega (arith, lane-small _ _ (k .sizes-ok) (k .lane-below))
+
+element-copy-out-at : tie.Need-element-copy-out-at
+element-copy-out-at c =
+    let k = checked _ _ _ _ _ _ (sym (c .before .drain-refusal .ensures) ∙ c .if1 .left) in
+    omega (arith, lane-small _ _ (k .sizes-ok) (k .lane-below))
+
+spent-requires : tie.Need-spent-requires
+spent-requires c κs = search needs
+
+commit-refusal-requires : tie.Need-commit-refusal-requires
+commit-refusal-requires c κs = search needs
 
 returns-2 : tie.Need-returns-2
-returns-2 c = redo-causes _ _ _ _ (c .before .before .drain-refusal .ensures) _ (c .before .if1 .left) (c .commit-refusal .ensures)
+unfolding laneAt
+returns-2 c =
+    let e = c .before .before .before in
+    redo-causes _ _ _ _ (e .before .drain-refusal .ensures) _ _ (e .if1 .left) (c .before .spent .ensures) (c .commit-refusal .ensures)
 
 pub redo-refusal-spec : {M : Type 1} → statement M
 redo-refusal-spec =
-    tie.close (tie.spec drain-refusal-requires returns commit-refusal-requires returns-2)
+    tie.close
+    (tie.spec
+    drain-refusal-requires
+    returns
+    mul-at
+    element-copy-out-at
+    spent-requires
+    commit-refusal-requires
+    returns-2)

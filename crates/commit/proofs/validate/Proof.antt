@@ -5,8 +5,9 @@ use Rattle.txn.specs.Txn.{txnOk}
 use mathlib.Core.Bool.{true}
 use Rattle.record.proofs.Lengths.{lanes-eight}
 use Rattle.store.specs.StoreLaws.{lane-small, step-refused}
+use Rattle.store.specs.WritesLaws.{full-list, writes-few, writes-run, writes-low}
 use Rattle.store.specs.Calls.{validateStep}
-use Rattle.commit.specs.CommitLaws.{Accepted, validate-accepted, ready, validate-taken, writes-few, writes-long, writes-run, writes-low}
+use Rattle.commit.specs.CommitLaws.{Accepted, validate-accepted, ready, validate-taken}
 use borrow.Author.Needs.{needs}
 use Rattle.commit.proofs.validate.Statement.{statement}
 use Rattle.commit.proofs.validate.Tie as tie
@@ -61,7 +62,7 @@ validate-drained-requires c κs =
     let a = accepted e in (
       ready _ _ _ _ _ _ _ _ (a .0) (lanes-eight (s .args .state) (s .good .1 .0)) (t .drained-state .ensures) (d .drain .ensures .1),
       writes-few _ _ _ _ (w .writes-on .ensures) (a .1),
-      writes-long _ _ _ _ (w .writes-on .ensures) (a .1),
+      full-list _ _ (w .writes-on .ensures),
       writes-low _ _ _ _ (w .writes-on .ensures) (a .1),
     )
 

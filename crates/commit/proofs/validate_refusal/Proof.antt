@@ -1,6 +1,8 @@
 -- `commit::validate_refusal` meets its contract: Drain's causes first, then the transaction's, then those of a commit.
 use mathlib.Core.Path.{sym, _∙_}
+use native.Mathlib.Omega.{arith}
 use borrow.Author.Tests.{not-true, not-false}
+use Rattle.record.specs.Record.{laneAt}
 use Rattle.store.specs.StoreLaws.{checked, lane-small}
 use Rattle.commit.specs.CommitLaws.{validate-refused, validate-bad, validate-causes}
 use borrow.Author.Needs.{needs}
@@ -21,17 +23,30 @@ returns-2 c =
     let b = c .before .before in
     validate-bad _ _ _ _ (b .before .drain-refusal .ensures) _ (b .if1 .left) (sym (c .before .txn-ok .ensures) ∙ not-true _ (c .if2 .taken))
 
-commit-refusal-requires : tie.Need-commit-refusal-requires
-commit-refusal-requires c κs =
+mul-at : tie.Need-mul-at
+mul-at c =
     let b = c .before .before in
     let k = checked _ _ _ _ _ _ (sym (b .before .drain-refusal .ensures) ∙ b .if1 .left) in
-    lane-small _ _ (k .sizes-ok) (k .lane-below)
+    omega (arith, lane-small _ _ (k .sizes-ok) (k .lane-below))
+
+element-copy-out-at : tie.Need-element-copy-out-at
+element-copy-out-at c =
+    let b = c .before .before in
+    let k = checked _ _ _ _ _ _ (sym (b .before .drain-refusal .ensures) ∙ b .if1 .left) in
+    omega (arith, lane-small _ _ (k .sizes-ok) (k .lane-below))
+
+spent-requires : tie.Need-spent-requires
+spent-requires c κs = search needs
+
+commit-refusal-requires : tie.Need-commit-refusal-requires
+commit-refusal-requires c κs = search needs
 
 returns-3 : tie.Need-returns-3
+unfolding laneAt
 returns-3 c =
-    let d = c .before in
+    let d = c .before .before .before in
     let b = d .before .before in
-    validate-causes _ _ _ _ (b .before .drain-refusal .ensures) _ _ (b .if1 .left) (sym (d .before .txn-ok .ensures) ∙ not-false _ (d .if2 .left)) (c .commit-refusal .ensures)
+    validate-causes _ _ _ _ (b .before .drain-refusal .ensures) _ _ _ (b .if1 .left) (sym (d .before .txn-ok .ensures) ∙ not-false _ (d .if2 .left)) (c .before .spent .ensures) (c .commit-refusal .ensures)
 
 pub validate-refusal-spec : {M : Type 1} → statement M
 validate-refusal-spec =
@@ -41,5 +56,8 @@ validate-refusal-spec =
     returns
     txn-ok-requires
     returns-2
+    mul-at
+    element-copy-out-at
+    spent-requires
     commit-refusal-requires
     returns-3)

@@ -38,14 +38,10 @@ returns c =
     let b = r .before .before .before .before in
     rw (b .start-record .ensures) (recover-refused _ _ _ _ (r .recover-refusal .ensures) (c .if1 .taken))
 
-boundary-requires : tie.Need-boundary-requires
-boundary-requires c κs = let k = checked (c .before) in (k .sizes-ok, k .in-nvm)
-
-make-stores-requires : tie.Need-make-stores-requires
-make-stores-requires c κs =
-    let b = c .before in
-    let k = checked (b .before .before) in
-    (k .sizes-ok, k .in-nvm, b .boundary .ensures)
+recover-nvm-requires : tie.Need-recover-nvm-requires
+recover-nvm-requires c κs =
+    let k = checked (c .before) in
+    (k .sizes-ok, k .in-nvm)
 
 same-length-4 : tie.Need-same-length-4
 same-length-4 c = search needs
@@ -59,23 +55,23 @@ same-length-6 c = search needs
 returns-2 : tie.Need-returns-2
 returns-2 c =
     let m = c .before .before .before .before in
-    let e = m .before .before .before .before in
+    let e = m .before .before in
     let r = e .before in
     let b = r .before .before .before .before in
-    rw (b .start-record .ensures) (recover-cut _ _ _ _ (r .recover-refusal .ensures) (e .if1 .left) _ (m .make-stores .ensures .1 .0) _ (m .make-stores .ensures .1 .1) (c .if2 .taken))
+    rw (b .start-record .ensures) (recover-cut _ _ _ _ (r .recover-refusal .ensures) (e .if1 .left) _ (m .recover-nvm .ensures .1 .1 .0) _ (m .recover-nvm .ensures .1 .1 .1) (c .if2 .taken))
 
 refill-requires : tie.Need-refill-requires
 refill-requires c κs =
     let m = c .before .before .before .before .before .before .before in
-    let k = checked (m .before .before .before .before) in
-    (recovered-long _ _ _ _ (m .make-stores .ensures .1 .1) ∙ k .in-nvm ∙ sym (k .in-cache), k .in-flags ∙ sym (k .in-cache))
+    let k = checked (m .before .before) in
+    (recovered-long _ _ _ _ (m .recover-nvm .ensures .1 .1 .1) ∙ k .in-nvm ∙ sym (k .in-cache), k .in-flags ∙ sym (k .in-cache))
 
 slice-read-start-record : tie.Need-slice-read-start-record
 unfolding imageLength
 slice-read-start-record c =
     let m = c .before .before .before .before .before .before .before .before .before .before .before .before .before in
-    let k = checked (m .before .before .before .before) in
-    omega (arith, recovered-long _ _ _ _ (m .make-stores .ensures .1 .1), k .in-nvm)
+    let k = checked (m .before .before) in
+    omega (arith, recovered-long _ _ _ _ (m .recover-nvm .ensures .1 .1 .1), k .in-nvm)
 
 start-record-requires-2 : tie.Need-start-record-requires-2
 start-record-requires-2 c κs = search needs
@@ -94,10 +90,10 @@ returns-3 c =
     let f = c .before .before .before .before .before .before in
     let n = f .before .before .before .before in
     let m = n .before .before .before .before in
-    let b = m .before .before in
-    let e = b .before .before in
+    let e = m .before .before in
     let r = e .before in
-    recover-finished _ _ _ _ (r .recover-refusal .ensures) (e .if1 .left) _ (m .make-stores .ensures .1 .0) _ _ _ _ _ _ (b .boundary .ensures) (m .make-stores .ensures .0) (m .make-stores .ensures .1 .1) (c .start-record2 .ensures) (f .refill .ensures .0) (f .refill .ensures .1 ∙ ap (λ n. replicate n 0) (checked e .in-cache)) (n .if2 .left)
+    let d = m .recover-nvm .ensures in
+    recover-finished _ _ _ _ (r .recover-refusal .ensures) (e .if1 .left) _ (d .1 .1 .0) _ _ _ _ _ _ (d .0) (d .1 .0) (d .1 .1 .1) (c .start-record2 .ensures) (f .refill .ensures .0) (f .refill .ensures .1 ∙ ap (λ n. replicate n 0) (checked e .in-cache)) (n .if2 .left)
 
 pub recover-spec : {M : Type 1} → statement M
 recover-spec =
@@ -109,8 +105,7 @@ recover-spec =
     same-length-2
     same-length-3
     returns
-    boundary-requires
-    make-stores-requires
+    recover-nvm-requires
     same-length-4
     same-length-5
     same-length-6

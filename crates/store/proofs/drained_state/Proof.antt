@@ -10,23 +10,12 @@ use Rattle.store.proofs.drained_state.Tie as tie
 latest-in-requires : tie.Need-latest-in-requires
 latest-in-requires c κs = search needs
 
-lane-of-requires : tie.Need-lane-of-requires
-lane-of-requires c κs = let s = c .before .before in lane-small _ _ (s .pre .0) (s .pre .2)
-
-drained-lane-requires : tie.Need-drained-lane-requires
-drained-lane-requires c κs = search needs
-
-with-lane-requires : tie.Need-with-lane-requires
-with-lane-requires c κs = let s = c .before .before .before .before in lane-small _ _ (s .pre .0) (s .pre .2)
+drained-requires : tie.Need-drained-requires
+drained-requires c κs = let s = c .before .before in lane-small _ _ (s .pre .0) (s .pre .2)
 
 returns : tie.Need-returns
 unfolding drainedState
-returns c =
-    let d = c .before in
-    let l = d .before in
-    c .with-lane .ensures ∙ rw (d .drained-lane .ensures, l .lane-of .ensures, l .before .latest-in .ensures)
+returns c = c .drained .ensures ∙ rw (c .before .latest-in .ensures)
 
 pub drained-state-spec : {M : Type 1} → statement M
-drained-state-spec =
-    tie.close
-    (tie.spec latest-in-requires lane-of-requires drained-lane-requires with-lane-requires returns)
+drained-state-spec = tie.close (tie.spec latest-in-requires drained-requires returns)

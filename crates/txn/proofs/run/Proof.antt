@@ -3,16 +3,15 @@ use Prim.Native.Nat.{_≤_, _-_}
 use borrow.Author.Needs.{needs}
 use Rattle.txn.specs.Txn.{instructionAt}
 use Rattle.txn.specs.Progress.{Reached}
-use Rattle.txn.specs.CheckLaws.{ok-few}
-use Rattle.txn.specs.ProgressLaws.{reached-none, reached-more, reached-all, reached-room, reached-low}
+use Rattle.txn.specs.ProgressLaws.{reached-none, reached-all, reached-b, reached-skip, reached-target, reached-write}
 use Rattle.txn.proofs.run.Statement.{statement}
 use Rattle.txn.proofs.run.Tie as tie
 
 abbrev Inv-loop : tie.InvT-loop
-Inv-loop txn memory progress₀ i₀ i-end progress i = (i ≤ i-end) × Reached 16 txn memory i-end i progress
+Inv-loop txn memory list₀ words₀ news₀ last₀ count₀ end i₀ list words news last count i = (i ≤ end) × Reached 16 txn memory end i list words news last count
 
 abbrev μ-loop : tie.MeasureT-loop
-μ-loop txn memory progress₀ i₀ i-end progress i = i-end - i
+μ-loop txn memory list₀ words₀ news₀ last₀ count₀ end i₀ list words news last count i = end - i
 
 loop-holds : tie.Need-loop-holds Inv-loop μ-loop
 loop-holds c = (search needs, reached-none _ _ _ (c .before .before .pre))
@@ -20,58 +19,124 @@ loop-holds c = (search needs, reached-none _ _ _ (c .before .before .pre))
 mul-at : tie.Need-mul-at Inv-loop μ-loop
 mul-at c = search needs
 
-mul-step : tie.Need-mul-step Inv-loop μ-loop
-mul-step c = search needs
-
-shared-slice-read-step : tie.Need-shared-slice-read-step Inv-loop μ-loop
-shared-slice-read-step c = search needs
-
-add-step : tie.Need-add-step Inv-loop μ-loop
-add-step c = search needs
-
-mul-step-2 : tie.Need-mul-step-2 Inv-loop μ-loop
-mul-step-2 c = search needs
-
-shared-slice-read-step-2 : tie.Need-shared-slice-read-step-2 Inv-loop μ-loop
-shared-slice-read-step-2 c = search needs
-
-add-step-2 : tie.Need-add-step-2 Inv-loop μ-loop
-add-step-2 c = search needs
-
-mul-step-3 : tie.Need-mul-step-3 Inv-loop μ-loop
-mul-step-3 c = search needs
-
-shared-slice-read-step-3 : tie.Need-shared-slice-read-step-3 Inv-loop μ-loop
-shared-slice-read-step-3 c = search needs
-
-add-step-3 : tie.Need-add-step-3 Inv-loop μ-loop
-add-step-3 c = search needs
-
-mul-step-4 : tie.Need-mul-step-4 Inv-loop μ-loop
-mul-step-4 c = search needs
-
-shared-slice-read-step-4 : tie.Need-shared-slice-read-step-4 Inv-loop μ-loop
-shared-slice-read-step-4 c = search needs
-
-step-requires : tie.Need-step-requires Inv-loop μ-loop
-step-requires c κs = let l = c .before .before .before .before .before in
-    let few = ok-few _ _ _ (l .before .before .before .pre) in
-    let low = reached-low _ _ _ _ _ _ (l .loop .inv .1) (search needs) few in
-    (reached-room _ _ _ _ _ _ (l .loop .inv .1) (search needs) few, low .0, low .1)
-
 add-i : tie.Need-add-i Inv-loop μ-loop
 add-i c = search needs
+
+mul-code : tie.Need-mul-code Inv-loop μ-loop
+mul-code c = search needs
+
+shared-slice-read-code : tie.Need-shared-slice-read-code Inv-loop μ-loop
+shared-slice-read-code c = search needs
+
+add-k : tie.Need-add-k Inv-loop μ-loop
+add-k c = search needs
+
+mul-k : tie.Need-mul-k Inv-loop μ-loop
+mul-k c = search needs
+
+shared-slice-read-k : tie.Need-shared-slice-read-k Inv-loop μ-loop
+shared-slice-read-k c = search needs
+
+add-value : tie.Need-add-value Inv-loop μ-loop
+add-value c = search needs
+
+mul-value : tie.Need-mul-value Inv-loop μ-loop
+mul-value c = search needs
+
+shared-slice-read-value : tie.Need-shared-slice-read-value Inv-loop μ-loop
+shared-slice-read-value c = search needs
+
+value-requires : tie.Need-value-requires Inv-loop μ-loop
+unfolding instructionAt
+value-requires c κs = let e = c .before .before .before .before .before .before in
+    reached-b (e .before .loop .inv .1) (e .loop-test .taken)
+
+distance-requires : tie.Need-distance-requires Inv-loop μ-loop
+distance-requires c κs = search needs
+
+add-i-2 : tie.Need-add-i-2 Inv-loop μ-loop
+unfolding instructionAt
+add-i-2 c = let v = c .before .before in
+    let e = v .before .before .before .before .before .before .before in
+    let s = reached-skip (e .before .loop .inv .1) (e .loop-test .taken) _ (v .value .ensures) (c .before .if1 .taken) _ (c .distance .ensures) in
+    search needs
 
 loop-less : tie.Need-loop-less Inv-loop μ-loop
 loop-less c = search needs
 
 loop-again : tie.Need-loop-again Inv-loop μ-loop
 unfolding instructionAt
-loop-again c = let l = c .before .before .before .before .before .before in
-    (search needs, reached-more _ _ _ _ _ _ (l .loop .inv .1) (search needs) (ok-few _ _ _ (l .before .before .before .pre)) _ (c .step .ensures))
+loop-again c = let v = c .before .before in
+    let e = v .before .before .before .before .before .before .before in
+    reached-skip (e .before .loop .inv .1) (e .loop-test .taken) _ (v .value .ensures) (c .before .if1 .taken) _ (c .distance .ensures)
+
+add-target : tie.Need-add-target Inv-loop μ-loop
+add-target c = search needs
+
+mul-target : tie.Need-mul-target Inv-loop μ-loop
+mul-target c = search needs
+
+shared-slice-read-target : tie.Need-shared-slice-read-target Inv-loop μ-loop
+shared-slice-read-target c = search needs
+
+target-requires : tie.Need-target-requires Inv-loop μ-loop
+target-requires c κs = let e = c .before .before .before .before .before .before .before .before .before in
+    let b = reached-b (e .before .loop .inv .1) (e .loop-test .taken) in
+    search needs
+
+value-requires-2 : tie.Need-value-requires-2 Inv-loop μ-loop
+unfolding instructionAt
+value-requires-2 c κs = let t = c .before .before .before in
+    let v = t .before .before .before in
+    let e = v .before .before .before .before .before .before .before in
+    reached-target (e .before .loop .inv .1) (e .loop-test .taken) _ (v .value .ensures) (t .before .before .if1 .left) _ (t .target .ensures)
+
+result-requires : tie.Need-result-requires Inv-loop μ-loop
+result-requires c κs = search needs
+
+mul-list : tie.Need-mul-list Inv-loop μ-loop
+mul-list c = search needs
+
+array-set-from-list : tie.Need-array-set-from-list Inv-loop μ-loop
+array-set-from-list c = search needs
+
+mul-words : tie.Need-mul-words Inv-loop μ-loop
+mul-words c = search needs
+
+array-write-words : tie.Need-array-write-words Inv-loop μ-loop
+array-write-words c = search needs
+
+mul-news : tie.Need-mul-news Inv-loop μ-loop
+mul-news c = search needs
+
+array-write-news : tie.Need-array-write-news Inv-loop μ-loop
+array-write-news c = search needs
+
+add-count : tie.Need-add-count Inv-loop μ-loop
+add-count c = search needs
+
+cast-last : tie.Need-cast-last Inv-loop μ-loop
+cast-last c = search needs
+
+array-write-last : tie.Need-array-write-last Inv-loop μ-loop
+array-write-last c = search needs
+
+loop-less-2 : tie.Need-loop-less-2 Inv-loop μ-loop
+loop-less-2 c = search needs
+
+loop-again-2 : tie.Need-loop-again-2 Inv-loop μ-loop
+unfolding instructionAt
+loop-again-2 c = let o = c .before in
+    let t = o .before .before .before .before in
+    let v = t .before .before .before in
+    let e = v .before .before .before .before .before .before .before in (
+      search needs,
+      reached-write (e .before .loop .inv .1) (e .loop-test .taken) _ (v .value .ensures) (t .before .before .if1 .left) _ (t .target .ensures)
+          _ _ (o .value2 .ensures) (c .result .ensures),
+    )
 
 returns : tie.Need-returns Inv-loop μ-loop
-returns c = reached-all _ _ _ _ _ _ (c .before .before .loop .inv .1) (search needs)
+returns c = reached-all (c .before .loop .inv .1) (c .loop-test .left)
 
 pub run-spec : {M : Type 1} → statement M
 run-spec =
@@ -81,19 +146,35 @@ run-spec =
     μ-loop
     loop-holds
     mul-at
-    mul-step
-    shared-slice-read-step
-    add-step
-    mul-step-2
-    shared-slice-read-step-2
-    add-step-2
-    mul-step-3
-    shared-slice-read-step-3
-    add-step-3
-    mul-step-4
-    shared-slice-read-step-4
-    step-requires
     add-i
+    mul-code
+    shared-slice-read-code
+    add-k
+    mul-k
+    shared-slice-read-k
+    add-value
+    mul-value
+    shared-slice-read-value
+    value-requires
+    distance-requires
+    add-i-2
     loop-less
     loop-again
+    add-target
+    mul-target
+    shared-slice-read-target
+    target-requires
+    value-requires-2
+    result-requires
+    mul-list
+    array-set-from-list
+    mul-words
+    array-write-words
+    mul-news
+    array-write-news
+    add-count
+    cast-last
+    array-write-last
+    loop-less-2
+    loop-again-2
     returns)

@@ -1,94 +1,177 @@
--- `fields::record_from` is `recordOf`: the loop has the lanes below `l`.
+-- `fields::record_from` is `recordOf`: its lanes, each from its 40 words, are `lanesFrom`.
 -- Assumes nothing.
-use mathlib.Core.Path.{refl, ap, _∙_}
-use Prim.Native.Nat.{_≤_, _-_, _+_, _*_}
+use mathlib.Core.Path.{ap}
+use mathlib.Core.List.{List}
 use native.Mathlib.Omega.{arith}
-use lib.ListN.{drop}
+use lib.ListN.{getD}
 use borrow.Author.Needs.{needs}
-use Rattle.abi.specs.Fields.{laneOf, lanesFrom, recordOf}
-use Rattle.abi.specs.FieldsLaws.{Begun, lanes-begun, lanes-on, lanes-done, tail-is}
+use Rattle.record.specs.declared.Lane.{Lane}
+use Rattle.abi.specs.Fields.{recordOf}
+use Rattle.abi.specs.FieldsLaws.{lane-long, lane-next, no-lanes}
 use Rattle.abi.proofs.fields.record_from.Statement.{statement}
 use Rattle.abi.proofs.fields.record_from.Tie as tie
 
-abbrev Inv-loop : tie.InvT-loop
-Inv-loop words lanes₀ l₀ lanes l = (l ≤ 8) × (Begun 8 (lanesFrom l (drop 2 words)) l lanes)
+shared-slice-read-t3 : tie.Need-shared-slice-read-t3
+shared-slice-read-t3 c = search needs
 
-abbrev μ-loop : tie.MeasureT-loop
-μ-loop words lanes₀ l₀ lanes l = 8 - l
+shared-slice-read-t5 : tie.Need-shared-slice-read-t5
+shared-slice-read-t5 c = search needs
 
-start-lane-requires : tie.Need-start-lane-requires Inv-loop μ-loop
-start-lane-requires c κs = search needs
-
-loop-holds : tie.Need-loop-holds Inv-loop μ-loop
-loop-holds c = (search needs, lanes-begun _ _ refl)
-
-mul-lane-from : tie.Need-mul-lane-from Inv-loop μ-loop
-mul-lane-from c = search needs
-
-add-lane-from : tie.Need-add-lane-from Inv-loop μ-loop
-add-lane-from c = search needs
-
-mul-lane-from-2 : tie.Need-mul-lane-from-2 Inv-loop μ-loop
-mul-lane-from-2 c = search needs
-
-sub-lane-from : tie.Need-sub-lane-from Inv-loop μ-loop
+sub-lane-from : tie.Need-sub-lane-from
 sub-lane-from c = search needs
 
-part-lane-from-start : tie.Need-part-lane-from-start Inv-loop μ-loop
+part-lane-from-start : tie.Need-part-lane-from-start
 part-lane-from-start c = search needs
 
-part-lane-from-end : tie.Need-part-lane-from-end Inv-loop μ-loop
+part-lane-from-end : tie.Need-part-lane-from-end
 part-lane-from-end c = search needs
 
-lane-from-requires : tie.Need-lane-from-requires Inv-loop μ-loop
+lane-from-requires : tie.Need-lane-from-requires
 lane-from-requires c κs = search needs
 
-mul-lanes : tie.Need-mul-lanes Inv-loop μ-loop
-mul-lanes c = search needs
+sub-lane-from-2 : tie.Need-sub-lane-from-2
+sub-lane-from-2 c = search needs
 
-array-set-from-lanes : tie.Need-array-set-from-lanes Inv-loop μ-loop
-array-set-from-lanes c = search needs
+part-lane-from-start-2 : tie.Need-part-lane-from-start-2
+part-lane-from-start-2 c = search needs
 
-add-l : tie.Need-add-l Inv-loop μ-loop
-add-l c = search needs
+part-lane-from-end-2 : tie.Need-part-lane-from-end-2
+part-lane-from-end-2 c = search needs
 
-loop-less : tie.Need-loop-less Inv-loop μ-loop
-loop-less c = search needs
+lane-from-requires-2 : tie.Need-lane-from-requires-2
+lane-from-requires-2 c κs = search needs
 
-loop-again : tie.Need-loop-again Inv-loop μ-loop
-loop-again c = let l = c .before .before .before .loop in let w = c .before .before .before .before .before .before .args .words .now in
-    (search needs, lanes-on w _ _ _ (l .inv .1) (search needs) (c .lane-from .ensures ∙ ap laneOf (tail-is (2 + 40 * l .l) w)))
+sub-lane-from-3 : tie.Need-sub-lane-from-3
+sub-lane-from-3 c = search needs
 
-shared-slice-read-t18 : tie.Need-shared-slice-read-t18 Inv-loop μ-loop
-shared-slice-read-t18 c = search needs
+part-lane-from-start-3 : tie.Need-part-lane-from-start-3
+part-lane-from-start-3 c = search needs
 
-shared-slice-read-t20 : tie.Need-shared-slice-read-t20 Inv-loop μ-loop
-shared-slice-read-t20 c = search needs
+part-lane-from-end-3 : tie.Need-part-lane-from-end-3
+part-lane-from-end-3 c = search needs
 
-returns : tie.Need-returns Inv-loop μ-loop
+lane-from-requires-3 : tie.Need-lane-from-requires-3
+lane-from-requires-3 c κs = search needs
+
+sub-lane-from-4 : tie.Need-sub-lane-from-4
+sub-lane-from-4 c = search needs
+
+part-lane-from-start-4 : tie.Need-part-lane-from-start-4
+part-lane-from-start-4 c = search needs
+
+part-lane-from-end-4 : tie.Need-part-lane-from-end-4
+part-lane-from-end-4 c = search needs
+
+lane-from-requires-4 : tie.Need-lane-from-requires-4
+lane-from-requires-4 c κs = search needs
+
+sub-lane-from-5 : tie.Need-sub-lane-from-5
+sub-lane-from-5 c = search needs
+
+part-lane-from-start-5 : tie.Need-part-lane-from-start-5
+part-lane-from-start-5 c = search needs
+
+part-lane-from-end-5 : tie.Need-part-lane-from-end-5
+part-lane-from-end-5 c = search needs
+
+lane-from-requires-5 : tie.Need-lane-from-requires-5
+lane-from-requires-5 c κs = search needs
+
+sub-lane-from-6 : tie.Need-sub-lane-from-6
+sub-lane-from-6 c = search needs
+
+part-lane-from-start-6 : tie.Need-part-lane-from-start-6
+part-lane-from-start-6 c = search needs
+
+part-lane-from-end-6 : tie.Need-part-lane-from-end-6
+part-lane-from-end-6 c = search needs
+
+lane-from-requires-6 : tie.Need-lane-from-requires-6
+lane-from-requires-6 c κs = let s = c .before .before .before .before .before .before .before .before .before .before .before .before .before .before in lane-long (s .args .words .now) 202 (omega (arith, s .pre))
+
+sub-lane-from-7 : tie.Need-sub-lane-from-7
+sub-lane-from-7 c = omega (arith, c .before .before .before .before .before .before .before .before .before .before .before .before .before .before .before .pre)
+
+part-lane-from-start-7 : tie.Need-part-lane-from-start-7
+part-lane-from-start-7 c = omega (arith, c .before .before .before .before .before .before .before .before .before .before .before .before .before .before .before .pre)
+
+part-lane-from-end-7 : tie.Need-part-lane-from-end-7
+part-lane-from-end-7 c = search needs
+
+lane-from-requires-7 : tie.Need-lane-from-requires-7
+lane-from-requires-7 c κs = let s = c .before .before .before .before .before .before .before .before .before .before .before .before .before .before .before .before in lane-long (s .args .words .now) 242 (omega (arith, s .pre))
+
+sub-lane-from-8 : tie.Need-sub-lane-from-8
+sub-lane-from-8 c = omega (arith, c .before .before .before .before .before .before .before .before .before .before .before .before .before .before .before .before .before .pre)
+
+part-lane-from-start-8 : tie.Need-part-lane-from-start-8
+part-lane-from-start-8 c = omega (arith, c .before .before .before .before .before .before .before .before .before .before .before .before .before .before .before .before .before .pre)
+
+part-lane-from-end-8 : tie.Need-part-lane-from-end-8
+part-lane-from-end-8 c = search needs
+
+lane-from-requires-8 : tie.Need-lane-from-requires-8
+lane-from-requires-8 c κs = let s = c .before .before .before .before .before .before .before .before .before .before .before .before .before .before .before .before .before .before in lane-long (s .args .words .now) 282 (omega (arith, s .pre))
+
+returns : tie.Need-returns
 unfolding recordOf
-returns c = let l = c .before .before .before .loop in rw (lanes-done _ _ _ (l .inv .1) (omega arith))
+returns c =
+    let l8 = c in
+    let l7 = l8 .before .before in
+    let l6 = l7 .before .before in
+    let l5 = l6 .before .before in
+    let l4 = l5 .before .before in
+    let l3 = l4 .before .before in
+    let l2 = l3 .before .before in
+    let l1 = l2 .before .before in
+    let w = l1 .before .before .before .before .before .args .words .now in
+    ap (λ (ls : List Lane). record { clock = getD w 0 0; last = getD w 1 0; lanes = ls })
+    (lane-next w 2 7 _ _ (l1 .lane-from .ensures)
+    (lane-next w 42 6 _ _ (l2 .lane-from2 .ensures)
+    (lane-next w 82 5 _ _ (l3 .lane-from3 .ensures)
+    (lane-next w 122 4 _ _ (l4 .lane-from4 .ensures)
+    (lane-next w 162 3 _ _ (l5 .lane-from5 .ensures)
+    (lane-next w 202 2 _ _ (l6 .lane-from6 .ensures)
+    (lane-next w 242 1 _ _ (l7 .lane-from7 .ensures)
+    (lane-next w 282 0 _ _ (l8 .lane-from8 .ensures)
+    (no-lanes _)))))))))
 
 pub record-from-spec : {M : Type 1} → statement M
 record-from-spec =
     tie.close
     (tie.spec
-    Inv-loop
-    μ-loop
-    start-lane-requires
-    loop-holds
-    mul-lane-from
-    add-lane-from
-    mul-lane-from-2
+    shared-slice-read-t3
+    shared-slice-read-t5
     sub-lane-from
     part-lane-from-start
     part-lane-from-end
     lane-from-requires
-    mul-lanes
-    array-set-from-lanes
-    add-l
-    loop-less
-    loop-again
-    shared-slice-read-t18
-    shared-slice-read-t20
+    sub-lane-from-2
+    part-lane-from-start-2
+    part-lane-from-end-2
+    lane-from-requires-2
+    sub-lane-from-3
+    part-lane-from-start-3
+    part-lane-from-end-3
+    lane-from-requires-3
+    sub-lane-from-4
+    part-lane-from-start-4
+    part-lane-from-end-4
+    lane-from-requires-4
+    sub-lane-from-5
+    part-lane-from-start-5
+    part-lane-from-end-5
+    lane-from-requires-5
+    sub-lane-from-6
+    part-lane-from-start-6
+    part-lane-from-end-6
+    lane-from-requires-6
+    sub-lane-from-7
+    part-lane-from-start-7
+    part-lane-from-end-7
+    lane-from-requires-7
+    sub-lane-from-8
+    part-lane-from-start-8
+    part-lane-from-end-8
+    lane-from-requires-8
     returns)

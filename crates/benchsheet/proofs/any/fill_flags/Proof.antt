@@ -5,10 +5,13 @@ use Rattle.benchsheet.proofs.any.fill_flags.Statement.{statement}
 use Rattle.benchsheet.proofs.any.fill_flags.Tie as tie
 
 abbrev Inv-loop : tie.InvT-loop
-Inv-loop seed₀ length flags₀ i₀ seed flags i = Unit
+Inv-loop bench₀ i₀ i-end bench i = Unit
 
 abbrev μ-loop : tie.MeasureT-loop
-μ-loop seed₀ length flags₀ i₀ seed flags i = length - i
+μ-loop bench₀ i₀ i-end bench i = i-end - i
+
+length-requires : tie.Need-length-requires Inv-loop μ-loop
+length-requires c κs = search needs
 
 loop-holds : tie.Need-loop-holds Inv-loop μ-loop
 loop-holds c = search needs
@@ -19,8 +22,8 @@ draw-requires c κs = search needs
 draw-requires-2 : tie.Need-draw-requires-2 Inv-loop μ-loop
 draw-requires-2 c κs = search needs
 
-put-byte-requires : tie.Need-put-byte-requires Inv-loop μ-loop
-put-byte-requires c κs = search needs
+put-requires : tie.Need-put-requires Inv-loop μ-loop
+put-requires c κs = search needs
 
 add-i : tie.Need-add-i Inv-loop μ-loop
 add-i c = search needs
@@ -40,10 +43,11 @@ fill-flags-spec =
     (tie.spec
     Inv-loop
     μ-loop
+    length-requires
     loop-holds
     draw-requires
     draw-requires-2
-    put-byte-requires
+    put-requires
     add-i
     loop-less
     loop-again

@@ -5,25 +5,25 @@ use Rattle.benchsheet.proofs.any.fill_image.Statement.{statement}
 use Rattle.benchsheet.proofs.any.fill_image.Tie as tie
 
 abbrev Inv-loop : tie.InvT-loop
-Inv-loop seed₀ shape image₀ i₀ i-end seed image i = Unit
+Inv-loop bench₀ image lane₀ lane-end bench lane = Unit
 
 abbrev μ-loop : tie.MeasureT-loop
-μ-loop seed₀ shape image₀ i₀ i-end seed image i = i-end - i
+μ-loop bench₀ image lane₀ lane-end bench lane = lane-end - lane
+
+fill-data-requires : tie.Need-fill-data-requires Inv-loop μ-loop
+fill-data-requires c κs = search needs
+
+get-requires : tie.Need-get-requires Inv-loop μ-loop
+get-requires c κs = search needs
 
 loop-holds : tie.Need-loop-holds Inv-loop μ-loop
 loop-holds c = search needs
 
-plus-requires : tie.Need-plus-requires Inv-loop μ-loop
-plus-requires c κs = search needs
+fill-log-requires : tie.Need-fill-log-requires Inv-loop μ-loop
+fill-log-requires c κs = search needs
 
-value-requires : tie.Need-value-requires Inv-loop μ-loop
-value-requires c κs = search needs
-
-put-requires : tie.Need-put-requires Inv-loop μ-loop
-put-requires c κs = search needs
-
-add-i : tie.Need-add-i Inv-loop μ-loop
-add-i c = search needs
+add-lane : tie.Need-add-lane Inv-loop μ-loop
+add-lane c = search needs
 
 loop-less : tie.Need-loop-less Inv-loop μ-loop
 loop-less c = search needs
@@ -31,14 +31,11 @@ loop-less c = search needs
 loop-again : tie.Need-loop-again Inv-loop μ-loop
 loop-again c = search needs
 
-fill-logs-requires : tie.Need-fill-logs-requires Inv-loop μ-loop
-fill-logs-requires c κs = search needs
-
 about-stamp-requires : tie.Need-about-stamp-requires Inv-loop μ-loop
 about-stamp-requires c κs = search needs
 
-put-requires-2 : tie.Need-put-requires-2 Inv-loop μ-loop
-put-requires-2 c κs = search needs
+put-requires : tie.Need-put-requires Inv-loop μ-loop
+put-requires c κs = search needs
 
 returns : tie.Need-returns Inv-loop μ-loop
 returns c = search needs
@@ -49,14 +46,13 @@ fill-image-spec =
     (tie.spec
     Inv-loop
     μ-loop
+    fill-data-requires
+    get-requires
     loop-holds
-    plus-requires
-    value-requires
-    put-requires
-    add-i
+    fill-log-requires
+    add-lane
     loop-less
     loop-again
-    fill-logs-requires
     about-stamp-requires
-    put-requires-2
+    put-requires
     returns)

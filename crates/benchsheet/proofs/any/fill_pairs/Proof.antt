@@ -5,22 +5,25 @@ use Rattle.benchsheet.proofs.any.fill_pairs.Statement.{statement}
 use Rattle.benchsheet.proofs.any.fill_pairs.Tie as tie
 
 abbrev Inv-loop : tie.InvT-loop
-Inv-loop seed₀ words record₀ lane i₀ seed «record» i = Unit
+Inv-loop bench₀ lane i₀ bench i = Unit
 
 abbrev μ-loop : tie.MeasureT-loop
-μ-loop seed₀ words record₀ lane i₀ seed «record» i = 16 - i
+μ-loop bench₀ lane i₀ bench i = 16 - i
 
 loop-holds : tie.Need-loop-holds Inv-loop μ-loop
 loop-holds c = search needs
 
-about-requires : tie.Need-about-requires Inv-loop μ-loop
-about-requires c κs = search needs
+about-size-requires : tie.Need-about-size-requires Inv-loop μ-loop
+about-size-requires c κs = search needs
 
 value-requires : tie.Need-value-requires Inv-loop μ-loop
 value-requires c κs = search needs
 
-set-pair-requires : tie.Need-set-pair-requires Inv-loop μ-loop
-set-pair-requires c κs = search needs
+pair-requires : tie.Need-pair-requires Inv-loop μ-loop
+pair-requires c κs = search needs
+
+set-row-requires : tie.Need-set-row-requires Inv-loop μ-loop
+set-row-requires c κs = search needs
 
 add-i : tie.Need-add-i Inv-loop μ-loop
 add-i c = search needs
@@ -41,9 +44,10 @@ fill-pairs-spec =
     Inv-loop
     μ-loop
     loop-holds
-    about-requires
+    about-size-requires
     value-requires
-    set-pair-requires
+    pair-requires
+    set-row-requires
     add-i
     loop-less
     loop-again

@@ -5,22 +5,22 @@ use Rattle.benchsheet.proofs.any.fill_record.Statement.{statement}
 use Rattle.benchsheet.proofs.any.fill_record.Tie as tie
 
 abbrev Inv-loop : tie.InvT-loop
-Inv-loop seed₀ shape words₀ lane₀ seed words lane = Unit
+Inv-loop bench₀ clock last lane₀ bench lane = Unit
 
 abbrev μ-loop : tie.MeasureT-loop
-μ-loop seed₀ shape words₀ lane₀ seed words lane = 8 - lane
+μ-loop bench₀ clock last lane₀ bench lane = 8 - lane
+
+clear-requires : tie.Need-clear-requires Inv-loop μ-loop
+clear-requires c κs = search needs
 
 clock-requires : tie.Need-clock-requires Inv-loop μ-loop
 clock-requires c κs = search needs
 
-put-requires : tie.Need-put-requires Inv-loop μ-loop
-put-requires c κs = search needs
-
 about-stamp-requires : tie.Need-about-stamp-requires Inv-loop μ-loop
 about-stamp-requires c κs = search needs
 
-put-requires-2 : tie.Need-put-requires-2 Inv-loop μ-loop
-put-requires-2 c κs = search needs
+set-time-requires : tie.Need-set-time-requires Inv-loop μ-loop
+set-time-requires c κs = search needs
 
 loop-holds : tie.Need-loop-holds Inv-loop μ-loop
 loop-holds c = search needs
@@ -46,10 +46,10 @@ fill-record-spec =
     (tie.spec
     Inv-loop
     μ-loop
+    clear-requires
     clock-requires
-    put-requires
     about-stamp-requires
-    put-requires-2
+    set-time-requires
     loop-holds
     fill-lane-requires
     add-lane

@@ -5,10 +5,13 @@ use Rattle.benchsheet.proofs.any.mix.Statement.{statement}
 use Rattle.benchsheet.proofs.any.mix.Tie as tie
 
 abbrev Inv-loop : tie.InvT-loop
-Inv-loop seed₀ length cache nvm₀ i₀ seed nvm i = Unit
+Inv-loop bench₀ i₀ i-end bench i = Unit
 
 abbrev μ-loop : tie.MeasureT-loop
-μ-loop seed₀ length cache nvm₀ i₀ seed nvm i = length - i
+μ-loop bench₀ i₀ i-end bench i = i-end - i
+
+length-requires : tie.Need-length-requires Inv-loop μ-loop
+length-requires c κs = search needs
 
 loop-holds : tie.Need-loop-holds Inv-loop μ-loop
 loop-holds c = search needs
@@ -16,11 +19,8 @@ loop-holds c = search needs
 once-in-requires : tie.Need-once-in-requires Inv-loop μ-loop
 once-in-requires c κs = search needs
 
-get-requires : tie.Need-get-requires Inv-loop μ-loop
-get-requires c κs = search needs
-
-put-requires : tie.Need-put-requires Inv-loop μ-loop
-put-requires c κs = search needs
+move-word-requires : tie.Need-move-word-requires Inv-loop μ-loop
+move-word-requires c κs = search needs
 
 add-i : tie.Need-add-i Inv-loop μ-loop
 add-i c = search needs
@@ -40,10 +40,10 @@ mix-spec =
     (tie.spec
     Inv-loop
     μ-loop
+    length-requires
     loop-holds
     once-in-requires
-    get-requires
-    put-requires
+    move-word-requires
     add-i
     loop-less
     loop-again

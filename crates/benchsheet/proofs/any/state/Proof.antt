@@ -5,37 +5,16 @@ use Rattle.benchsheet.proofs.any.state.Statement.{statement}
 use Rattle.benchsheet.proofs.any.state.Tie as tie
 
 abbrev Inv-loop : tie.InvT-loop
-Inv-loop seed₀ tally₀ length cache₀ nvm₀ flags₀ session₀ counter₀ seed tally cache nvm flags session counter = Unit
+Inv-loop bench₀ counter₀ bench counter = Unit
 
 abbrev μ-loop : tie.MeasureT-loop
-μ-loop seed₀ tally₀ length cache₀ nvm₀ flags₀ session₀ counter₀ seed tally cache nvm flags session counter = 6 - counter
+μ-loop bench₀ counter₀ bench counter = 6 - counter
 
-shape-requires : tie.Need-shape-requires Inv-loop μ-loop
-shape-requires c κs = search needs
+fill-buffers-requires : tie.Need-fill-buffers-requires Inv-loop μ-loop
+fill-buffers-requires c κs = search needs
 
-length-requires : tie.Need-length-requires Inv-loop μ-loop
-length-requires c κs = search needs
-
-fill-image-requires : tie.Need-fill-image-requires Inv-loop μ-loop
-fill-image-requires c κs = search needs
-
-fill-image-requires-2 : tie.Need-fill-image-requires-2 Inv-loop μ-loop
-fill-image-requires-2 c κs = search needs
-
-once-in-requires : tie.Need-once-in-requires Inv-loop μ-loop
-once-in-requires c κs = search needs
-
-mix-requires : tie.Need-mix-requires Inv-loop μ-loop
-mix-requires c κs = search needs
-
-fill-flags-requires : tie.Need-fill-flags-requires Inv-loop μ-loop
-fill-flags-requires c κs = search needs
-
-any-record-requires : tie.Need-any-record-requires Inv-loop μ-loop
-any-record-requires c κs = search needs
-
-plain-requires : tie.Need-plain-requires Inv-loop μ-loop
-plain-requires c κs = search needs
+fill-record-requires : tie.Need-fill-record-requires Inv-loop μ-loop
+fill-record-requires c κs = search needs
 
 loop-holds : tie.Need-loop-holds Inv-loop μ-loop
 loop-holds c = search needs
@@ -61,15 +40,8 @@ state-spec =
     (tie.spec
     Inv-loop
     μ-loop
-    shape-requires
-    length-requires
-    fill-image-requires
-    fill-image-requires-2
-    once-in-requires
-    mix-requires
-    fill-flags-requires
-    any-record-requires
-    plain-requires
+    fill-buffers-requires
+    fill-record-requires
     loop-holds
     any-call-requires
     add-counter

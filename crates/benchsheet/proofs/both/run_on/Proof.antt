@@ -5,41 +5,44 @@ use borrow.Author.Needs.{needs}
 use Rattle.benchsheet.proofs.both.run_on.Statement.{statement}
 use Rattle.benchsheet.proofs.both.run_on.Tie as tie
 
-shorter-requires : tie.Need-shorter-requires
-shorter-requires c κs = search needs
+length-requires : tie.Need-length-requires
+length-requires c κs = search needs
 
-shorter-requires-2 : tie.Need-shorter-requires-2
-shorter-requires-2 c κs = search needs
+length-requires-2 : tie.Need-length-requires-2
+length-requires-2 c κs = search needs
 
-shorter-requires-3 : tie.Need-shorter-requires-3
-shorter-requires-3 c κs = search needs
+length-requires-3 : tie.Need-length-requires-3
+length-requires-3 c κs = search needs
 
-shorter-requires-4 : tie.Need-shorter-requires-4
-shorter-requires-4 c κs = search needs
+length-requires-4 : tie.Need-length-requires-4
+length-requires-4 c κs = search needs
 
-slice-relend-prefix-run : tie.Need-slice-relend-prefix-run
-slice-relend-prefix-run c = search needs
+slice-relend-prefix-run-in : tie.Need-slice-relend-prefix-run-in
+slice-relend-prefix-run-in c = search needs
 
-slice-aggregate-run : tie.Need-slice-aggregate-run
-slice-aggregate-run c = simp length-take (omega arith)
+slice-aggregate-run-in : tie.Need-slice-aggregate-run-in
+slice-aggregate-run-in c = simp length-take (omega arith)
 
-slice-relend-prefix-run-2 : tie.Need-slice-relend-prefix-run-2
-slice-relend-prefix-run-2 c = search needs
+slice-relend-prefix-run-in-2 : tie.Need-slice-relend-prefix-run-in-2
+slice-relend-prefix-run-in-2 c = search needs
 
-slice-aggregate-run-2 : tie.Need-slice-aggregate-run-2
-slice-aggregate-run-2 c = simp length-take (omega arith)
+slice-aggregate-run-in-2 : tie.Need-slice-aggregate-run-in-2
+slice-aggregate-run-in-2 c = simp length-take (omega arith)
 
-slice-relend-prefix-run-3 : tie.Need-slice-relend-prefix-run-3
-slice-relend-prefix-run-3 c = search needs
+slice-relend-prefix-run-in-3 : tie.Need-slice-relend-prefix-run-in-3
+slice-relend-prefix-run-in-3 c = search needs
 
-slice-aggregate-run-3 : tie.Need-slice-aggregate-run-3
-slice-aggregate-run-3 c = simp length-take (omega arith)
+slice-aggregate-run-in-3 : tie.Need-slice-aggregate-run-in-3
+slice-aggregate-run-in-3 c = simp length-take (omega arith)
 
-slice-aggregate-run-4 : tie.Need-slice-aggregate-run-4
-slice-aggregate-run-4 c = simp length-take (omega arith)
+slice-relend-prefix-run-in-4 : tie.Need-slice-relend-prefix-run-in-4
+slice-relend-prefix-run-in-4 c = search needs
 
-run-requires : tie.Need-run-requires
-run-requires c κs = search needs
+slice-aggregate-run-in-4 : tie.Need-slice-aggregate-run-in-4
+slice-aggregate-run-in-4 c = simp length-take (omega arith)
+
+run-in-requires : tie.Need-run-in-requires
+run-in-requires c κs = search needs
 
 same-length : tie.Need-same-length
 same-length c = search needs
@@ -50,6 +53,9 @@ same-length-2 c = search needs
 same-length-3 : tie.Need-same-length-3
 same-length-3 c = search needs
 
+same-length-4 : tie.Need-same-length-4
+same-length-4 c = search needs
+
 returns : tie.Need-returns
 returns c = search needs
 
@@ -57,19 +63,21 @@ pub run-on-spec : {M : Type 1} → statement M
 run-on-spec =
     tie.close
     (tie.spec
-    shorter-requires
-    shorter-requires-2
-    shorter-requires-3
-    shorter-requires-4
-    slice-relend-prefix-run
-    slice-aggregate-run
-    slice-relend-prefix-run-2
-    slice-aggregate-run-2
-    slice-relend-prefix-run-3
-    slice-aggregate-run-3
-    slice-aggregate-run-4
-    run-requires
+    length-requires
+    length-requires-2
+    length-requires-3
+    length-requires-4
+    slice-relend-prefix-run-in
+    slice-aggregate-run-in
+    slice-relend-prefix-run-in-2
+    slice-aggregate-run-in-2
+    slice-relend-prefix-run-in-3
+    slice-aggregate-run-in-3
+    slice-relend-prefix-run-in-4
+    slice-aggregate-run-in-4
+    run-in-requires
     same-length
     same-length-2
     same-length-3
+    same-length-4
     returns)

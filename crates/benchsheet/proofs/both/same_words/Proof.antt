@@ -5,10 +5,10 @@ use Rattle.benchsheet.proofs.both.same_words.Statement.{statement}
 use Rattle.benchsheet.proofs.both.same_words.Tie as tie
 
 abbrev Inv-loop : tie.InvT-loop
-Inv-loop a b i₀ i-end i = Unit
+Inv-loop bench region words i₀ i-end i = Unit
 
 abbrev μ-loop : tie.MeasureT-loop
-μ-loop a b i₀ i-end i = i-end - i
+μ-loop bench region words i₀ i-end i = i-end - i
 
 loop-holds : tie.Need-loop-holds Inv-loop μ-loop
 loop-holds c = search needs

@@ -5,16 +5,13 @@ use Rattle.benchsheet.proofs.causes.lowest.Statement.{statement}
 use Rattle.benchsheet.proofs.causes.lowest.Tie as tie
 
 abbrev Inv-loop : tie.InvT-loop
-Inv-loop set n₀ n = Unit
+Inv-loop set rest₀ n₀ rest n = Unit
 
 abbrev μ-loop : tie.MeasureT-loop
-μ-loop set n₀ n = 11 - n
+μ-loop set rest₀ n₀ rest n = 11 - n
 
 loop-holds : tie.Need-loop-holds Inv-loop μ-loop
 loop-holds c = search needs
-
-has-requires : tie.Need-has-requires Inv-loop μ-loop
-has-requires c κs = search needs
 
 returns : tie.Need-returns Inv-loop μ-loop
 returns c = search needs
@@ -33,5 +30,4 @@ returns-2 c = search needs
 
 pub lowest-spec : {M : Type 1} → statement M
 lowest-spec =
-    tie.close
-    (tie.spec Inv-loop μ-loop loop-holds has-requires returns add-n loop-less loop-again returns-2)
+    tie.close (tie.spec Inv-loop μ-loop loop-holds returns add-n loop-less loop-again returns-2)

@@ -7,19 +7,22 @@ use Rattle.benchsheet.proofs.convert.pairs_from.Statement.{statement}
 use Rattle.benchsheet.proofs.convert.pairs_from.Tie as tie
 
 abbrev Inv-loop : tie.InvT-loop
-Inv-loop words lane pairs₀ i₀ pairs i = length pairs ≡ 16
+Inv-loop bench lane pairs₀ i₀ pairs i = length pairs ≡ 16
 
 abbrev μ-loop : tie.MeasureT-loop
-μ-loop words lane pairs₀ i₀ pairs i = 16 - i
+μ-loop bench lane pairs₀ i₀ pairs i = 16 - i
 
 loop-holds : tie.Need-loop-holds Inv-loop μ-loop
 loop-holds c = search needs
 
-pair-word-requires : tie.Need-pair-word-requires Inv-loop μ-loop
-pair-word-requires c κs = search needs
+pair-requires : tie.Need-pair-requires Inv-loop μ-loop
+pair-requires c κs = search needs
 
-pair-value-requires : tie.Need-pair-value-requires Inv-loop μ-loop
-pair-value-requires c κs = search needs
+cell-requires : tie.Need-cell-requires Inv-loop μ-loop
+cell-requires c κs = search needs
+
+cell-requires-2 : tie.Need-cell-requires-2 Inv-loop μ-loop
+cell-requires-2 c κs = search needs
 
 mul-pairs : tie.Need-mul-pairs Inv-loop μ-loop
 mul-pairs c = search needs
@@ -46,8 +49,9 @@ pairs-from-spec =
     Inv-loop
     μ-loop
     loop-holds
-    pair-word-requires
-    pair-value-requires
+    pair-requires
+    cell-requires
+    cell-requires-2
     mul-pairs
     array-set-from-pairs
     add-i

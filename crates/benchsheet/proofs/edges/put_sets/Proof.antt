@@ -5,16 +5,16 @@ use Rattle.benchsheet.proofs.edges.put_sets.Statement.{statement}
 use Rattle.benchsheet.proofs.edges.put_sets.Tie as tie
 
 abbrev Inv-loop : tie.InvT-loop
-Inv-loop txn₀ at₀ txn at = Unit
+Inv-loop bench₀ at₀ bench at = Unit
 
 abbrev μ-loop : tie.MeasureT-loop
-μ-loop txn₀ at₀ txn at = 20 - at
+μ-loop bench₀ at₀ bench at = 20 - at
 
 loop-holds : tie.Need-loop-holds Inv-loop μ-loop
 loop-holds c = search needs
 
-instruct-requires : tie.Need-instruct-requires Inv-loop μ-loop
-instruct-requires c κs = search needs
+set-row-requires : tie.Need-set-row-requires Inv-loop μ-loop
+set-row-requires c κs = search needs
 
 add-at : tie.Need-add-at Inv-loop μ-loop
 add-at c = search needs
@@ -31,4 +31,4 @@ returns c = search needs
 pub put-sets-spec : {M : Type 1} → statement M
 put-sets-spec =
     tie.close
-    (tie.spec Inv-loop μ-loop loop-holds instruct-requires add-at loop-less loop-again returns)
+    (tie.spec Inv-loop μ-loop loop-holds set-row-requires add-at loop-less loop-again returns)

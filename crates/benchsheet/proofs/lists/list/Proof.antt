@@ -5,13 +5,13 @@ use Rattle.benchsheet.proofs.lists.list.Statement.{statement}
 use Rattle.benchsheet.proofs.lists.list.Tie as tie
 
 abbrev Inv-loop : tie.InvT-loop
-Inv-loop seed₀ calm tally₀ cache₀ nvm₀ flags₀ kept₀ session₀ counter₀ seed tally cache nvm flags kept session counter = Unit
+Inv-loop bench₀ calm counter₀ bench counter = Unit
 
 abbrev μ-loop : tie.MeasureT-loop
-μ-loop seed₀ calm tally₀ cache₀ nvm₀ flags₀ kept₀ session₀ counter₀ seed tally cache nvm flags kept session counter = 1000 - counter
+μ-loop bench₀ calm counter₀ bench counter = 1000 - counter
 
-fresh-requires : tie.Need-fresh-requires Inv-loop μ-loop
-fresh-requires c κs = search needs
+clear-requires : tie.Need-clear-requires Inv-loop μ-loop
+clear-requires c κs = search needs
 
 format-requires : tie.Need-format-requires Inv-loop μ-loop
 format-requires c κs = search needs
@@ -40,7 +40,7 @@ list-spec =
     (tie.spec
     Inv-loop
     μ-loop
-    fresh-requires
+    clear-requires
     format-requires
     loop-holds
     event-requires

@@ -5,16 +5,19 @@ use Rattle.benchsheet.proofs.power.part_of_drain.Statement.{statement}
 use Rattle.benchsheet.proofs.power.part_of_drain.Tie as tie
 
 abbrev Inv-loop : tie.InvT-loop
-Inv-loop seed₀ lane cache nvm₀ flags i₀ seed nvm i = Unit
+Inv-loop bench₀ lane i₀ i-end bench i = Unit
 
 abbrev μ-loop : tie.MeasureT-loop
-μ-loop seed₀ lane cache nvm₀ flags i₀ seed nvm i = 5122 - i
+μ-loop bench₀ lane i₀ i-end bench i = i-end - i
+
+length-requires : tie.Need-length-requires Inv-loop μ-loop
+length-requires c κs = search needs
 
 loop-holds : tie.Need-loop-holds Inv-loop μ-loop
 loop-holds c = search needs
 
-byte-at-requires : tie.Need-byte-at-requires Inv-loop μ-loop
-byte-at-requires c κs = search needs
+get-requires : tie.Need-get-requires Inv-loop μ-loop
+get-requires c κs = search needs
 
 is-flushed-requires : tie.Need-is-flushed-requires Inv-loop μ-loop
 is-flushed-requires c κs = search needs
@@ -22,11 +25,8 @@ is-flushed-requires c κs = search needs
 once-in-requires : tie.Need-once-in-requires Inv-loop μ-loop
 once-in-requires c κs = search needs
 
-get-requires : tie.Need-get-requires Inv-loop μ-loop
-get-requires c κs = search needs
-
-put-requires : tie.Need-put-requires Inv-loop μ-loop
-put-requires c κs = search needs
+move-word-requires : tie.Need-move-word-requires Inv-loop μ-loop
+move-word-requires c κs = search needs
 
 add-i : tie.Need-add-i Inv-loop μ-loop
 add-i c = search needs
@@ -46,12 +46,12 @@ part-of-drain-spec =
     (tie.spec
     Inv-loop
     μ-loop
+    length-requires
     loop-holds
-    byte-at-requires
+    get-requires
     is-flushed-requires
     once-in-requires
-    get-requires
-    put-requires
+    move-word-requires
     add-i
     loop-less
     loop-again

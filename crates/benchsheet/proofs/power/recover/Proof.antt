@@ -5,16 +5,19 @@ use Rattle.benchsheet.proofs.power.recover.Statement.{statement}
 use Rattle.benchsheet.proofs.power.recover.Tie as tie
 
 abbrev Inv-loop : tie.InvT-loop
-Inv-loop seed₀ cache₀ nvm₀ flags₀ tally₀ nothing now₀ counter₀ seed cache nvm flags tally now counter = Unit
+Inv-loop bench₀ counter₀ bench counter = Unit
 
 abbrev μ-loop : tie.MeasureT-loop
-μ-loop seed₀ cache₀ nvm₀ flags₀ tally₀ nothing now₀ counter₀ seed cache nvm flags tally now counter = 3 - counter
+μ-loop bench₀ counter₀ bench counter = 3 - counter
 
 loop-holds : tie.Need-loop-holds Inv-loop μ-loop
 loop-holds c = search needs
 
 recover-once-requires : tie.Need-recover-once-requires Inv-loop μ-loop
 recover-once-requires c κs = search needs
+
+kind-requires : tie.Need-kind-requires Inv-loop μ-loop
+kind-requires c κs = search needs
 
 returns : tie.Need-returns Inv-loop μ-loop
 returns c = search needs
@@ -42,6 +45,7 @@ recover-spec =
     μ-loop
     loop-holds
     recover-once-requires
+    kind-requires
     returns
     add-counter
     loop-less

@@ -5,10 +5,13 @@ use Rattle.benchsheet.proofs.power.scramble.Statement.{statement}
 use Rattle.benchsheet.proofs.power.scramble.Tie as tie
 
 abbrev Inv-loop : tie.InvT-loop
-Inv-loop seed₀ length cache₀ flags₀ i₀ seed cache flags i = Unit
+Inv-loop bench₀ i₀ i-end bench i = Unit
 
 abbrev μ-loop : tie.MeasureT-loop
-μ-loop seed₀ length cache₀ flags₀ i₀ seed cache flags i = length - i
+μ-loop bench₀ i₀ i-end bench i = i-end - i
+
+length-requires : tie.Need-length-requires Inv-loop μ-loop
+length-requires c κs = search needs
 
 loop-holds : tie.Need-loop-holds Inv-loop μ-loop
 loop-holds c = search needs
@@ -22,8 +25,8 @@ put-requires c κs = search needs
 draw-requires : tie.Need-draw-requires Inv-loop μ-loop
 draw-requires c κs = search needs
 
-put-byte-requires : tie.Need-put-byte-requires Inv-loop μ-loop
-put-byte-requires c κs = search needs
+put-requires-2 : tie.Need-put-requires-2 Inv-loop μ-loop
+put-requires-2 c κs = search needs
 
 add-i : tie.Need-add-i Inv-loop μ-loop
 add-i c = search needs
@@ -43,11 +46,12 @@ scramble-spec =
     (tie.spec
     Inv-loop
     μ-loop
+    length-requires
     loop-holds
     value-requires
     put-requires
     draw-requires
-    put-byte-requires
+    put-requires-2
     add-i
     loop-less
     loop-again

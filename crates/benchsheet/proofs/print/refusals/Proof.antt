@@ -5,10 +5,10 @@ use Rattle.benchsheet.proofs.print.refusals.Statement.{statement}
 use Rattle.benchsheet.proofs.print.refusals.Tie as tie
 
 abbrev Inv-loop : tie.InvT-loop
-Inv-loop tally n₀ t4 t5 t6 n = Unit
+Inv-loop bench n₀ t4 t5 t6 n = Unit
 
 abbrev μ-loop : tie.MeasureT-loop
-μ-loop tally n₀ t4 t5 t6 n = 11 - n
+μ-loop bench n₀ t4 t5 t6 n = 11 - n
 
 slice-aggregate-text : tie.Need-slice-aggregate-text Inv-loop μ-loop
 slice-aggregate-text c = search needs

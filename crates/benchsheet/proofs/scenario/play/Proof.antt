@@ -5,16 +5,16 @@ use Rattle.benchsheet.proofs.scenario.play.Statement.{statement}
 use Rattle.benchsheet.proofs.scenario.play.Tie as tie
 
 abbrev Inv-loop : tie.InvT-loop
-Inv-loop cache₀ nvm₀ flags₀ tally₀ session₀ i₀ cache nvm flags tally session i = Unit
+Inv-loop bench₀ i₀ bench i = Unit
 
 abbrev μ-loop : tie.MeasureT-loop
-μ-loop cache₀ nvm₀ flags₀ tally₀ session₀ i₀ cache nvm flags tally session i = 6 - i
+μ-loop bench₀ i₀ bench i = 6 - i
 
-small-requires : tie.Need-small-requires Inv-loop μ-loop
-small-requires c κs = search needs
+start-requires : tie.Need-start-requires Inv-loop μ-loop
+start-requires c κs = search needs
 
-fresh-requires : tie.Need-fresh-requires Inv-loop μ-loop
-fresh-requires c κs = search needs
+set-row-requires : tie.Need-set-row-requires Inv-loop μ-loop
+set-row-requires c κs = search needs
 
 call-requires : tie.Need-call-requires Inv-loop μ-loop
 call-requires c κs = search needs
@@ -43,8 +43,8 @@ play-spec =
     (tie.spec
     Inv-loop
     μ-loop
-    small-requires
-    fresh-requires
+    start-requires
+    set-row-requires
     call-requires
     loop-holds
     step-requires

@@ -5,10 +5,10 @@ use Rattle.benchsheet.proofs.second.drain_words.Statement.{statement}
 use Rattle.benchsheet.proofs.second.drain_words.Tie as tie
 
 abbrev Inv-loop : tie.InvT-loop
-Inv-loop cache nvm₀ flags₀ lane i₀ i-end nvm flags i = Unit
+Inv-loop bench₀ lane i₀ i-end bench i = Unit
 
 abbrev μ-loop : tie.MeasureT-loop
-μ-loop cache nvm₀ flags₀ lane i₀ i-end nvm flags i = i-end - i
+μ-loop bench₀ lane i₀ i-end bench i = i-end - i
 
 length-requires : tie.Need-length-requires Inv-loop μ-loop
 length-requires c κs = search needs
@@ -16,26 +16,8 @@ length-requires c κs = search needs
 loop-holds : tie.Need-loop-holds Inv-loop μ-loop
 loop-holds c = search needs
 
-get-requires : tie.Need-get-requires Inv-loop μ-loop
-get-requires c κs = search needs
-
-is-flushed-requires : tie.Need-is-flushed-requires Inv-loop μ-loop
-is-flushed-requires c κs = search needs
-
-get-requires-2 : tie.Need-get-requires-2 Inv-loop μ-loop
-get-requires-2 c κs = search needs
-
-put-requires : tie.Need-put-requires Inv-loop μ-loop
-put-requires c κs = search needs
-
-weight-requires : tie.Need-weight-requires Inv-loop μ-loop
-weight-requires c κs = search needs
-
-minus-requires : tie.Need-minus-requires Inv-loop μ-loop
-minus-requires c κs = search needs
-
-put-requires-2 : tie.Need-put-requires-2 Inv-loop μ-loop
-put-requires-2 c κs = search needs
+drain-word-requires : tie.Need-drain-word-requires Inv-loop μ-loop
+drain-word-requires c κs = search needs
 
 add-i : tie.Need-add-i Inv-loop μ-loop
 add-i c = search needs
@@ -57,13 +39,7 @@ drain-words-spec =
     μ-loop
     length-requires
     loop-holds
-    get-requires
-    is-flushed-requires
-    get-requires-2
-    put-requires
-    weight-requires
-    minus-requires
-    put-requires-2
+    drain-word-requires
     add-i
     loop-less
     loop-again

@@ -5,10 +5,10 @@ use Rattle.benchsheet.proofs.second.matching.Statement.{statement}
 use Rattle.benchsheet.proofs.second.matching.Tie as tie
 
 abbrev Inv-loop : tie.InvT-loop
-Inv-loop shape «record» slots lane writes count matched₀ i₀ matched i = Unit
+Inv-loop bench lane count matched₀ i₀ matched i = Unit
 
 abbrev μ-loop : tie.MeasureT-loop
-μ-loop shape «record» slots lane writes count matched₀ i₀ matched i = count - i
+μ-loop bench lane count matched₀ i₀ matched i = count - i
 
 loop-holds : tie.Need-loop-holds Inv-loop μ-loop
 loop-holds c = search needs

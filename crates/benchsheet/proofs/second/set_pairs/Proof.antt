@@ -5,10 +5,10 @@ use Rattle.benchsheet.proofs.second.set_pairs.Statement.{statement}
 use Rattle.benchsheet.proofs.second.set_pairs.Tie as tie
 
 abbrev Inv-loop : tie.InvT-loop
-Inv-loop record₀ lane writes count i₀ «record» i = Unit
+Inv-loop bench₀ lane count i₀ bench i = Unit
 
 abbrev μ-loop : tie.MeasureT-loop
-μ-loop record₀ lane writes count i₀ «record» i = 16 - i
+μ-loop bench₀ lane count i₀ bench i = 16 - i
 
 loop-holds : tie.Need-loop-holds Inv-loop μ-loop
 loop-holds c = search needs
@@ -19,11 +19,17 @@ cell-requires c κs = search needs
 cell-requires-2 : tie.Need-cell-requires-2 Inv-loop μ-loop
 cell-requires-2 c κs = search needs
 
-set-pair-requires : tie.Need-set-pair-requires Inv-loop μ-loop
-set-pair-requires c κs = search needs
+pair-requires : tie.Need-pair-requires Inv-loop μ-loop
+pair-requires c κs = search needs
 
-set-pair-requires-2 : tie.Need-set-pair-requires-2 Inv-loop μ-loop
-set-pair-requires-2 c κs = search needs
+only-requires : tie.Need-only-requires Inv-loop μ-loop
+only-requires c κs = search needs
+
+only-requires-2 : tie.Need-only-requires-2 Inv-loop μ-loop
+only-requires-2 c κs = search needs
+
+set-row-requires : tie.Need-set-row-requires Inv-loop μ-loop
+set-row-requires c κs = search needs
 
 add-i : tie.Need-add-i Inv-loop μ-loop
 add-i c = search needs
@@ -46,8 +52,10 @@ set-pairs-spec =
     loop-holds
     cell-requires
     cell-requires-2
-    set-pair-requires
-    set-pair-requires-2
+    pair-requires
+    only-requires
+    only-requires-2
+    set-row-requires
     add-i
     loop-less
     loop-again

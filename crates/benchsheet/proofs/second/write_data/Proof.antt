@@ -5,22 +5,28 @@ use Rattle.benchsheet.proofs.second.write_data.Statement.{statement}
 use Rattle.benchsheet.proofs.second.write_data.Tie as tie
 
 abbrev Inv-loop : tie.InvT-loop
-Inv-loop cache₀ flags₀ lane writes count i₀ cache flags i = Unit
+Inv-loop bench₀ lane table row count i₀ bench i = Unit
 
 abbrev μ-loop : tie.MeasureT-loop
-μ-loop cache₀ flags₀ lane writes count i₀ cache flags i = count - i
+μ-loop bench₀ lane table row count i₀ bench i = count - i
 
 loop-holds : tie.Need-loop-holds Inv-loop μ-loop
 loop-holds c = search needs
 
-cell-requires : tie.Need-cell-requires Inv-loop μ-loop
-cell-requires c κs = search needs
-
 plus-requires : tie.Need-plus-requires Inv-loop μ-loop
 plus-requires c κs = search needs
 
+cell-requires : tie.Need-cell-requires Inv-loop μ-loop
+cell-requires c κs = search needs
+
+plus-requires-2 : tie.Need-plus-requires-2 Inv-loop μ-loop
+plus-requires-2 c κs = search needs
+
 cell-requires-2 : tie.Need-cell-requires-2 Inv-loop μ-loop
 cell-requires-2 c κs = search needs
+
+plus-requires-3 : tie.Need-plus-requires-3 Inv-loop μ-loop
+plus-requires-3 c κs = search needs
 
 store-requires : tie.Need-store-requires Inv-loop μ-loop
 store-requires c κs = search needs
@@ -44,9 +50,11 @@ write-data-spec =
     Inv-loop
     μ-loop
     loop-holds
-    cell-requires
     plus-requires
+    cell-requires
+    plus-requires-2
     cell-requires-2
+    plus-requires-3
     store-requires
     add-i
     loop-less

@@ -1,25 +1,23 @@
 -- `words::copy` is safe and ends: the loop counts its turns. Assumes nothing.
 use borrow.Author.Needs.{needs}
-use lib.ListN.{length}
-use mathlib.Core.Path.{_≡_}
 use Prim.Native.Nat.{_-_}
 use Rattle.benchsheet.proofs.words.copy.Statement.{statement}
 use Rattle.benchsheet.proofs.words.copy.Tie as tie
 
 abbrev Inv-loop : tie.InvT-loop
-Inv-loop from to₀ i₀ i-end to i = length to ≡ length to₀
+Inv-loop bench₀ from to shift count i₀ bench i = Unit
 
 abbrev μ-loop : tie.MeasureT-loop
-μ-loop from to₀ i₀ i-end to i = i-end - i
+μ-loop bench₀ from to shift count i₀ bench i = count - i
 
 loop-holds : tie.Need-loop-holds Inv-loop μ-loop
 loop-holds c = search needs
 
-mul-put : tie.Need-mul-put Inv-loop μ-loop
-mul-put c = search needs
+get-requires : tie.Need-get-requires Inv-loop μ-loop
+get-requires c κs = search needs
 
-shared-slice-read-put : tie.Need-shared-slice-read-put Inv-loop μ-loop
-shared-slice-read-put c = search needs
+plus-requires : tie.Need-plus-requires Inv-loop μ-loop
+plus-requires c κs = search needs
 
 put-requires : tie.Need-put-requires Inv-loop μ-loop
 put-requires c κs = search needs
@@ -33,9 +31,6 @@ loop-less c = search needs
 loop-again : tie.Need-loop-again Inv-loop μ-loop
 loop-again c = search needs
 
-same-length : tie.Need-same-length Inv-loop μ-loop
-same-length c = search needs
-
 returns : tie.Need-returns Inv-loop μ-loop
 returns c = search needs
 
@@ -46,11 +41,10 @@ copy-spec =
     Inv-loop
     μ-loop
     loop-holds
-    mul-put
-    shared-slice-read-put
+    get-requires
+    plus-requires
     put-requires
     add-i
     loop-less
     loop-again
-    same-length
     returns)

@@ -1,42 +1,58 @@
--- `log::search::higher` meets its contract, by cases on both candidates. Assumes nothing.
+-- `log::search::higher` meets its contract, by the tests that it makes. Assumes nothing.
 use borrow.Author.Needs.{needs}
-use Rattle.log.specs.SearchLaws.{higher-none, higher-only, higher-first, higher-second}
+use borrow.Author.Tests.{not-true, not-false}
+use mathlib.Core.Path.{refl, sym, _∙_}
+use Rattle.log.specs.SearchLaws.{not-stamp, not-high, higher-other, higher-base, higher-less, higher-tried, higher-is}
 use Rattle.log.proofs.search.higher.Statement.{statement}
 use Rattle.log.proofs.search.higher.Tie as tie
 
-enum-known-b : tie.Need-enum-known-b
-enum-known-b c = search needs
-
-enum-told : tie.Need-enum-told
-enum-told c = search needs
+stamp-high-requires : tie.Need-stamp-high-requires
+stamp-high-requires c κs = search needs
 
 returns : tie.Need-returns
-returns c = higher-none _ _ (c .enum-told .given .1)
+returns c = higher-other _ _ _ _ _ _ _ _ refl (not-high _ _ _ (sym (c .before .stamp-high .ensures) ∙ not-true _ (c .if1 .taken)))
 
-enum-known-a : tie.Need-enum-known-a
-enum-known-a c = search needs
+slot-at-requires : tie.Need-slot-at-requires
+slot-at-requires c κs = search needs
 
-enum-told-2 : tie.Need-enum-told-2
-enum-told-2 c = search needs
+enum-known-content : tie.Need-enum-known-content
+enum-known-content c = search needs
 
 returns-2 : tie.Need-returns-2
-returns-2 c = higher-only _ _ (c .before .before .before .b .given .1) (c .enum-told2 .given .1)
+returns-2 c = higher-other _ _ _ _ _ _ _ _ (c .before .slot-at .ensures) (not-stamp _ (c .match .keys2))
 
 returns-3 : tie.Need-returns-3
-returns-3 c = let k = c .before .before in higher-first _ _ (k .before .before .before .b .given .1) (k .a .given .1) (c .if1 .taken)
+returns-3 c = let k = c .before .before in higher-base _ _ _ _ _ _ _ (k .before .before .slot-at .ensures) (k .content .given .1) (c .if2 .taken)
 
 returns-4 : tie.Need-returns-4
-returns-4 c = let k = c .before .before in higher-second _ _ (k .before .before .before .b .given .1) (k .a .given .1) (c .if1 .left)
+returns-4 c = let k = c .before .before .before .before in
+    higher-less _ _ _ _ _ _ _ (k .before .before .slot-at .ensures) (k .content .given .1) (c .if3 .taken)
+
+ranks-below-requires : tie.Need-ranks-below-requires
+ranks-below-requires c κs = search needs
+
+returns-5 : tie.Need-returns-5
+returns-5 c = let r = c .before in
+    let k = r .before .before .before .before .before in
+    higher-tried _ _ _ _ _ _ _ (k .before .before .slot-at .ensures) (k .content .given .1) (sym (r .ranks-below .ensures) ∙ not-true _ (c .if4 .taken))
+
+returns-6 : tie.Need-returns-6
+returns-6 c = let r = c .before in
+    let e = r .before .before .before in
+    let k = e .before .before in
+    higher-is _ _ _ _ _ _ _ (k .before .before .slot-at .ensures) (k .content .given .1) (e .if2 .left) (r .before .if3 .left) (sym (r .ranks-below .ensures) ∙ not-false _ (c .if4 .left))
 
 pub higher-spec : {M : Type 1} → statement M
 higher-spec =
     tie.close
     (tie.spec
-    enum-known-b
-    enum-told
+    stamp-high-requires
     returns
-    enum-known-a
-    enum-told-2
+    slot-at-requires
+    enum-known-content
     returns-2
     returns-3
-    returns-4)
+    returns-4
+    ranks-below-requires
+    returns-5
+    returns-6)

@@ -1,53 +1,98 @@
--- `log::search::hit_at` meets its contract: whether two circular ranges meet is one comparison (`overlaps-ahead`). Assumes nothing.
+-- `log::search::hit_at` meets its contract, by the tests that it makes. Assumes nothing.
 use borrow.Author.Needs.{needs}
-use Prim.Native.Nat.{_+_}
-use mathlib.Core.Path.{_∙_, ap}
+use Prim.Native.Nat.{_+_, _<_}
+use borrow.Author.Tests.{not-true}
+use mathlib.Core.Path.{refl, sym, _∙_}
 use native.Mathlib.Omega.{arith}
-use lib.Dec.{ltb}
-use Rattle.log.specs.SearchLaws.{hit-none, hit-low, hit-ahead, hit-few}
+use denote.Ref.{now}
+use Rattle.log.specs.LogLaws.{stamp-in}
+use Rattle.log.specs.SearchLaws.{not-stamp, not-high, circular-low, hit-other, hit-base, hit-low, hit-far, hit-near}
 use Rattle.log.proofs.search.hit_at.Statement.{statement}
 use Rattle.log.proofs.search.hit_at.Tie as tie
 
-closed-at-requires : tie.Need-closed-at-requires
-closed-at-requires c κs = search needs
+add-circular : tie.Need-add-circular
+add-circular c = search needs
 
-enum-known-closed : tie.Need-enum-known-closed
-enum-known-closed c = search needs
+circular-requires : tie.Need-circular-requires
+circular-requires c κs = search needs
 
-enum-told : tie.Need-enum-told
-enum-told c = search needs
+-- the slot is one of the log
+below : (c : tie.After-circular) → c .circular .result < c .before .before .args .slots
+below c = let a = c .before .before .args in rw (c .circular .ensures) (circular-low (a .slots) (a .next + a .distance) (omega arith))
+
+stamp-high-requires : tie.Need-stamp-high-requires
+stamp-high-requires c κs = omega (arith, below c)
 
 returns : tie.Need-returns
-returns c = hit-none _ _ _ _ _ _ _ _ (c .before .before .closed-at .ensures) (c .enum-told .given .1)
+returns c = let h = c .before in
+    hit-other _ _ _ _ _ _ _ _ _ (h .before .circular .ensures) refl (not-high _ _ _ (sym (h .stamp-high .ensures) ∙ not-true _ (c .if1 .taken)))
+
+slot-at-requires : tie.Need-slot-at-requires
+slot-at-requires c κs = omega (arith, below (c .before .before))
+
+enum-known-content : tie.Need-enum-known-content
+enum-known-content c = search needs
 
 returns-2 : tie.Need-returns-2
-returns-2 c = let k = c .before .before .before in hit-low _ _ _ _ _ _ _ _ (k .before .before .closed-at .ensures) (k .closed .given .1) (c .if1 .taken)
-
-ahead-requires : tie.Need-ahead-requires
-ahead-requires c κs = search needs
-
-add-result : tie.Need-add-result
-add-result c = let k = c .before .before .before .before .before in
-    let m = k .before .before in
-    let a = m .before .before .args in
-    omega (arith, hit-few (a .words) (a .slots) (a .base) _ (a .next) (a .count) (a .least) (a .j) (m .closed-at .ensures) (k .closed .given .1))
+returns-2 c = let s = c .before in hit-other _ _ _ _ _ _ _ _ _ (s .before .before .before .circular .ensures) (s .slot-at .ensures) (not-stamp _ (c .match .keys2))
 
 returns-3 : tie.Need-returns-3
-returns-3 c = let k = c .before .before .before .before .before in
-    let m = k .before .before in
-    let a = m .before .before .args in
-    ap (λ d. ltb d (a .count + k .closed .given .0 .0 .count)) (c .before .ahead .ensures)
-    ∙ hit-ahead (a .words) (a .slots) (a .base) _ (a .next) (a .count) (a .least) (a .j) (m .closed-at .ensures) (k .closed .given .1) (search needs) (search needs) (search needs) (c .before .before .if1 .left)
+returns-3 c =
+    let k = c .before .before in
+    let s = k .before .before in
+    hit-base _ _ _ _ _ _ _ _ _ (s .before .before .before .circular .ensures) (s .slot-at .ensures) (k .content .given .1) (search needs) (search needs) (search needs) (c .if2 .taken)
+
+returns-4 : tie.Need-returns-4
+returns-4 c =
+    let k = c .before .before .before in
+    let s = k .before .before in
+    hit-low _ _ _ _ _ _ _ _ _ (s .before .before .before .circular .ensures) (s .slot-at .ensures) (k .content .given .1) (search needs) (search needs) (search needs) (c .if3 .taken)
+
+add-if4 : tie.Need-add-if4
+add-if4 c =
+    let k = c .before .before .before in
+    let s = k .before .before in
+    let a = s .before .before .before .before .before .args in
+    let f = stamp-in (a .words) (now (a .log)) (s .before .before .before .circular .result) _ _ _ (sym (s .slot-at .ensures) ∙ k .content .given .1) in
+    omega arith
+
+returns-5 : tie.Need-returns-5
+returns-5 c =
+    let k = c .before .before .before .before in
+    let s = k .before .before in
+    hit-far _ _ _ _ _ _ _ _ _ (s .before .before .before .circular .ensures) (s .slot-at .ensures) (k .content .given .1) (search needs) (search needs) (search needs) (c .if4 .taken)
+
+entries-whole-requires : tie.Need-entries-whole-requires
+entries-whole-requires c κs =
+    let k = c .before .before .before .before in
+    let s = k .before .before in
+    let a = s .before .before .before .before .before .args in
+    let f = stamp-in (a .words) (now (a .log)) (s .before .before .before .circular .result) _ _ _ (sym (s .slot-at .ensures) ∙ k .content .given .1) in
+    omega (arith, below (s .before .before .before))
+
+returns-6 : tie.Need-returns-6
+returns-6 c =
+    let t = c .before in
+    let k = t .before .before .before .before in
+    let s = k .before .before in
+    c .entries-whole .ensures
+    ∙ hit-near _ _ _ _ _ _ _ _ _ (s .before .before .before .circular .ensures) (s .slot-at .ensures) (k .content .given .1) (search needs) (search needs) (search needs)
+    (t .before .before .if2 .left) (t .before .if3 .left) (t .if4 .left)
 
 pub hit-at-spec : {M : Type 1} → statement M
 hit-at-spec =
     tie.close
     (tie.spec
-    closed-at-requires
-    enum-known-closed
-    enum-told
+    add-circular
+    circular-requires
+    stamp-high-requires
     returns
+    slot-at-requires
+    enum-known-content
     returns-2
-    ahead-requires
-    add-result
-    returns-3)
+    returns-3
+    returns-4
+    add-if4
+    returns-5
+    entries-whole-requires
+    returns-6)

@@ -15,10 +15,10 @@ use Rattle.log.proofs.search.latest.Statement.{statement}
 use Rattle.log.proofs.search.latest.Tie as tie
 
 abbrev Inv-loop : tie.InvT-loop
-Inv-loop log words slots base stamp slot s count j wrap i₀ i = (i ≤ count) × (length (entriesBack words slots log slot wrap i) ≡ i)
+Inv-loop log words slots base stamp slot count wrap i₀ i = (i ≤ count) × (length (entriesBack words slots log slot wrap i) ≡ i)
 
 abbrev μ-loop : tie.MeasureT-loop
-μ-loop log words slots base stamp slot s count j wrap i₀ i = count - i
+μ-loop log words slots base stamp slot count wrap i₀ i = count - i
 
 abbrev Inv-stamps : tie.InvT-stamps
 Inv-stamps log words slots base stamp₀ slot₀ stamp slot = (slot ≤ 256) × AllUnder words slots base log (rank stamp slot)
@@ -27,15 +27,14 @@ abbrev μ-stamps : tie.MeasureT-stamps
 μ-stamps log words slots base stamp₀ slot₀ stamp slot = rank stamp slot
 
 -- the candidate that is tried
-best : (k : tie.After-known-told Inv-loop μ-loop Inv-stamps μ-stamps) →
-    let n = k .before .before .before in
+best : (k : tie.Else1 Inv-loop μ-loop Inv-stamps μ-stamps) →
+    let n = k .before in
     let a = n .before .before .before .args in
-    let x = k .before .next .given .0 in
-    Best (a .words) (a .base) (now (a .log)) (rank (n .before .stamps .stamp) (n .before .stamps .slot)) (a .slots) (x .0) (x .1 .0) (x .1 .1 .0) (x .1 .1 .1 .0)
+    Best (a .words) (a .base) (now (a .log)) (rank (n .before .stamps .stamp) (n .before .stamps .slot)) (a .slots) (n .next-candidate .result)
 best k =
-    let n = k .before .before .before in
+    let n = k .before in
     let s = n .before .before .before in
-    next-best _ _ _ _ (s .pre .2) _ _ (n .before .stamps .inv .1) (n .next-candidate .ensures) (k .before .next .given .1)
+    next-best _ _ _ _ (s .pre .2) _ _ (n .before .stamps .inv .1) (n .next-candidate .ensures) (k .if1 .left)
 
 stamps-holds : tie.Need-stamps-holds Inv-loop μ-loop Inv-stamps μ-stamps
 stamps-holds c = (search needs, under-start _ _ _ _ (c .before .pre .2) (λ i. omega (arith, c .shared-slice-known .given i)))
@@ -43,17 +42,11 @@ stamps-holds c = (search needs, under-start _ _ _ _ (c .before .pre .2) (λ i. o
 next-candidate-requires : tie.Need-next-candidate-requires Inv-loop μ-loop Inv-stamps μ-stamps
 next-candidate-requires c κs = search needs
 
-enum-known-next : tie.Need-enum-known-next Inv-loop μ-loop Inv-stamps μ-stamps
-enum-known-next c = search needs
-
-enum-told : tie.Need-enum-told Inv-loop μ-loop Inv-stamps μ-stamps
-enum-told c = search needs
-
 returns : tie.Need-returns Inv-loop μ-loop Inv-stamps μ-stamps
 returns c =
-    let n = c .before .before in
+    let n = c .before in
     let s = n .before .before .before in
-    nothing-left _ _ _ _ (s .pre .2) _ _ (n .before .stamps .inv .1) _ (n .next-candidate .ensures) (c .enum-told .given .1)
+    nothing-left _ _ _ _ (s .pre .2) _ _ (n .before .stamps .inv .1) (n .next-candidate .ensures) (c .if1 .taken)
 
 loop-holds : tie.Need-loop-holds Inv-loop μ-loop Inv-stamps μ-stamps
 loop-holds c = (search needs, back-none _ _ _ _ _)
@@ -64,7 +57,7 @@ add-entry-back c = search needs
 entry-back-requires : tie.Need-entry-back-requires Inv-loop μ-loop Inv-stamps μ-stamps
 entry-back-requires c κs = let k = c .before .before in
     let b = best k in
-    let a = k .before .before .before .before .before .before .args in
+    let a = k .before .before .before .before .args in
     let f = stamp-in (a .words) (now (a .log)) _ _ _ _ (b .reads) in
     omega (arith, b .low, f .count, f .wrap)
 
@@ -75,12 +68,12 @@ stamps-again : tie.Need-stamps-again Inv-loop μ-loop Inv-stamps μ-stamps
 stamps-again c =
     let i = c .before .before .before in
     let k = i .before in
-    let n = k .before .before .before in
+    let n = k .before in
     let s = n .before .before .before in
     let b = best k in
-    let bad = sym (c .before .entry-back .ensures) ∙ not-true _ (c .if1 .taken) in (
+    let bad = sym (c .before .entry-back .ensures) ∙ not-true _ (c .if2 .taken) in (
       omega (arith, b .low),
-      next-under _ _ _ _ (s .pre .2) _ _ (n .before .stamps .inv .1) (n .next-candidate .ensures) (k .before .next .given .1)
+      next-under _ _ _ _ (s .pre .2) _ _ (n .before .stamps .inv .1) (n .next-candidate .ensures) (k .if1 .left)
           (closed-bad _ _ _ _ _ refl (b .reads) (i .loop .i) (search needs) bad),
     )
 
@@ -92,17 +85,17 @@ loop-less c = search needs
 
 loop-again : tie.Need-loop-again Inv-loop μ-loop Inv-stamps μ-stamps
 loop-again c = let i = c .before .before .before in
-    (search needs, back-more _ _ _ _ _ (i .loop .i) (i .loop .inv .1) (sym (c .before .entry-back .ensures) ∙ not-false _ (c .if1 .left)))
+    (search needs, back-more _ _ _ _ _ (i .loop .i) (i .loop .inv .1) (sym (c .before .entry-back .ensures) ∙ not-false _ (c .if2 .left)))
 
 returns-2 : tie.Need-returns-2 Inv-loop μ-loop Inv-stamps μ-stamps
 returns-2 c =
     let i = c .before in
     let k = i .before in
-    let n = k .before .before .before in
+    let n = k .before in
     let s = n .before .before .before in
     let b = best k in
-    let e : i .loop .i ≡ k .before .next .given .0 .1 .0 = omega arith in
-    next-latest _ _ _ _ (s .pre .2) _ _ (n .before .stamps .inv .1) (n .next-candidate .ensures) (k .before .next .given .1)
+    let e : i .loop .i ≡ n .next-candidate .result .count = omega arith in
+    next-latest _ _ _ _ (s .pre .2) _ _ (n .before .stamps .inv .1) (n .next-candidate .ensures) (k .if1 .left)
     (closed-whole _ _ _ _ _ refl (b .reads) (b .above) (rw e at (i .loop .inv .1)))
 
 pub latest-spec : {M : Type 1} → statement M
@@ -115,8 +108,6 @@ latest-spec =
     μ-stamps
     stamps-holds
     next-candidate-requires
-    enum-known-next
-    enum-told
     returns
     loop-holds
     add-entry-back

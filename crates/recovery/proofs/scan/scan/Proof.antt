@@ -1,86 +1,102 @@
--- `recovery::scan::scan` meets its contract. The loop's invariant: the slots below number k are listed, and their timestamps counted in. The measure is the number of slots left.
+-- `recovery::scan::scan` meets its contract. The loop's invariant: the lanes below `lane` are read, each into its part of the arrays. The measure is the number of lanes left.
 -- Assumes nothing.
-use Prim.Native.Nat.{_≤_, _-_}
-use mathlib.Core.Path.{sym, _∙_}
+use Prim.Native.Nat.{_+_, _*_, _-_, _≤_}
+use mathlib.Core.Path.{refl, sym, _∙_}
 use native.Mathlib.Omega.{arith}
+use lib.ListN.{length}
+use denote.Ref.{now}
 use borrow.Author.Needs.{needs}
 use Rattle.image.specs.Image.{imageLength}
 use Rattle.image.specs.ImageLaws.{sizes-in}
-use Rattle.recovery.specs.ScanLaws.{Scanned, scanned-none, scanned-more, scanned-all, numbers-small, NumberIn, number-in}
+use Rattle.recovery.specs.LanesLaws.{numbers-small, lane-inside, lent-long}
+use Rattle.recovery.specs.ScanLaws.{Scanned, scanned-none, scanned-more, scanned-all}
 use Rattle.recovery.proofs.scan.scan.Statement.{statement}
 use Rattle.recovery.proofs.scan.scan.Tie as tie
 
 abbrev Inv-loop : tie.InvT-loop
-Inv-loop sizes nvm boundary stamps₀ slots base₀ k₀ k-end stamps base k = (k ≤ k-end) × Scanned sizes nvm boundary k stamps base
+Inv-loop sizes nvm stamps₀ tree₀ slots found₀ lane₀ lane-end stamps tree found lane = (lane ≤ lane-end) × Scanned sizes nvm (length stamps₀) lane stamps tree (found .boundary) (found .base)
 
 abbrev μ-loop : tie.MeasureT-loop
-μ-loop sizes nvm boundary stamps₀ slots base₀ k₀ k-end stamps base k = k-end - k
+μ-loop sizes nvm stamps₀ tree₀ slots found₀ lane₀ lane-end stamps tree found lane = lane-end - lane
 
 abbrev start : tie.In-loop Inv-loop μ-loop → tie.Start Inv-loop μ-loop
 start c = c .before .before .before .before .before .before
 
-number : (c : tie.In-loop Inv-loop μ-loop) → NumberIn (start c .args .sizes) (c .before .loop .k)
-number c = number-in _ _ (start c .pre .0) (search needs)
+inside : (c : tie.In-loop Inv-loop μ-loop) → c .before .loop .lane * start c .args .sizes .slots + start c .args .sizes .slots ≤ 2048
+inside c = lane-inside (start c .args .sizes) (c .before .loop .lane) 2048 (numbers-small _ (start c .pre .0)) (search needs)
 
-shared-slice-read-base : tie.Need-shared-slice-read-base Inv-loop μ-loop
+fits : (c : tie.In-loop Inv-loop μ-loop) → c .before .loop .lane * start c .args .sizes .slots + start c .args .sizes .slots ≤ length (now (start c .args .stamps))
+fits c = lane-inside (start c .args .sizes) (c .before .loop .lane) _ (start c .pre .2) (search needs)
+
+shared-slice-read-t12 : tie.Need-shared-slice-read-t12 Inv-loop μ-loop
 unfolding imageLength
-shared-slice-read-base c = omega arith
-
-mul-k-end : tie.Need-mul-k-end Inv-loop μ-loop
-mul-k-end c = omega (arith, numbers-small _ (c .before .before .before .before .pre .0))
+shared-slice-read-t12 c = omega arith
 
 loop-holds : tie.Need-loop-holds Inv-loop μ-loop
-loop-holds c = (search needs, scanned-none _ _ _ _ (search needs))
+loop-holds c = (search needs, scanned-none _ _ _ _ _ refl (search needs))
 
-div-lane : tie.Need-div-lane Inv-loop μ-loop
-div-lane c = omega (arith, sizes-in _ (start c .pre .0) .slots-low)
+mul-from : tie.Need-mul-from Inv-loop μ-loop
+mul-from c = omega (arith, inside c)
 
-rem-j : tie.Need-rem-j Inv-loop μ-loop
-rem-j c = omega (arith, sizes-in _ (start c .pre .0) .slots-low)
+add-to : tie.Need-add-to Inv-loop μ-loop
+add-to c = omega (arith, inside c)
 
-closed-in-requires : tie.Need-closed-in-requires Inv-loop μ-loop
-closed-in-requires c κs = let n = number c in let p = start c .pre in (p .0, p .1, n .lane, n .slot)
+mul-read-lane : tie.Need-mul-read-lane Inv-loop μ-loop
+mul-read-lane c = omega (arith, inside c)
 
-stamp-to-undo-requires : tie.Need-stamp-to-undo-requires Inv-loop μ-loop
-stamp-to-undo-requires c κs = search needs
+sub-read-lane : tie.Need-sub-read-lane Inv-loop μ-loop
+sub-read-lane c = search needs
 
-mul-stamps : tie.Need-mul-stamps Inv-loop μ-loop
-mul-stamps c = omega (arith, number (c .before .before) .small)
+part-read-lane-start : tie.Need-part-read-lane-start Inv-loop μ-loop
+part-read-lane-start c = search needs
 
-slice-write-stamps : tie.Need-slice-write-stamps Inv-loop μ-loop
-slice-write-stamps c = omega (arith, number (c .before .before) .small, c .before .before .before .loop .inv .1 .long)
+part-read-lane-end : tie.Need-part-read-lane-end Inv-loop μ-loop
+part-read-lane-end c = rw (c .before .loop .inv .1 .trees .long) (fits c)
 
-slot-in-requires : tie.Need-slot-in-requires Inv-loop μ-loop
-slot-in-requires c κs =
-    let n = number (c .before .before) in
-    let p = start (c .before .before) .pre in
-    (p .0, p .1, n .lane, n .slot)
+mul-read-lane-2 : tie.Need-mul-read-lane-2 Inv-loop μ-loop
+mul-read-lane-2 c = omega (arith, inside (c .before))
 
-whole-stamp-requires : tie.Need-whole-stamp-requires Inv-loop μ-loop
-whole-stamp-requires c κs = search needs
+sub-read-lane-2 : tie.Need-sub-read-lane-2 Inv-loop μ-loop
+sub-read-lane-2 c = search needs
 
-greater-requires : tie.Need-greater-requires Inv-loop μ-loop
-greater-requires c κs = search needs
+part-read-lane-start-2 : tie.Need-part-read-lane-start-2 Inv-loop μ-loop
+part-read-lane-start-2 c = search needs
 
-add-k : tie.Need-add-k Inv-loop μ-loop
-add-k c = omega (arith, number (c .before .before .before .before .before) .small)
+part-read-lane-end-2 : tie.Need-part-read-lane-end-2 Inv-loop μ-loop
+part-read-lane-end-2 c = rw (c .before .before .loop .inv .1 .trees .tree-long) (fits (c .before))
+
+read-lane-requires : tie.Need-read-lane-requires Inv-loop μ-loop
+read-lane-requires c κs =
+    let i = c .before .before in
+    let l = i .before .loop in
+    let p = start i .pre in
+    (p .0, p .1, search needs, lent-long (start i .args .sizes .slots) (l .lane) (l .stamps) (rw (l .inv .1 .trees .long) (fits i)), lent-long (start i .args .sizes .slots) (l .lane) (l .tree) (rw (l .inv .1 .trees .tree-long) (fits i)))
+
+add-lane : tie.Need-add-lane Inv-loop μ-loop
+add-lane c = omega (arith, sizes-in _ (start (c .before .before .before .before .before .before .before) .pre .0) .lanes-high)
 
 loop-less : tie.Need-loop-less Inv-loop μ-loop
 loop-less c = search needs
 
 loop-again : tie.Need-loop-again Inv-loop μ-loop
 loop-again c =
-    let s = c .before .before .before in
-    let l = s .before .before .before .loop in
-    (search needs, scanned-more _ _ _ (l .k) (l .stamps) (l .base) (l .inv .1) (number (s .before .before) .small) _ _ (s .before .closed-in .ensures) (s .stamp-to-undo .ensures) _ _ _ (c .before .before .slot-in .ensures) (c .before .whole-stamp .ensures) (c .greater .ensures))
+    let r = c .before .before .before .before in
+    let i = r .before .before .before in
+    let l = i .before .loop in
+    let e = r .read-lane .ensures in
+    (search needs, scanned-more _ _ _ (start i .pre .2) (l .lane) (l .stamps) (l .tree) _ _ (l .inv .1) (search needs) _ _ (e .1 .1 .0) (e .1 .1 .1) _ _ (e .0) (e .1 .0))
 
 same-length : tie.Need-same-length Inv-loop μ-loop
-same-length c = c .before .loop .inv .1 .long ∙ sym (c .before .before .before .before .before .before .pre .2)
+same-length c = c .before .loop .inv .1 .trees .long
+
+same-length-2 : tie.Need-same-length-2 Inv-loop μ-loop
+same-length-2 c = c .before .loop .inv .1 .trees .tree-long ∙ sym (c .before .before .before .before .before .before .pre .3)
 
 returns : tie.Need-returns Inv-loop μ-loop
 returns c =
     let l = c .before .loop in
-    scanned-all _ _ _ (l .k) (l .stamps) (l .base) (l .inv .1) (omega arith)
+    let d = scanned-all _ _ _ (l .lane) (l .stamps) (l .tree) _ _ (l .inv .1) (omega arith) in
+    (d .0, (d .1, (d .2, d .3)))
 
 pub scan-spec : {M : Type 1} → statement M
 scan-spec =
@@ -88,20 +104,22 @@ scan-spec =
     (tie.spec
     Inv-loop
     μ-loop
-    shared-slice-read-base
-    mul-k-end
+    shared-slice-read-t12
     loop-holds
-    div-lane
-    rem-j
-    closed-in-requires
-    stamp-to-undo-requires
-    mul-stamps
-    slice-write-stamps
-    slot-in-requires
-    whole-stamp-requires
-    greater-requires
-    add-k
+    mul-from
+    add-to
+    mul-read-lane
+    sub-read-lane
+    part-read-lane-start
+    part-read-lane-end
+    mul-read-lane-2
+    sub-read-lane-2
+    part-read-lane-start-2
+    part-read-lane-end-2
+    read-lane-requires
+    add-lane
     loop-less
     loop-again
     same-length
+    same-length-2
     returns)

@@ -1,91 +1,84 @@
--- `recovery::stores::clear_logs` meets its contract. The loop's invariant: the first i log words are cleared, as far as the limit goes. The measure is the number of words left.
+-- `recovery::stores::clear_logs` meets its contract: a stretch of zeros as long as the limit lets it be is the stores that are made.
 -- Assumes nothing.
-use Prim.Native.Nat.{_+_, _*_, _≤_, _<_, _-_}
-use mathlib.Core.Path.{_≡_}
+use Prim.Native.Nat.{_+_, _*_, _-_, _≤_}
+use mathlib.Core.Path.{refl}
+use native.Mathlib.Nat.{min-le-right}
 use native.Mathlib.Omega.{arith}
 use lib.ListN.{length}
+use denote.Ref.{now}
 use borrow.Author.Needs.{needs}
 use Rattle.image.specs.Image.{imageLength}
 use Rattle.image.specs.ImageLaws.{sizes-in, logs-small}
-use Rattle.recovery.specs.RecoveryLaws.{ClearedTo, cleared-none, cleared-long, cleared-more}
+use Rattle.recovery.specs.LimitLaws.{limited-zeros}
 use Rattle.recovery.proofs.stores.clear_logs.Statement.{statement}
 use Rattle.recovery.proofs.stores.clear_logs.Tie as tie
 
-abbrev Inv-loop : tie.InvT-loop
-Inv-loop sizes nvm₀ limit due total₀ i₀ i-end nvm total i = (i ≤ i-end) × ClearedTo (1 + sizes .words) nvm₀ limit due i nvm total
+mul-count : tie.Need-mul-count
+mul-count c = omega (arith, sizes-in _ (c .before .before .pre .0) .lanes-high)
 
-abbrev μ-loop : tie.MeasureT-loop
-μ-loop sizes nvm₀ limit due total₀ i₀ i-end nvm total i = i-end - i
+mul-count-2 : tie.Need-mul-count-2
+mul-count-2 c = omega (arith, logs-small _ (sizes-in _ (c .before .before .before .pre .0)))
 
-small : (c : tie.After-slice-known Inv-loop μ-loop) → 2 * c .before .args .sizes .lanes * c .before .args .sizes .slots ≤ 4096
-small c = logs-small _ (sizes-in _ (c .before .pre .0))
+add-start : tie.Need-add-start
+add-start c = omega (arith, sizes-in _ (c .before .before .before .before .pre .0) .words-high)
 
-inside : (c : tie.In-loop Inv-loop μ-loop) → 1 + c .before .before .before .before .before .args .sizes .words + c .before .loop .i < length (c .before .loop .nvm)
+made-requires : tie.Need-made-requires
+made-requires c κs = search needs
+
+-- the stretch lies in the image
+inside : (c : tie.After-made) → 1 + c .before .before .before .before .before .args .sizes .words + c .made .result ≤ length (now (c .before .before .before .before .before .args .nvm))
 unfolding imageLength
 inside c =
-    let l = c .before .loop in
-    omega (arith, cleared-long _ _ _ _ (l .i) (l .nvm) (l .total) (l .inv .1))
+    let a = c .before .before .before .before .before .args in
+    omega (arith, c .made .ensures, min-le-right (a .limit - a .due) (2 * a .sizes .lanes * a .sizes .slots), c .before .before .before .before .before .pre .1)
 
-mul-i-end : tie.Need-mul-i-end Inv-loop μ-loop
-mul-i-end c = omega (arith, sizes-in _ (c .before .before .pre .0) .lanes-high)
+add-end : tie.Need-add-end
+add-end c =
+    let a = c .before .before .before .before .before .args in
+    let s = sizes-in _ (c .before .before .before .before .before .pre .0) in
+    omega (arith, c .made .ensures, min-le-right (a .limit - a .due) (2 * a .sizes .lanes * a .sizes .slots), s .words-high, logs-small _ s)
 
-mul-i-end-2 : tie.Need-mul-i-end-2 Inv-loop μ-loop
-mul-i-end-2 c = omega (arith, small (c .before .before))
+mul-clear-words : tie.Need-mul-clear-words
+mul-clear-words c = omega (arith, sizes-in _ (c .before .before .before .before .before .pre .0) .words-high)
 
-loop-holds : tie.Need-loop-holds Inv-loop μ-loop
-loop-holds c = (search needs, cleared-none _ _ _ _)
+sub-clear-words : tie.Need-sub-clear-words
+sub-clear-words c = search needs
 
-add-put : tie.Need-add-put Inv-loop μ-loop
-add-put c = omega (arith, sizes-in _ (c .before .before .before .before .before .before .before .pre .0) .words-high)
+part-clear-words-start : tie.Need-part-clear-words-start
+part-clear-words-start c = search needs
 
-add-put-2 : tie.Need-add-put-2 Inv-loop μ-loop
-add-put-2 c =
-    let n = c .before .before in
-    omega (arith, sizes-in _ (n .before .before .before .before .before .pre .0) .words-high, small (n .before .before .before .before))
+part-clear-words-end : tie.Need-part-clear-words-end
+part-clear-words-end c = inside c
 
-put-requires : tie.Need-put-requires Inv-loop μ-loop
-put-requires c κs =
-    let n = c .before .before in
-    (inside n, omega (arith, n .before .loop .inv .1 .counted, small (n .before .before .before .before)))
+clear-words-requires : tie.Need-clear-words-requires
+clear-words-requires c κs = search needs
 
-add-i : tie.Need-add-i Inv-loop μ-loop
-add-i c = search needs
+add-result : tie.Need-add-result
+add-result c = omega (arith, logs-small _ (sizes-in _ (c .before .before .before .before .before .before .before .before .before .pre .0)))
 
-loop-less : tie.Need-loop-less Inv-loop μ-loop
-loop-less c = search needs
+same-length : tie.Need-same-length
+same-length c = search needs
 
-loop-again : tie.Need-loop-again Inv-loop μ-loop
-loop-again c =
-    let p = c .before .before in
-    let l = p .before .before .before .before .loop in
-    (search needs, cleared-more _ _ _ _ (l .i) (l .nvm) (l .total) (l .inv .1) _ _ (p .put .ensures .1) (p .put .ensures .0))
-
-same-length : tie.Need-same-length Inv-loop μ-loop
-same-length c =
-    let l = c .before .loop in
-    cleared-long _ _ _ _ (l .i) (l .nvm) (l .total) (l .inv .1)
-
-returns : tie.Need-returns Inv-loop μ-loop
+returns : tie.Need-returns
 returns c =
-    let l = c .before .loop in
-    let s = c .before .before .before .before .before .args in
-    let e : l .i ≡ 2 * s .sizes .lanes * s .sizes .slots = omega arith in
-    rw (← e) (l .inv .1 .counted, l .inv .1 .memory)
+    let m = c .before .before .before .before in
+    let a = m .before .before .before .before .before .args in
+    (refl, limited-zeros _ _ (1 + a .sizes .words) _ (m .made .result) (now (a .nvm)) _ (m .made .ensures) (inside m) (c .before .before .clear-words .ensures))
 
 pub clear-logs-spec : {M : Type 1} → statement M
 clear-logs-spec =
     tie.close
     (tie.spec
-    Inv-loop
-    μ-loop
-    mul-i-end
-    mul-i-end-2
-    loop-holds
-    add-put
-    add-put-2
-    put-requires
-    add-i
-    loop-less
-    loop-again
+    mul-count
+    mul-count-2
+    add-start
+    made-requires
+    add-end
+    mul-clear-words
+    sub-clear-words
+    part-clear-words-start
+    part-clear-words-end
+    clear-words-requires
+    add-result
     same-length
     returns)

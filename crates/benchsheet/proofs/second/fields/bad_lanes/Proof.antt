@@ -5,10 +5,13 @@ use Rattle.benchsheet.proofs.second.fields.bad_lanes.Statement.{stateme
 use Rattle.benchsheet.proofs.second.fields.bad_lanes.Tie as tie
 
 abbrev Inv-loop : tie.InvT-loop
-Inv-loop shape «record» bad₀ lane₀ lane-end bad lane = Unit
+Inv-loop bench bad₀ lane₀ lane-end bad lane = Unit
 
 abbrev μ-loop : tie.MeasureT-loop
-μ-loop shape «record» bad₀ lane₀ lane-end bad lane = lane-end - lane
+μ-loop bench bad₀ lane₀ lane-end bad lane = lane-end - lane
+
+get-requires : tie.Need-get-requires Inv-loop μ-loop
+get-requires c κs = search needs
 
 loop-holds : tie.Need-loop-holds Inv-loop μ-loop
 loop-holds c = search needs
@@ -37,6 +40,7 @@ bad-lanes-spec =
     (tie.spec
     Inv-loop
     μ-loop
+    get-requires
     loop-holds
     lane-ok-requires
     plus-requires

@@ -5,19 +5,22 @@ use Rattle.benchsheet.proofs.second.fields.least_floor.Statement.{state
 use Rattle.benchsheet.proofs.second.fields.least_floor.Tie as tie
 
 abbrev Inv-loop : tie.InvT-loop
-Inv-loop «record» lane bound₀ other₀ other-end bound other = Unit
+Inv-loop bench lane own bound₀ other₀ other-end bound other = Unit
 
 abbrev μ-loop : tie.MeasureT-loop
-μ-loop «record» lane bound₀ other₀ other-end bound other = other-end - other
+μ-loop bench lane own bound₀ other₀ other-end bound other = other-end - other
+
+get-requires : tie.Need-get-requires Inv-loop μ-loop
+get-requires c κs = search needs
 
 loop-holds : tie.Need-loop-holds Inv-loop μ-loop
 loop-holds c = search needs
 
-floor-of-requires : tie.Need-floor-of-requires Inv-loop μ-loop
-floor-of-requires c κs = search needs
+field-requires : tie.Need-field-requires Inv-loop μ-loop
+field-requires c κs = search needs
 
-lesser-requires : tie.Need-lesser-requires Inv-loop μ-loop
-lesser-requires c κs = search needs
+least-requires : tie.Need-least-requires Inv-loop μ-loop
+least-requires c κs = search needs
 
 add-other : tie.Need-add-other Inv-loop μ-loop
 add-other c = search needs
@@ -37,9 +40,10 @@ least-floor-spec =
     (tie.spec
     Inv-loop
     μ-loop
+    get-requires
     loop-holds
-    floor-of-requires
-    lesser-requires
+    field-requires
+    least-requires
     add-other
     loop-less
     loop-again

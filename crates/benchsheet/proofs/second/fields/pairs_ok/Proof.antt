@@ -5,22 +5,25 @@ use Rattle.benchsheet.proofs.second.fields.pairs_ok.Statement.{statemen
 use Rattle.benchsheet.proofs.second.fields.pairs_ok.Tie as tie
 
 abbrev Inv-loop : tie.InvT-loop
-Inv-loop shape «record» lane i₀ i-end i = Unit
+Inv-loop bench lane i₀ i-end i = Unit
 
 abbrev μ-loop : tie.MeasureT-loop
-μ-loop shape «record» lane i₀ i-end i = i-end - i
+μ-loop bench lane i₀ i-end i = i-end - i
 
 field-requires : tie.Need-field-requires Inv-loop μ-loop
 field-requires c κs = search needs
 
-least-requires : tie.Need-least-requires Inv-loop μ-loop
-least-requires c κs = search needs
-
 loop-holds : tie.Need-loop-holds Inv-loop μ-loop
 loop-holds c = search needs
 
-pair-word-requires : tie.Need-pair-word-requires Inv-loop μ-loop
-pair-word-requires c κs = search needs
+get-requires : tie.Need-get-requires Inv-loop μ-loop
+get-requires c κs = search needs
+
+pair-requires : tie.Need-pair-requires Inv-loop μ-loop
+pair-requires c κs = search needs
+
+cell-requires : tie.Need-cell-requires Inv-loop μ-loop
+cell-requires c κs = search needs
 
 returns : tie.Need-returns Inv-loop μ-loop
 returns c = search needs
@@ -44,9 +47,10 @@ pairs-ok-spec =
     Inv-loop
     μ-loop
     field-requires
-    least-requires
     loop-holds
-    pair-word-requires
+    get-requires
+    pair-requires
+    cell-requires
     returns
     add-i
     loop-less

@@ -5,22 +5,31 @@ use Rattle.benchsheet.proofs.second.restart.boundary_of.Statement.{stat
 use Rattle.benchsheet.proofs.second.restart.boundary_of.Tie as tie
 
 abbrev Inv-loop : tie.InvT-loop
-Inv-loop found n boundary₀ lane₀ lane-end boundary lane = Unit
+Inv-loop bench₀ n boundary₀ row₀ bench boundary row = Unit
 
 abbrev μ-loop : tie.MeasureT-loop
-μ-loop found n boundary₀ lane₀ lane-end boundary lane = lane-end - lane
+μ-loop bench₀ n boundary₀ row₀ bench boundary row = n - row
+
+clear-requires : tie.Need-clear-requires Inv-loop μ-loop
+clear-requires c κs = search needs
 
 loop-holds : tie.Need-loop-holds Inv-loop μ-loop
 loop-holds c = search needs
 
-newest-requires : tie.Need-newest-requires Inv-loop μ-loop
-newest-requires c κs = search needs
+cell-requires : tie.Need-cell-requires Inv-loop μ-loop
+cell-requires c κs = search needs
 
-lesser-requires : tie.Need-lesser-requires Inv-loop μ-loop
-lesser-requires c κs = search needs
+get-requires : tie.Need-get-requires Inv-loop μ-loop
+get-requires c κs = search needs
 
-add-lane : tie.Need-add-lane Inv-loop μ-loop
-add-lane c = search needs
+cell-requires-2 : tie.Need-cell-requires-2 Inv-loop μ-loop
+cell-requires-2 c κs = search needs
+
+put-requires : tie.Need-put-requires Inv-loop μ-loop
+put-requires c κs = search needs
+
+add-row : tie.Need-add-row Inv-loop μ-loop
+add-row c = search needs
 
 loop-less : tie.Need-loop-less Inv-loop μ-loop
 loop-less c = search needs
@@ -37,10 +46,13 @@ boundary-of-spec =
     (tie.spec
     Inv-loop
     μ-loop
+    clear-requires
     loop-holds
-    newest-requires
-    lesser-requires
-    add-lane
+    cell-requires
+    get-requires
+    cell-requires-2
+    put-requires
+    add-row
     loop-less
     loop-again
     returns)

@@ -5,10 +5,13 @@ use Rattle.benchsheet.proofs.second.restart.clear_logs.Statement.{state
 use Rattle.benchsheet.proofs.second.restart.clear_logs.Tie as tie
 
 abbrev Inv-loop : tie.InvT-loop
-Inv-loop places₀ listed end₀ i₀ i-end places end i = Unit
+Inv-loop bench₀ listed end₀ i₀ i-end bench end i = Unit
 
 abbrev μ-loop : tie.MeasureT-loop
-μ-loop places₀ listed end₀ i₀ i-end places end i = i-end - i
+μ-loop bench₀ listed end₀ i₀ i-end bench end i = i-end - i
+
+get-requires : tie.Need-get-requires Inv-loop μ-loop
+get-requires c κs = search needs
 
 plus-requires : tie.Need-plus-requires Inv-loop μ-loop
 plus-requires c κs = search needs
@@ -19,11 +22,8 @@ length-requires c κs = search needs
 loop-holds : tie.Need-loop-holds Inv-loop μ-loop
 loop-holds c = search needs
 
-put-requires : tie.Need-put-requires Inv-loop μ-loop
-put-requires c κs = search needs
-
-plus-requires-2 : tie.Need-plus-requires-2 Inv-loop μ-loop
-plus-requires-2 c κs = search needs
+list-requires : tie.Need-list-requires Inv-loop μ-loop
+list-requires c κs = search needs
 
 add-i : tie.Need-add-i Inv-loop μ-loop
 add-i c = search needs
@@ -43,11 +43,11 @@ clear-logs-spec =
     (tie.spec
     Inv-loop
     μ-loop
+    get-requires
     plus-requires
     length-requires
     loop-holds
-    put-requires
-    plus-requires-2
+    list-requires
     add-i
     loop-less
     loop-again

@@ -5,10 +5,10 @@ use Rattle.benchsheet.proofs.second.restart.make_stores.Statement.{stat
 use Rattle.benchsheet.proofs.second.restart.make_stores.Tie as tie
 
 abbrev Inv-loop : tie.InvT-loop
-Inv-loop nvm₀ places values count i₀ nvm i = Unit
+Inv-loop bench₀ count i₀ bench i = Unit
 
 abbrev μ-loop : tie.MeasureT-loop
-μ-loop nvm₀ places values count i₀ nvm i = count - i
+μ-loop bench₀ count i₀ bench i = count - i
 
 loop-holds : tie.Need-loop-holds Inv-loop μ-loop
 loop-holds c = search needs

@@ -5,19 +5,25 @@ use Rattle.benchsheet.proofs.second.restart.new_base.Statement.{stateme
 use Rattle.benchsheet.proofs.second.restart.new_base.Tie as tie
 
 abbrev Inv-loop : tie.InvT-loop
-Inv-loop shape slots base greatest₀ lane₀ lane-end greatest lane = Unit
+Inv-loop bench greatest₀ row₀ greatest row = Unit
 
 abbrev μ-loop : tie.MeasureT-loop
-μ-loop shape slots base greatest₀ lane₀ lane-end greatest lane = lane-end - lane
+μ-loop bench greatest₀ row₀ greatest row = 2048 - row
+
+get-requires : tie.Need-get-requires Inv-loop μ-loop
+get-requires c κs = search needs
 
 loop-holds : tie.Need-loop-holds Inv-loop μ-loop
 loop-holds c = search needs
 
-greatest-in-requires : tie.Need-greatest-in-requires Inv-loop μ-loop
-greatest-in-requires c κs = search needs
+whole-stamp-requires : tie.Need-whole-stamp-requires Inv-loop μ-loop
+whole-stamp-requires c κs = search needs
 
-add-lane : tie.Need-add-lane Inv-loop μ-loop
-add-lane c = search needs
+whole-stamp-requires-2 : tie.Need-whole-stamp-requires-2 Inv-loop μ-loop
+whole-stamp-requires-2 c κs = search needs
+
+add-row : tie.Need-add-row Inv-loop μ-loop
+add-row c = search needs
 
 loop-less : tie.Need-loop-less Inv-loop μ-loop
 loop-less c = search needs
@@ -34,9 +40,11 @@ new-base-spec =
     (tie.spec
     Inv-loop
     μ-loop
+    get-requires
     loop-holds
-    greatest-in-requires
-    add-lane
+    whole-stamp-requires
+    whole-stamp-requires-2
+    add-row
     loop-less
     loop-again
     returns)

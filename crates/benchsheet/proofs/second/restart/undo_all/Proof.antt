@@ -5,10 +5,10 @@ use Rattle.benchsheet.proofs.second.restart.undo_all.Statement.{stateme
 use Rattle.benchsheet.proofs.second.restart.undo_all.Tie as tie
 
 abbrev Inv-loop : tie.InvT-loop
-Inv-loop shape slots found n boundary places₀ values₀ end₀ row₀ places values end row = Unit
+Inv-loop bench₀ n boundary end₀ row₀ bench end row = Unit
 
 abbrev μ-loop : tie.MeasureT-loop
-μ-loop shape slots found n boundary places₀ values₀ end₀ row₀ places values end row = n - row
+μ-loop bench₀ n boundary end₀ row₀ bench end row = n - row
 
 loop-holds : tie.Need-loop-holds Inv-loop μ-loop
 loop-holds c = search needs

@@ -5,49 +5,40 @@ use Rattle.benchsheet.proofs.second.restart.undo_sequence.Statement.{st
 use Rattle.benchsheet.proofs.second.restart.undo_sequence.Tie as tie
 
 abbrev Inv-loop : tie.InvT-loop
-Inv-loop shape slots found row places₀ values₀ listed count end₀ k₀ places values end k = Unit
+Inv-loop bench₀ row listed closing end₀ k₀ k-end bench end k = Unit
 
 abbrev μ-loop : tie.MeasureT-loop
-μ-loop shape slots found row places₀ values₀ listed count end₀ k₀ places values end k = count - k
+μ-loop bench₀ row listed closing end₀ k₀ k-end bench end k = k-end - k
 
 cell-requires : tie.Need-cell-requires Inv-loop μ-loop
 cell-requires c κs = search needs
 
-loop-holds : tie.Need-loop-holds Inv-loop μ-loop
-loop-holds c = search needs
-
 cell-requires-2 : tie.Need-cell-requires-2 Inv-loop μ-loop
 cell-requires-2 c κs = search needs
 
-add-behind : tie.Need-add-behind Inv-loop μ-loop
-add-behind c = search needs
-
-behind-requires : tie.Need-behind-requires Inv-loop μ-loop
-behind-requires c κs = search needs
-
-cell-requires-3 : tie.Need-cell-requires-3 Inv-loop μ-loop
-cell-requires-3 c κs = search needs
-
-row-of-requires : tie.Need-row-of-requires Inv-loop μ-loop
-row-of-requires c κs = search needs
-
-cell-requires-4 : tie.Need-cell-requires-4 Inv-loop μ-loop
-cell-requires-4 c κs = search needs
+loop-holds : tie.Need-loop-holds Inv-loop μ-loop
+loop-holds c = search needs
 
 plus-requires : tie.Need-plus-requires Inv-loop μ-loop
 plus-requires c κs = search needs
 
-put-requires : tie.Need-put-requires Inv-loop μ-loop
-put-requires c κs = search needs
+behind-requires : tie.Need-behind-requires Inv-loop μ-loop
+behind-requires c κs = search needs
 
-cell-requires-5 : tie.Need-cell-requires-5 Inv-loop μ-loop
-cell-requires-5 c κs = search needs
+row-of-requires : tie.Need-row-of-requires Inv-loop μ-loop
+row-of-requires c κs = search needs
 
-put-requires-2 : tie.Need-put-requires-2 Inv-loop μ-loop
-put-requires-2 c κs = search needs
+cell-requires-3 : tie.Need-cell-requires-3 Inv-loop μ-loop
+cell-requires-3 c κs = search needs
+
+cell-requires-4 : tie.Need-cell-requires-4 Inv-loop μ-loop
+cell-requires-4 c κs = search needs
 
 plus-requires-2 : tie.Need-plus-requires-2 Inv-loop μ-loop
 plus-requires-2 c κs = search needs
+
+list-requires : tie.Need-list-requires Inv-loop μ-loop
+list-requires c κs = search needs
 
 add-k : tie.Need-add-k Inv-loop μ-loop
 add-k c = search needs
@@ -68,18 +59,15 @@ undo-sequence-spec =
     Inv-loop
     μ-loop
     cell-requires
-    loop-holds
     cell-requires-2
-    add-behind
-    behind-requires
-    cell-requires-3
-    row-of-requires
-    cell-requires-4
+    loop-holds
     plus-requires
-    put-requires
-    cell-requires-5
-    put-requires-2
+    behind-requires
+    row-of-requires
+    cell-requires-3
+    cell-requires-4
     plus-requires-2
+    list-requires
     add-k
     loop-less
     loop-again

@@ -5,13 +5,22 @@ use Rattle.benchsheet.proofs.second.running.run.Statement.{statement}
 use Rattle.benchsheet.proofs.second.running.run.Tie as tie
 
 abbrev Inv-loop : tie.InvT-loop
-Inv-loop words image txn writes₀ data₀ end at₀ count₀ counter₀ writes «data» at count counter = Unit
+Inv-loop bench₀ words end at₀ count₀ counter₀ bench at count counter = Unit
 
 abbrev μ-loop : tie.MeasureT-loop
-μ-loop words image txn writes₀ data₀ end at₀ count₀ counter₀ writes «data» at count counter = 16 - counter
+μ-loop bench₀ words end at₀ count₀ counter₀ bench at count counter = 16 - counter
 
-copy-data-requires : tie.Need-copy-data-requires Inv-loop μ-loop
-copy-data-requires c κs = search needs
+get-requires : tie.Need-get-requires Inv-loop μ-loop
+get-requires c κs = search needs
+
+plus-requires : tie.Need-plus-requires Inv-loop μ-loop
+plus-requires c κs = search needs
+
+copy-requires : tie.Need-copy-requires Inv-loop μ-loop
+copy-requires c κs = search needs
+
+get-requires-2 : tie.Need-get-requires-2 Inv-loop μ-loop
+get-requires-2 c κs = search needs
 
 loop-holds : tie.Need-loop-holds Inv-loop μ-loop
 loop-holds c = search needs
@@ -28,11 +37,11 @@ after-skip-requires c κs = search needs
 write-requires : tie.Need-write-requires Inv-loop μ-loop
 write-requires c κs = search needs
 
-plus-requires : tie.Need-plus-requires Inv-loop μ-loop
-plus-requires c κs = search needs
-
 plus-requires-2 : tie.Need-plus-requires-2 Inv-loop μ-loop
 plus-requires-2 c κs = search needs
+
+plus-requires-3 : tie.Need-plus-requires-3 Inv-loop μ-loop
+plus-requires-3 c κs = search needs
 
 add-counter : tie.Need-add-counter Inv-loop μ-loop
 add-counter c = search needs
@@ -52,14 +61,17 @@ run-spec =
     (tie.spec
     Inv-loop
     μ-loop
-    copy-data-requires
+    get-requires
+    plus-requires
+    copy-requires
+    get-requires-2
     loop-holds
     returns
     cell-requires
     after-skip-requires
     write-requires
-    plus-requires
     plus-requires-2
+    plus-requires-3
     add-counter
     loop-less
     loop-again

@@ -1,0 +1,85 @@
+-- `recovery::scan::offer` meets its contract. The loop's invariant: the slots below slot j are offered, and their timestamps counted in. The measure is the number of slots left.
+-- Assumes nothing.
+use Prim.Native.Nat.{_≤_, _-_}
+use mathlib.Core.Path.{sym, _∙_}
+use native.Mathlib.Omega.{arith}
+use borrow.Author.Needs.{needs}
+use Rattle.image.specs.Image.{imageLength, baseOf}
+use Rattle.image.specs.ImageLaws.{sizes-in}
+use Rattle.recovery.specs.ScanLaws.{OfferedTo, offered-start, offered-more, offered-all}
+use Rattle.recovery.proofs.scan.offer.Statement.{statement}
+use Rattle.recovery.proofs.scan.offer.Tie as tie
+
+abbrev Inv-loop : tie.InvT-loop
+Inv-loop sizes nvm lane stamps₀ greatest base most₀ j₀ j-end stamps most j = (j ≤ j-end) × OfferedTo sizes nvm lane greatest j stamps most
+
+abbrev μ-loop : tie.MeasureT-loop
+μ-loop sizes nvm lane stamps₀ greatest base most₀ j₀ j-end stamps most j = j-end - j
+
+shared-slice-read-base : tie.Need-shared-slice-read-base Inv-loop μ-loop
+unfolding imageLength
+shared-slice-read-base c = omega arith
+
+loop-holds : tie.Need-loop-holds Inv-loop μ-loop
+loop-holds c = (search needs, offered-start _ _ _ _ _ (search needs))
+
+slot-in-requires : tie.Need-slot-in-requires Inv-loop μ-loop
+slot-in-requires c κs = search needs
+
+whole-stamp-requires : tie.Need-whole-stamp-requires Inv-loop μ-loop
+whole-stamp-requires c κs = search needs
+
+offered-requires : tie.Need-offered-requires Inv-loop μ-loop
+offered-requires c κs = search needs
+
+mul-stamps : tie.Need-mul-stamps Inv-loop μ-loop
+mul-stamps c = omega (arith, sizes-in _ (c .before .before .before .before .before .before .before .before .pre .0) .slots-high)
+
+slice-write-stamps : tie.Need-slice-write-stamps Inv-loop μ-loop
+slice-write-stamps c = omega (arith, c .before .before .before .before .loop .inv .1 .long)
+
+greater-requires : tie.Need-greater-requires Inv-loop μ-loop
+greater-requires c κs = search needs
+
+add-j : tie.Need-add-j Inv-loop μ-loop
+add-j c = omega (arith, sizes-in _ (c .before .before .before .before .before .before .before .before .before .pre .0) .slots-high)
+
+loop-less : tie.Need-loop-less Inv-loop μ-loop
+loop-less c = search needs
+
+loop-again : tie.Need-loop-again Inv-loop μ-loop
+unfolding baseOf
+loop-again c =
+    let o = c .before in
+    let w = o .before in
+    let s = w .before in
+    let l = s .before .before .loop in
+    (search needs, offered-more _ _ _ _ (l .j) (l .stamps) (l .most) (l .inv .1) (search needs) _ _ _ _ (s .slot-in .ensures) (w .whole-stamp .ensures) (o .offered .ensures) (c .greater .ensures))
+
+same-length : tie.Need-same-length Inv-loop μ-loop
+same-length c = c .before .loop .inv .1 .long ∙ sym (c .before .before .before .before .before .pre .3)
+
+returns : tie.Need-returns Inv-loop μ-loop
+returns c =
+    let l = c .before .loop in
+    offered-all _ _ _ _ (l .j) (l .stamps) (l .most) (l .inv .1) (omega arith)
+
+pub offer-spec : {M : Type 1} → statement M
+offer-spec =
+    tie.close
+    (tie.spec
+    Inv-loop
+    μ-loop
+    shared-slice-read-base
+    loop-holds
+    slot-in-requires
+    whole-stamp-requires
+    offered-requires
+    mul-stamps
+    slice-write-stamps
+    greater-requires
+    add-j
+    loop-less
+    loop-again
+    same-length
+    returns)
