@@ -144,12 +144,23 @@ pub(crate) fn every_set(bench: &mut Bench, i: u64) {
     }
 }
 
-// ---- refusal 9. Lane 0's log has a sequence of two entries at slots 10 to 12 with timestamp 4, and one of an entry at slot 33 and timestamp 10 at slot 0, over the wrap.
-// The entries are of word 1, old value 5.
+// ---- refusal 9
+// Entries of word 1, old value 5, in four slots of lane 0's log.
+fn four_entries(bench: &mut Bench, slot: u64) {
+    edges::put_slot(bench, 0, slot, 18, 4);
+    edges::put_slot(bench, 0, plus(slot, 1), 18, 4);
+    edges::put_slot(bench, 0, plus(slot, 2), 18, 4);
+    edges::put_slot(bench, 0, plus(slot, 3), 18, 4);
+}
+
+// Lane 0's log has a sequence of sixteen entries, the longest, at slots 10 to 25 with timestamp 4 at slot 26, and one of an entry at slot 33 and timestamp 10 at slot 0,
+// over the wrap.
 fn two_sequences(bench: &mut Bench) {
-    edges::put_slot(bench, 0, 10, 18, 4);
-    edges::put_slot(bench, 0, 11, 18, 4);
-    edges::put_slot(bench, 0, 12, 32784, 4);
+    four_entries(bench, 10);
+    four_entries(bench, 14);
+    four_entries(bench, 18);
+    four_entries(bench, 22);
+    edges::put_slot(bench, 0, 26, 32896, 4);
     edges::put_slot(bench, 0, 33, 19, 5);
     edges::put_slot(bench, 0, 0, 32776, 10);
 }
@@ -164,9 +175,7 @@ fn writes_slot(next: u64, count: u64, slot: u64) -> bool {
 // floor does not matter.
 fn hits(next: u64, count: u64, other: u64) -> bool {
     let newer = writes_slot(next, count, 33) || writes_slot(next, count, 0);
-    let older = writes_slot(next, count, 10)
-        || writes_slot(next, count, 11)
-        || writes_slot(next, count, 12);
+    let older = writes_slot(next, count, 10) || (10 <= next && next <= 26);
     newer || (older && other <= 4)
 }
 
