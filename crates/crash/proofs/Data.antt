@@ -1,5 +1,6 @@
 -- What a transaction's writes say of the words before and after it, and why undoing from b on gives the words below b. Assumes nothing.
 use mathlib.Core.Path.{_≡_, refl, ap, _∙_, sym}
+use mathlib.Core.Logic.{_⊎_, inl, inr}
 use mathlib.Core.Bool.{Bool, true, false, cond}
 use mathlib.Core.List.{List, [], _∷_, _++_}
 use Prim.Native.Nat.{ℕ, suc, _+_, _≤_, _<_, max}
@@ -9,7 +10,7 @@ use lib.ListN.{length, getD, set}
 use lib.Seq.{getD-set-other}
 use borrow.Author.Tests.{eqb-true, eqb-false, ltb-true, ltb-false, lt-ltb, le-ltb}
 use Rattle.laws.specs.Tests.{split, clash, or-left, or-right}
-use Rattle.laws.specs.Lists.{All, none as nil, more, All-map}
+use Rattle.laws.specs.Lists.{All, none as nil, more, All-map, All-rest}
 use Rattle.txn.specs.Txn.{applied, run, after}
 use Rattle.txn.specs.TxnLaws.{Chain, chain-nil, chain-cons, run-chain, length-applied}
 use Rattle.txn.specs.declared.Write.{Write}
@@ -17,9 +18,10 @@ use Rattle.log.specs.Log.{Old, Complete}
 use Rattle.log.specs.declared.Timestamp.{Timestamp}
 use Rattle.log.specs.declared.Timestamp.the-variants.{None, At}
 use Rattle.crash.specs.History.{Commit, isBelow, replay}
-use Rattle.laws.specs.Members.{In, In-All, All-In}
-use Rattle.recovery.specs.OrderLaws.{Falling, lowest, above, Undoes}
-use Rattle.recovery.specs.UndoneLaws.{firstOld, writes, firstsOf, anyWrites, anyWrites-in, firstsOf-none, OldIs, Steady, settled, steady, firstsOf-steady}
+use Rattle.laws.specs.Members.{In, here, there, in-cases, In-All, All-In}
+use Rattle.recovery.specs.Recovery.{undoneBefore}
+use Rattle.recovery.specs.OrderLaws.{Falling, lowest, above, Sorted, empty, first, is-before, not-self, Undoes}
+use Rattle.recovery.specs.UndoneLaws.{firstOld, writes, firstsOf, anyWrites, anyWrites-in, firstsOf-none, OldIn, Ends, done, ends, firstsOf-ends}
 
 -- ---- a run's writes
 -- as the entries of a log
@@ -154,36 +156,68 @@ seq-bound (q ∷ qs) =
     (max (q .stamp) (r .0), more {x = q} (omega arith) (All-map (λ d h. omega (arith, h)) (r .1)))
 
 -- ---- the words after undoing everything at or above b
-module _ (W w b : ℕ) (start : List ℕ) (cs : List Commit) (order : Rising cs) where
-  -- no sequence of a list that is below s names w
-  abbrev NoneBelow : ℕ → List Complete → Type 0
-  NoneBelow s rs = All (λ q. q .stamp < s → writes (q .entries) w ≡ false) rs
+module _ (W w b : ℕ) (start : List ℕ) (cs : List Commit) (order : Rising cs) (qs : List Complete) where
+  abbrev Old-is : Complete → Type 0
+  Old-is q = OldIn w (valueBelow W w start cs) qs q
 
-  none-writes : (s : ℕ) (rs : List Complete) → anyWrites rs w ≡ false → NoneBelow s rs
+  none-below : (s : ℕ) (rs : List Complete) → anyWrites rs w ≡ false → All (λ q. q .stamp < s → writes (q .entries) w ≡ false) rs
   unfolding anyWrites
-  none-writes s [] e = nil
-  none-writes s (q ∷ rs) e = more (λ l. or-left (writes (q .entries) w) _ e) (none-writes s rs (or-right (writes (q .entries) w) _ e))
+  none-below s [] e = nil
+  none-below s (q ∷ rs) e = more (λ l. or-left (writes (q .entries) w) _ e) (none-below s rs (or-right (writes (q .entries) w) _ e))
 
-  each : (top : ℕ) {rs : List Complete} → All (λ r. r .stamp ≤ top) rs → All (λ r. b ≤ r .stamp) rs → Falling rs
-      → ((s : ℕ) → s ≤ top → b ≤ s → NoneBelow s rs → Untouched W w b s start cs) → Steady w (valueBelow W w start cs) (valueBelow W w start cs b) rs
-  unfolding valueBelow
-  each top nil nil lowest ctx = settled
-  each top (more h hs) (more g gs) (above {q = q} {qs = rs} f fs) ctx =
-      steady
-      (λ e. steady-replay W w b (q .stamp) g order (ctx (q .stamp) h g (more (λ l. absurd (omega arith)) (none-writes (q .stamp) rs e))))
-      (each (q .stamp) f gs fs (λ s l k nb. ctx s (omega arith) k (more (λ m. absurd (omega arith)) nb)))
+  none-in : (rs : List Complete) → anyWrites rs w ≡ false → {r : Complete} → In r rs → writes (r .entries) w ≡ false
+  unfolding anyWrites
+  none-in (q ∷ rs) e here = or-left (writes (q .entries) w) _ e
+  none-in (q ∷ rs) e (there i) = none-in rs (or-right (writes (q .entries) w) _ e) i
 
-  -- rs undoes the sequences of qs at or above b, each with the value below its timestamp; a word that some commit at or above b
-  -- and below s writes is named by a sequence in between; and a word that none of them names is as it is with all commits
-  pub final : (x : ℕ) {qs rs : List Complete} → Undoes b qs rs → All (OldIs w (valueBelow W w start cs)) qs
+  -- where a sequence of qs stands: in the rest of the list, or before all of it
+  abbrev Where : List Complete → Type 0
+  Where rs = (r : Complete) → In r qs → b ≤ r .stamp → (In r rs) ⊎ (All (λ x. undoneBefore x r ≡ false) rs)
+
+  where-rest : {q : Complete} {rs : List Complete} → All (λ r. undoneBefore r q ≡ false) rs → Where (q ∷ rs) → Where rs
+  where-rest {q} {rs} a f r i l = go (f r i l)
+    where
+      it : (r ≡ q) ⊎ In r rs → (In r rs) ⊎ (All (λ x. undoneBefore x r ≡ false) rs)
+      it (inl e) = inr (rw e a)
+      it (inr j) = inl j
+
+      go : (In r (q ∷ rs)) ⊎ (All (λ x. undoneBefore x r ≡ false) (q ∷ rs)) → (In r rs) ⊎ (All (λ x. undoneBefore x r ≡ false) rs)
+      go (inl j) = it (in-cases j)
+      go (inr h) = inr (All-rest h)
+
+  after-it : {q : Complete} {rs : List Complete} → Where (q ∷ rs) → anyWrites rs w ≡ false → (r : Complete) → In r qs → b ≤ r .stamp → undoneBefore q r ≡ true → writes (r .entries) w ≡ false
+  after-it {q} {rs} f e r i l t = go (f r i l)
+    where
+      it : (r ≡ q) ⊎ In r rs → writes (r .entries) w ≡ false
+      it (inl d) = not-self q (is-before q q (rw d at t))
+      it (inr j) = none-in rs e j
+
+      go : (In r (q ∷ rs)) ⊎ (All (λ x. undoneBefore x r ≡ false) (q ∷ rs)) → writes (r .entries) w ≡ false
+      go (inl j) = it (in-cases j)
+      go (inr h) = clash _ t (In-All h here)
+
+  each : (top : ℕ) {rs : List Complete} → All (λ r. r .stamp ≤ top) rs → All (λ r. b ≤ r .stamp) rs → Falling rs → Sorted rs → All Old-is rs → Where rs
+      → ((s : ℕ) → s ≤ top → b ≤ s → All (λ q. q .stamp < s → writes (q .entries) w ≡ false) rs → Untouched W w b s start cs) → Ends w (valueBelow W w start cs b) rs
+  unfolding valueBelow OldIn
+  each top nil nil lowest empty nil f ctx = done
+  each top (more h hs) (more g gs) (above {q = q} {qs = rs} a fs) (first u us) (more o os) f ctx =
+      ends
+      (λ e n x. o (λ r i s t. after-it f e r i (omega arith) t) n x
+      ∙ steady-replay W w b (q .stamp) g order (ctx (q .stamp) h g (more (λ l. absurd (omega arith)) (none-below (q .stamp) rs e))))
+      (each (q .stamp) a gs fs us os (where-rest u f) (λ s l k nb. ctx s (omega arith) k (more (λ m. absurd (omega arith)) nb)))
+
+  -- rs undoes the sequences of qs at or above b, each with the value below its timestamp unless one of the same timestamp that is undone after it names the word too;
+  -- a word that some commit at or above b and below s writes is named by a sequence in between; and a word that none of them names is as it is with all commits
+  pub final : (x : ℕ) {rs : List Complete} → Undoes b qs rs → ((q : Complete) → In q qs → b ≤ q .stamp → Old-is q)
       → ((s : ℕ) → b ≤ s → NoneBetween w b s qs → Untouched W w b s start cs)
       → (NoneFrom w b qs → x ≡ getD (replay W None cs start) w 0)
       → firstsOf rs w x ≡ valueBelow W w start cs b
   unfolding valueBelow
-  final x {qs} {rs} u o ctx out =
+  final x {rs} u o ctx out =
       split (anyWrites rs w)
-      (λ e. firstsOf-steady w (valueBelow W w start cs) x (All-In rs (λ q i. In-All o (u .found i)))
-      (each (seq-bound rs .0) (seq-bound rs .1) (u .from) (u .falling) (λ s l k n. ctx s k (λ q i g h. In-All n (u .every i g) h))) e)
+      (λ e. firstsOf-ends w (getD (replay W (At b) cs start) w 0) x
+      (each (seq-bound rs .0) (seq-bound rs .1) (u .from) (u .falling) (u .sorted) (All-In rs (λ q i. o q (u .found i) (In-All (u .from) i))) (λ r i l. inl (u .every i l))
+      (λ s l k n. ctx s k (λ q i g h. In-All n (u .every i g) h))) e)
       (λ e. firstsOf-none rs w x e ∙ out (λ q i g. none e i g) ∙ all e)
     where
       none : anyWrites rs w ≡ false → {q : Complete} → In q qs → b ≤ q .stamp → writes (q .entries) w ≡ false

@@ -19,7 +19,7 @@ use Rattle.record.specs.Record.{laneAt}
 use Rattle.store.specs.Machine.{Machine}
 use Rattle.crash.specs.History.{floorOr}
 use Rattle.crash.specs.Theorem.{NotBelow, noBoundary, atLeast}
-use Rattle.laws.specs.Members.{In, here, there, In-All}
+use Rattle.laws.specs.Members.{In, here, there, in-cases, In-All}
 use Rattle.recovery.specs.BoundaryLaws.{latest-above, latest-in}
 use Rattle.crash.proofs.Ghost.{Past, sta}
 use Rattle.crash.proofs.Seqs.{Seq, Hist, Since, level, grown, sealed, next, restamped, pastOf, length-new, stands, newest-end}
@@ -29,10 +29,6 @@ use Rattle.crash.proofs.Shown.{Shown, Listed, shown-found, shown-there}
 use Rattle.crash.proofs.Written.{Falls, onto, Written, Whole, foundAs, newestIn, newest-stamp, newest-whole, shown-nothing, shown-latest}
 use Rattle.crash.proofs.Shape.{Shape}
 use Rattle.crash.proofs.LaneLog.{Track, LaneLog}
-
-in-cases : {A : Type 0} {x y : A} {l : List A} → In x (y ∷ l) → (x ≡ y) ⊎ In x l
-in-cases here = inl refl
-in-cases (there i) = inr i
 
 -- a log shows the present history or the former, both exact as far as the former goes
 pub data CutLog (z : Sizes) (log : List ℕ) (prior hist : List Past) (priors gs : List Seq) : Type 0 where

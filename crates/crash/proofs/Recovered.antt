@@ -6,7 +6,6 @@ use Prim.Native.Nat.{ℕ, _+_, _≤_, _<_}
 use native.Mathlib.Omega.{arith}
 use lib.ListN.{length, getD}
 use Rattle.laws.specs.Tests.{split, clash}
-use Rattle.laws.specs.Lists.{All, All-map}
 use Rattle.txn.specs.Txn.{after}
 use Rattle.image.specs.Image.{imageLength, dataOf}
 use Rattle.image.specs.declared.Sizes.{Sizes}
@@ -16,23 +15,19 @@ use Rattle.recovery.specs.Recovery.{boundary, completeOf, undone}
 use Rattle.crash.specs.History.{Commit, replay}
 use Rattle.laws.specs.Members.{In}
 use Rattle.recovery.specs.OrderLaws.{undone-at}
-use Rattle.recovery.specs.UndoneLaws.{firstOld, writes, firstsOf, OldIs}
+use Rattle.recovery.specs.UndoneLaws.{writes, firstsOf, OldIn}
 use Rattle.crash.proofs.Data.{Rising, Untouched, stop, pass, txnWrites, valueBelow, NoneBetween, NoneFrom, length-replay, final}
 use Rattle.recovery.specs.AgainLaws.{recoveredImage}
 use Rattle.recovery.specs.FreshLaws.{recovered-words, recovered-none}
 
 -- ---- what is found
--- a sequence has, first, for each word that it names, the value below its timestamp
-unfoldable pub Says : (W : ℕ) (start : List ℕ) (cs : List Commit) → Complete → Type 0
-Says W start cs q = (w : ℕ) → w < W → (x : ℕ) → writes (q .entries) w ≡ true → firstOld (q .entries) w x ≡ getD (replay W (At (q .stamp)) cs start) w 0
-
 -- the cut cells c against the start words and the commits, where the boundary is b
 pub record CutAt (z : Sizes) (c start : List ℕ) (cs : List Commit) (b : ℕ) : Type 0 where
   pub size : length c ≡ imageLength z
   pub words : length start ≡ z.words
   pub bound : boundary z c ≡ At b
   pub order : Rising cs
-  pub olds : All (Says z.words start cs) (completeOf z c z.lanes)
+  pub olds : (w : ℕ) → w < z.words → (q : Complete) → In q (completeOf z c z.lanes) → b ≤ q .stamp → OldIn w (valueBelow z.words w start cs) (completeOf z c z.lanes) q
   -- a word that no sequence found from b on and below s names, no commit from b on and below s writes
   pub found : (w : ℕ) → w < z.words → (s : ℕ) → b ≤ s → NoneBetween w b s (completeOf z c z.lanes) → Untouched z.words w b s start cs
   -- a word that no sequence found from b on names is that of all commits
@@ -40,9 +35,9 @@ pub record CutAt (z : Sizes) (c start : List ℕ) (cs : List Commit) (b : ℕ) :
 
 module _ (z : Sizes) (c start : List ℕ) (cs : List Commit) (b : ℕ) (k : CutAt z c start cs b) where
   word : (w : ℕ) → w < z.words → firstsOf (undone z c) w (getD c (1 + w) 0) ≡ getD (replay z.words (At b) cs start) w 0
-  unfolding valueBelow OldIs Says
+  unfolding valueBelow
   word w h =
-      final z.words w b start cs (k .order) (getD c (1 + w) 0) (undone-at z c b (k .bound)) (All-map (λ q f x e. f w h x e) (k .olds)) (k .found w h) (k .rest w h)
+      final z.words w b start cs (k .order) (completeOf z c z.lanes) (getD c (1 + w) 0) (undone-at z c b (k .bound)) (k .olds w h) (k .found w h) (k .rest w h)
 
   -- the words that a finished recovery leaves
   pub recovered-data : dataOf z (recoveredImage z c) ≡ replay z.words (At b) cs start
@@ -60,24 +55,25 @@ recovered-right z c start cs (cut b k) = rw (k .bound) (recovered-data z c start
 
 -- ---- the fields `found` and `rest` from what backs a commit, and a word
 module _ (W b : ℕ) (qs : List Complete) where
-  -- a commit, run on the words ws, has a sequence among qs, from b on and not above it, that names what it writes
-  pub record Backing (c : Commit) (ws : List ℕ) : Type 0 where
+  -- a sequence among qs, from b on and not above a commit, names word w
+  pub record Backing (c : Commit) (w : ℕ) : Type 0 where
     pub by : Complete
     pub among : In by qs
     pub from : b ≤ by .stamp
     pub upto : by .stamp ≤ c .stamp
-    pub same : (w : ℕ) → w < W → txnWrites W w (c .txn) ws ≡ true → writes (by .entries) w ≡ true
+    pub named : writes (by .entries) w ≡ true
 
-  -- and so has each commit from b on
+  -- each word that a commit from b on writes, run on the words ws, has one
   pub data Backed : List ℕ → List Commit → Type 0 where
     finish : {ws : List ℕ} → Backed ws []
-    back : {ws : List ℕ} {c : Commit} {cs : List Commit} → (b ≤ c .stamp → Backing c ws) → Backed (after W (c .txn) ws) cs → Backed ws (c ∷ cs)
+    back : {ws : List ℕ} {c : Commit} {cs : List Commit} → (b ≤ c .stamp → (w : ℕ) → w < W → txnWrites W w (c .txn) ws ≡ true → Backing c w)
+        → Backed (after W (c .txn) ws) cs → Backed ws (c ∷ cs)
 
   pub untouched : (w s : ℕ) {ws : List ℕ} {cs : List Commit} → w < W → Backed ws cs → NoneBetween w b s qs → Untouched W w b s ws cs
   untouched w s h finish n = stop
   untouched w s h (back {ws = ws} {c = c} f r) n =
       pass (λ l m. split (txnWrites W w (c .txn) ws)
-      (λ e. let k = f l in clash (writes (k .by .entries) w) (k .same w h e) (n (k .by) (k .among) (k .from) (omega (arith, k .upto))))
+      (λ e. let k = f l w h e in clash (writes (k .by .entries) w) (k .named) (n (k .by) (k .among) (k .from) (omega (arith, k .upto))))
       (λ e. e))
       (untouched w s h r n)
 
@@ -93,7 +89,7 @@ word-rest z c start cs b w (named q i l t) n = clash (writes (q .entries) w) t (
 
 -- so, in these terms
 pub cut-at : (z : Sizes) (c start : List ℕ) (cs : List Commit) (b : ℕ) → length c ≡ imageLength z → length start ≡ z.words → boundary z c ≡ At b → Rising cs
-    → All (Says z.words start cs) (completeOf z c z.lanes)
+    → ((w : ℕ) → w < z.words → (q : Complete) → In q (completeOf z c z.lanes) → b ≤ q .stamp → OldIn w (valueBelow z.words w start cs) (completeOf z c z.lanes) q)
     → Backed z.words b (completeOf z c z.lanes) start cs
     → ((w : ℕ) → w < z.words → Word z c start cs b w)
     → CutAt z c start cs b

@@ -41,23 +41,18 @@ pub record Flushes (z : Sizes) (m : Machine) (w : ℕ) : Type 0 where
   pub low : lane < z .lanes
   pub bit : flushed lane (getD (m .flags) (1 + w) 0) ≡ true
 
--- a commit is backed by a whole sequence with its timestamp that names every word that it wrote
-pub record BackedBy (z : Sizes) (h : History) (ts : ℕ → Track) (c : Commit) : Type 0 where
+-- a sequence with timestamp s names word w
+pub record NamedBy (z : Sizes) (ts : ℕ → Track) (s w : ℕ) : Type 0 where
   pub lane : ℕ
   pub low : lane < z .lanes
   pub by : Seq
   pub among : In by (ts lane .gs)
-  pub stamp : by .stamp ≡ c .stamp
-  pub whole : Whole (z .slots) (ts lane .hist) by
-  pub names : (w : ℕ) → w < z .words → txnWrites (z .words) w (c .txn) (replay (z .words) (At (c .stamp)) (h .commits) (h .start)) ≡ true → writes (by .entries) w ≡ true
+  pub stamp : by .stamp ≡ s
+  pub named : writes (by .entries) w ≡ true
 
--- some lane has drained a sequence
-pub record Drained (z : Sizes) (ts : ℕ → Track) : Type 0 where
-  pub lane : ℕ
-  pub low : lane < z .lanes
-  pub by : Seq
-  pub rest : List Seq
-  pub newest : ts lane .priors ≡ by ∷ rest
+-- each word that a commit writes is named with its timestamp
+unfoldable pub Backed : Sizes → History → (ℕ → Track) → Commit → Type 0
+Backed z h ts c = (w : ℕ) → w < z .words → txnWrites (z .words) w (c .txn) (replay (z .words) (At (c .stamp)) (h .commits) (h .start)) ≡ true → NamedBy z ts (c .stamp) w
 
 pub record Ties (z : Sizes) (base : ℕ) (m : Machine) (h : History) : Type 0 where
   pub ts : ℕ → Track
@@ -76,7 +71,6 @@ pub record Ties (z : Sizes) (base : ℕ) (m : Machine) (h : History) : Type 0 wh
   -- a data word is the same in non-volatile memory, or some lane has flushed it; a lane has flushed only words of its newest commit
   pub cells : (w : ℕ) → w < z .words → (getD (m .nvm) (1 + w) 0 ≡ getD (m .cache) (1 + w) 0) ⊎ Flushes z m w
   pub flags : (L : ℕ) → L < z .lanes → (w : ℕ) → w < z .words → flushed L (getD (m .flags) (1 + w) 0) ≡ true → Names (ts L) w
-  -- every commit at or above the least floor is backed
-  pub backed : (b : ℕ) → leastFloorOf (h .pages) ≡ At b → (c : Commit) → In c (h .commits) → b ≤ c .stamp → BackedBy z h ts c
-  -- there is a commit only if some lane has drained a sequence
-  pub once : (h .commits ≡ []) ⊎ Drained z ts
+  -- every commit is backed, and what is at or above the least floor stands whole
+  pub backed : (c : Commit) → In c (h .commits) → Backed z h ts c
+  pub whole : (L : ℕ) → L < z .lanes → (b : ℕ) → leastFloorOf (h .pages) ≡ At b → (g : Seq) → In g (ts L .gs) → b ≤ g .stamp → Whole (z .slots) (ts L .hist) g

@@ -1,7 +1,7 @@
 -- The ties are kept by an append, Log's or Mark's: the new sequence has the old values of the present words, its timestamp is above every commit's, and
 -- refusal 9 leaves the sequences of the commits at or above the least floor whole. Assumes nothing.
 use mathlib.Core.Path.{_≡_, refl, ap, _∙_, sym, subst}
-use mathlib.Core.Logic.{_≢_, inl}
+use mathlib.Core.Logic.{_≢_, _⊎_, inl, inr}
 use mathlib.Core.Bool.{true, false}
 use mathlib.Core.List.{List, [], _++_, append-nil}
 use mathlib.Core.Option.{Option, none, some}
@@ -29,7 +29,7 @@ use Rattle.record.specs.declared.Lane.{Lane}
 use Rattle.store.specs.Machine.{Machine}
 use Rattle.store.specs.Calls.{drained, changed, writesOn, appended, logged}
 use Rattle.crash.specs.History.{Commit, Page, History, pageAt, replay, wordsBelow, present, floorOr, settled, stamped, leastFloorOf, writesLogged}
-use Rattle.laws.specs.Members.{In, there}
+use Rattle.laws.specs.Members.{In, in-cases, there}
 use Rattle.recovery.specs.UndoneLaws.{writes, firstOld}
 use Rattle.crash.proofs.Data.{oldsOf, chain-first, replay-all}
 use Rattle.crash.proofs.Moves.{Known, Room}
@@ -40,14 +40,14 @@ use Rattle.crash.proofs.Onward.{onward-settled, onward-stamped, writes-
 use Rattle.crash.proofs.Books.{book-drains, not-held}
 use Rattle.crash.proofs.Regions.{Inside, inside-late, stored-base, among-late}
 use Rattle.crash.proofs.Append.{append-inside}
-use Rattle.crash.proofs.Seqs.{Seq, next, pastOf}
-use Rattle.crash.proofs.Written.{Whole, newestIn}
+use Rattle.crash.proofs.Seqs.{Seq, Hist, next, pastOf}
+use Rattle.crash.proofs.Written.{Whole, newestIn, newest-whole}
 use Rattle.crash.proofs.Shape.{Shape}
 use Rattle.crash.proofs.LaneLog.{Track, levelled, extended, next-low}
 use Rattle.crash.proofs.LaneReads.{lane-stays-whole}
-use Rattle.crash.proofs.Running.{Running, updated, running-logs, running-marks}
+use Rattle.crash.proofs.Running.{Running, updated, updated-same, running-logs, running-marks}
 use Rattle.crash.proofs.Ties.{TrueOf, Ties}
-use Rattle.crash.proofs.TiesLaws.{TrackTo, track-to, track-on, Cells, cells-changed, drained-mine, changed-mine, changed-others, all-onward, floor-first, given-now, Moving, TiesOf, ties-moved}
+use Rattle.crash.proofs.TiesLaws.{AtMost, TrackTo, track-to, track-on, Cells, cells-changed, drained-mine, changed-mine, changed-others, all-onward, floor-first, given-now, Moving, TiesOf, ties-moved}
 use Rattle.crash.proofs.TiesLogs.{ties-logs}
 use Rattle.crash.proofs.TiesDrain.{drained-ties}
 
@@ -177,6 +177,16 @@ module _ (z : Sizes) (base : ℕ) (h : History) (m : Machine) (b : Book z base h
         lane-stays-whole z L m (t .ts L) (t .running .shape) (t .running .lanes L (k .lane)) ws f stamp (room .slots)
         (bound-drained z base h m b (ties-logs z base m h b t) L (k .lane) ∙ e) i w l
 
+    -- the new sequence is whole by its position
+    kept-new : Running z to us → (g : Seq) → (g ≡ next (t .ts L .hist) (oldsOf ws) stamp) ⊎ In g (t .ts L .gs)
+        → ((In g (drain .ties .ts L .gs)) × (AtMost (leastFloorOf (was .pages)) (g .stamp) → Whole z.slots (drain .ties .ts L .hist) g → Whole z.slots (t .ts L .hist ++ pastOf (oldsOf ws) stamp) g))
+        ⊎ (Whole z.slots (t .ts L .hist ++ pastOf (oldsOf ws) stamp) g)
+    kept-new runs g (inl e) =
+        let l = subst (λ u. Hist z.words z.slots (u .hist) (u .gs)) (updated-same L (extended z L m ws stamp (t .ts L)) (t .ts)) (runs .lanes L (k .lane) .now .history) in
+        inr (rw e (newest-whole z (shape .sizes) l))
+    kept-new runs g (inr j) =
+        inl (rw (level-tracks .here) (j, λ a w. stays-whole (a .stamp) (a .is) g j (a .low) w))
+
     module _ (runs : Running z to us) (entries : (x : Logged) → phase ≡ Holds x → oldsOf ws ≡ oldsOf (writesLogged z L (new held))) where
       moving : Moving z L was (new held) from to (drain .ties .ts) us
       moving =
@@ -199,13 +209,9 @@ module _ (z : Sizes) (base : ℕ) (h : History) (m : Machine) (b : Book z base h
             own = λ w i e. clash _ e (own-to w i);
             others = others-to;
             floor = λ x l f. floor-first (pageAt was L .floor) (was .clock + 2) x (omega arith) f;
-            kept = λ c i f g j e w.
-                let j′ : In g (t .ts L .gs) = rw (level-tracks .here) at j in
-                let w′ : Whole z.slots (t .ts L .hist) g = rw (level-tracks .here) at w in
-                (there j′, stays-whole (f .stamp) (f .is) g j′ (omega (arith, f .low)) w′);
+            stays = λ c i g j e. there (rw (level-tracks .here) at j);
+            kept = λ g j. kept-new runs g (in-cases j);
             fresh = λ c i. inl (subst (In c) (commits-was held) i);
-            first = inl (commits-was held);
-            still = λ o. rw (level-tracks .here) at o;
           }
 
       pub appended-ties : Ties z base to (new held)

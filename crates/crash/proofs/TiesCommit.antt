@@ -28,8 +28,8 @@ use Rattle.record.specs.declared.Phase.the-variants.{Idle, Holds}
 use Rattle.record.specs.declared.Lane.{Lane}
 use Rattle.store.specs.Machine.{Machine}
 use Rattle.store.specs.Calls.{drained, changed, writesOn, pairStores, commitStores, committed, isStale, redoPairs, matches}
-use Rattle.crash.specs.History.{Commit, Page, History, pageAt, isBelow, wordsBelow, present, floorOr, settled, stamped, heldBy, writesLogged}
-use Rattle.laws.specs.Members.{In, here, there, In-append, In-All}
+use Rattle.crash.specs.History.{Commit, Page, History, pageAt, isBelow, wordsBelow, present, floorOr, settled, stamped, heldBy, writesLogged, leastFloorOf}
+use Rattle.laws.specs.Members.{In, in-cases, here, there, In-append, In-All}
 use Rattle.recovery.specs.UndoneLaws.{writes, firstOld}
 use Rattle.crash.proofs.Data.{oldsOf, txnWrites, run-first, replay-all, replay-snoc}
 use Rattle.crash.proofs.Moves.{Known, Ready}
@@ -45,9 +45,9 @@ use Rattle.crash.proofs.Shape.{commit-past}
 use Rattle.crash.proofs.LaneLog.{Track, sealGs, sealHist, length-sealGs, length-sealHist, levelled, restampedBy}
 use Rattle.crash.proofs.LaneReads.{HeldSeq, lane-held}
 use Rattle.crash.proofs.Running.{Running, updated, updated-same, running-commits}
-use Rattle.crash.proofs.Ties.{TrueOf, BackedBy, Ties}
+use Rattle.crash.proofs.Ties.{TrueOf, Backed, Ties}
 use Rattle.crash.proofs.TiesLogs.{ties-logs}
-use Rattle.crash.proofs.TiesLaws.{floor-first, TrackTo, track-to, track-on, Cells, cells-changed, drained-mine, changed-mine, changed-others, all-onward, logged-onward, given-now, Moving, TiesOf, ties-moved}
+use Rattle.crash.proofs.TiesLaws.{AtMost, floor-first, TrackTo, track-to, track-on, Cells, cells-changed, drained-mine, changed-mine, changed-others, all-onward, logged-onward, given-now, Moving, TiesOf, ties-moved}
 use Rattle.crash.proofs.TiesDrain.{drained-ties}
 
 -- ---- what a commit stores and flushes
@@ -165,24 +165,30 @@ module _ (z : Sizes) (base : ℕ) (h : History) (m : Machine) (b : Book z base h
       let w : Whole z.slots (t .ts L .hist) g = newest-whole z (t .running .shape .sizes) (subst (λ gs. Hist z.words z.slots (t .ts L .hist) gs) (it .newest) (t .running .lanes L lane .now .history)) in
       omega (arith, length-sealHist (h .clock + 2) (t .ts L .hist) (t .ts L .gs))
 
-  backed : BackedBy z k us (record { stamp = h .clock + 2; txn = f })
-  unfolding wordsBelow txnWrites writesOn
-  backed =
+  backed : Backed z k us (record { stamp = h .clock + 2; txn = f })
+  unfolding Backed wordsBelow txnWrites writesOn
+  backed w l e =
       record {
         lane = L;
         low = lane;
         by = restamped (h .clock + 2) g;
         among = rw (to .here, sealed) here;
         stamp = refl;
-        whole = rw (to .here) whole;
-        names = λ w l e. ap (λ es. writes es w) its ∙ ap (λ (ws : List ℕ). writes (oldsOf (run z.words f ws)) w) (sym words-at) ∙ e;
+        named = ap (λ es. writes es w) its ∙ ap (λ (ws : List ℕ). writes (oldsOf (run z.words f ws)) w) (sym words-at) ∙ e;
       }
 
-  fresh : (c : Commit) → In c (k .commits) → (In c (h .commits)) ⊎ BackedBy z k us c
+  -- the newest is whole by its position, and the others stay
+  kept : (s : Seq) → (s ≡ restamped (h .clock + 2) g) ⊎ In s (it .rest)
+      → ((In s (t .ts L .gs)) × (AtMost (leastFloorOf (h .pages)) (s .stamp) → Whole z.slots (t .ts L .hist) s → Whole z.slots (sealHist (h .clock + 2) (t .ts L .hist) (t .ts L .gs)) s))
+      ⊎ (Whole z.slots (sealHist (h .clock + 2) (t .ts L .hist) (t .ts L .gs)) s)
+  kept s (inl e) = inr (rw e whole)
+  kept s (inr j) = inl (rw (it .newest) (there j), λ a w. rw (length-sealHist (h .clock + 2) (t .ts L .hist) (t .ts L .gs)) w)
+
+  fresh : (c : Commit) → In c (k .commits) → (In c (h .commits)) ⊎ Backed z k us c
   unfolding stamped
   fresh c i = go c (In-append (h .commits) i)
     where
-      go : (c : Commit) → (In c (h .commits)) ⊎ (In c (record { stamp = h .clock + 2; txn = f } ∷ [])) → (In c (h .commits)) ⊎ BackedBy z k us c
+      go : (c : Commit) → (In c (h .commits)) ⊎ (In c (record { stamp = h .clock + 2; txn = f } ∷ [])) → (In c (h .commits)) ⊎ Backed z k us c
       go c (inl j) = inl j
       go c (inr here) = inr backed
 
@@ -229,10 +235,9 @@ module _ (z : Sizes) (base : ℕ) (h : History) (m : Machine) (b : Book z base h
             };
         others = flushes-other;
         floor = λ y l e. floor-first (pageAt h L .floor) (h .clock + 2) y (omega arith) e;
-        kept = λ c i e s j q w. (stays c i s j q, rw (length-sealHist (h .clock + 2) (t .ts L .hist) (t .ts L .gs)) w);
+        stays = stays;
+        kept = λ s j. kept s (in-cases (subst (In s) sealed j));
         fresh = fresh;
-        first = inr (record { lane = L; low = lane; by = g; rest = it .rest; newest = rw (to .here) (it .newest) });
-        still = λ o. record { by = g; rest = it .rest; is = it .newest };
       }
 
   pub committed-ties : TiesOf z base n k us

@@ -1,6 +1,7 @@
 -- What the invariant says of the cells when power fails: recovery will find the words below the boundary, which is not below the least floor. Assumes nothing.
 use mathlib.Core.Path.{_≡_, refl, ap, _∙_, sym, subst}
 use mathlib.Core.Logic.{_⊎_, inl, inr}
+use mathlib.Core.Bool.{true}
 use mathlib.Core.List.{List, [], _∷_}
 use Prim.Native.Nat.{ℕ, _+_, _%_, _≤_, _<_}
 use native.Mathlib.Omega.{arith}
@@ -21,9 +22,9 @@ use Rattle.recovery.specs.Recovery.{boundary, completeOf}
 use Rattle.crash.specs.History.{Commit, History, replay, isBelow, wordsBelow, present, leastFloorOf}
 use Rattle.crash.specs.Theorem.{NotBelow, noBoundary, atLeast}
 use Rattle.laws.specs.Members.{In, here, there, In-All}
-use Rattle.recovery.specs.UndoneLaws.{writes}
-use Rattle.crash.proofs.Data.{Rising, last, then, replay-none}
-use Rattle.crash.proofs.Recovered.{Says, Shows, plain, cut, Backing, Backed, finish, back, Word, same, named, cut-at}
+use Rattle.recovery.specs.UndoneLaws.{writes, OldIn}
+use Rattle.crash.proofs.Data.{Rising, last, then, replay-none, txnWrites, valueBelow}
+use Rattle.crash.proofs.Recovered.{Shows, plain, cut, Backing, Backed, finish, back, Word, same, named, cut-at}
 use Rattle.crash.proofs.Lanes.{bound-agrees}
 use Rattle.crash.proofs.Agree.{Book}
 use Rattle.crash.proofs.Books.{start-long}
@@ -32,6 +33,7 @@ use Rattle.crash.proofs.Seqs.{Seq}
 use Rattle.crash.proofs.Shown.{Listed}
 use Rattle.crash.proofs.RunningCut.{cut-floors, cut-none, cut-known, cut-seen, cut-seen-newest}
 use Rattle.crash.proofs.Ties.{TrueOf, Flushes, Ties}
+use Rattle.crash.proofs.Ties as ties
 
 -- ---- commits that are backed one by one are backed in order
 module _ (W b : ℕ) (qs : List Complete) where
@@ -46,11 +48,11 @@ module _ (W b : ℕ) (qs : List Complete) where
   later-words c d cs ws h = rw (lt-ltb (c .stamp) (d .stamp) h)
 
   backed-all : {cs : List Commit} (ws : List ℕ) → Rising cs
-      → ((c : Commit) → In c cs → b ≤ c .stamp → Backing W b qs c (replay W (At (c .stamp)) cs ws)) → Backed W b qs ws cs
+      → ((c : Commit) → In c cs → b ≤ c .stamp → (w : ℕ) → w < W → txnWrites W w (c .txn) (replay W (At (c .stamp)) cs ws) ≡ true → Backing W b qs c w) → Backed W b qs ws cs
   backed-all ws last f = finish
   backed-all ws (then {c = c} {cs = cs} a r) f =
-      back (λ l. subst (Backing W b qs c) (first-words c ws a) (f c here l))
-      (backed-all (after W (c .txn) ws) r (λ d i l. subst (Backing W b qs d) (later-words c d cs ws (In-All a i)) (f d (there i) l)))
+      back (λ l w j e. f c here l w j (ap (txnWrites W w (c .txn)) (first-words c ws a) ∙ e))
+      (backed-all (after W (c .txn) ws) r (λ d i l w j e. f d (there i) l w j (ap (txnWrites W w (d .txn)) (later-words c d cs ws (In-All a i)) ∙ e)))
 
 module _ (z : Sizes) (base : ℕ) (m : Machine) (h : History) (k : Book z base h m) (v : Ties z base m h) where
   size : length (m .nvm) ≡ imageLength z
@@ -90,16 +92,19 @@ module _ (z : Sizes) (base : ℕ) (m : Machine) (h : History) (k : Book z base h
   -- ---- a boundary
   module _ (b : ℕ) (bound : boundary z (m .nvm) ≡ At b) where
     -- what is found is true
-    true-of : (q : Complete) (e : ℕ) → TrueOf z.words h (record { entries = q .entries; stamp = q .stamp; end = e }) → Says z.words (h .start) (h .commits) q
-    unfolding TrueOf Says
-    true-of q e t = t
+    true-of : (w : ℕ) → w < z.words → (q : Complete) (e : ℕ) → TrueOf z.words h (record { entries = q .entries; stamp = q .stamp; end = e })
+        → OldIn w (valueBelow z.words w (h .start) (h .commits)) (completeOf z (m .nvm) z.lanes) q
+    unfolding TrueOf OldIn valueBelow
+    true-of w l q e t f n x = t w l x n
 
-    olds : All (Says z.words (h .start) (h .commits)) (completeOf z (m .nvm) z.lanes)
-    olds = cut-known z m (v .ts) (v .running) (λ L l q. either L l q)
+    olds : (w : ℕ) → w < z.words → (q : Complete) → In q (completeOf z (m .nvm) z.lanes) → b ≤ q .stamp
+        → OldIn w (valueBelow z.words w (h .start) (h .commits)) (completeOf z (m .nvm) z.lanes) q
+    olds w l q i g = In-All (cut-known z m (v .ts) (v .running) (λ L l q. either L l q)) i
       where
-        either : (L : ℕ) → L < z.lanes → (q : Complete) → Listed z.slots (v .ts L .gs) q ⊎ Listed z.slots (v .ts L .priors) q → Says z.words (h .start) (h .commits) q
-        either L l q (inl i) = true-of q (i .end) (In-All (v .now L l) (i .among))
-        either L l q (inr i) = true-of q (i .end) (In-All (v .before L l) (i .among))
+        either : (L : ℕ) → L < z.lanes → (q : Complete) → Listed z.slots (v .ts L .gs) q ⊎ Listed z.slots (v .ts L .priors) q
+            → OldIn w (valueBelow z.words w (h .start) (h .commits)) (completeOf z (m .nvm) z.lanes) q
+        either L k q (inl i) = true-of w l q (i .end) (In-All (v .now L k) (i .among))
+        either L k q (inr i) = true-of w l q (i .end) (In-All (v .before L k) (i .among))
 
     -- the boundary is not below the least floor
     least : (f : Timestamp) → leastFloorOf (h .pages) ≡ f → NotBelow f (boundary z (m .nvm)) → (a : ℕ) × (leastFloorOf (h .pages) ≡ At a) × (a ≤ b)
@@ -109,19 +114,22 @@ module _ (z : Sizes) (base : ℕ) (m : Machine) (h : History) (k : Book z base h
         go f c e q noBoundary = absurd (let x : _≡_ {A = ℕ} 0 1 = cc in omega arith)
         go f c e q (atLeast {f = a} {b = d} l) = (a, e, let x : d ≡ b = cc in omega arith)
 
-    -- a commit at or above the boundary has its sequence among those found
-    backing : (c : Commit) → In c (h .commits) → b ≤ c .stamp → Backing z.words b (completeOf z (m .nvm) z.lanes) c (replay z.words (At (c .stamp)) (h .commits) (h .start))
-    backing c i l =
+    -- a word that a commit at or above the boundary writes is named by a sequence among those found
+    backing : (c : Commit) → In c (h .commits) → b ≤ c .stamp → (w : ℕ) → w < z.words
+        → txnWrites z.words w (c .txn) (replay z.words (At (c .stamp)) (h .commits) (h .start)) ≡ true → Backing z.words b (completeOf z (m .nvm) z.lanes) c w
+    unfolding ties.Backed
+    backing c i l w n t =
         let a = least (leastFloorOf (h .pages)) refl floors in
-        let y = v .backed (a .0) (a .1) c i (omega (arith, a .2)) in
-        let s = cut-seen z m (v .ts) (v .running) b bound (y .lane) (y .low) (y .among) (y .whole) (omega (arith, y .stamp))
+        let y = v .backed c i w n t in
+        let s = cut-seen z m (v .ts) (v .running) b bound (y .lane) (y .low) (y .among)
+        (v .whole (y .lane) (y .low) (a .0) (a .1) (y .by) (y .among) (omega (arith, a .2, y .stamp))) (omega (arith, y .stamp))
         (λ e. In-All (v .open′ (y .lane) (y .low) (y .by) e) i (sym (y .stamp))) in
         record {
           by = s .by;
           among = s .found;
           from = s .from;
           upto = omega (arith, s .upto, y .stamp);
-          same = λ w n t. ap (λ es. writes es w) (s .entries) ∙ y .names w n t;
+          named = ap (λ es. writes es w) (s .entries) ∙ y .named;
         }
 
     word : (w : ℕ) → w < z.words → Word z (m .nvm) (h .start) (h .commits) b w

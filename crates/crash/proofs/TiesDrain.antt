@@ -33,7 +33,7 @@ use Rattle.crash.proofs.LaneLog.{Track, levelled}
 use Rattle.crash.proofs.Running.{Running, running-drains, running-releases, updated}
 use Rattle.crash.proofs.Ties.{Flushes, Ties}
 use Rattle.crash.proofs.TiesLogs.{ties-logs}
-use Rattle.crash.proofs.TiesLaws.{AtMost, at-most, track-to, cells-drained, drained-mine, drained-others, all-onward, logged-onward, given-now, given-before, HasOne, Moving, TiesOf, ties-moved}
+use Rattle.crash.proofs.TiesLaws.{AtMost, at-most, track-to, cells-drained, drained-mine, drained-others, all-onward, logged-onward, given-now, given-before, Moving, TiesOf, ties-moved}
 
 -- ---- a lane's floor
 -- a drain makes it the newest timestamp, which is not below it
@@ -45,12 +45,6 @@ floor-rises (level {gs = g ∷ gs}) f x a = a
 floor-rises (grown {gs = []} es s) f x a = a
 floor-rises (grown {gs = g ∷ gs} es s) (onto (more l h) f) x a = record { stamp = g .stamp; is = refl; low = let k = at-most s x a in omega arith }
 floor-rises (sealed g c up) f x a = record { stamp = g .stamp; is = refl; low = let k = at-most c x a in omega arith }
-
--- a lane that has drained a sequence has one
-pub still-one : {prior hist : List Past} {priors gs : List Seq} → Since prior hist priors gs → HasOne priors → HasOne gs
-still-one level o = o
-still-one (grown {h = h} {gs = gs} es s) o = record { by = record { entries = es; stamp = s; end = length h + length es }; rest = gs; is = refl }
-still-one (sealed {gs = gs} g c up) o = record { by = record { entries = g .entries; stamp = c; end = g .end }; rest = gs; is = refl }
 
 -- nothing is appended to a lane that has just drained
 pub not-longer : {A : Type 0} (g : Seq) (gs : List Seq) → gs ≡ g ∷ gs → A
@@ -97,10 +91,9 @@ module _ (z : Sizes) (base : ℕ) (h : History) (m : Machine) (b : Book z base h
         others = λ M d w i. drained-others z m (t .running .shape) L M d (1 + w);
         floor = λ x l f.
             rw page-floor (floor-rises (t .running .lanes L lane .since) (t .running .lanes L lane .now .falls) x (rw (t .newest L lane, page-floor) at f));
-        kept = λ c i f g j e w. (j, w);
+        stays = λ c i g j e. j;
+        kept = λ g j. inl (j, λ a w. w);
         fresh = λ c i. inl i;
-        first = inl refl;
-        still = λ o. still-one (t .running .lanes L lane .since) o;
       }
 
   -- what it leaves
@@ -133,10 +126,9 @@ module _ (z : Sizes) (base : ℕ) (h : History) (m : Machine) (b : Book z base h
         own = λ w i e. t .flags L lane w i e;
         others = λ M d w i. refl;
         floor = λ x l f. f;
-        kept = λ c i f g j e w. (j, w);
+        stays = λ c i g j e. j;
+        kept = λ g j. inl (j, λ a w. w);
         fresh = λ c i. inl i;
-        first = inl refl;
-        still = λ o. o;
       }
     where
       same : (w : ℕ) → (getD (m .nvm) (1 + w) 0 ≡ getD (m .cache) (1 + w) 0) ⊎ Flushes z m w

@@ -39,7 +39,7 @@ use Rattle.crash.proofs.Written.{Whole, newestIn}
 use Rattle.crash.proofs.Shape.{Shape, withNvm}
 use Rattle.crash.proofs.LaneLog.{Track}
 use Rattle.crash.proofs.Running.{Running, updated, updated-same, updated-other}
-use Rattle.crash.proofs.Ties.{TrueOf, Names, Flushes, BackedBy, Drained, Ties}
+use Rattle.crash.proofs.Ties.{TrueOf, Names, Flushes, Backed, Ties}
 
 -- ---- floors
 -- a timestamp that is one, and not above x
@@ -221,28 +221,15 @@ module _ (z : Sizes) (h k : History) (o : Onward h k) where
   pub apart-onward : (s : ℕ) → s ≤ h .clock → All (λ c. c .stamp ≢ s) (h .commits) → All (λ c. c .stamp ≢ s) (k .commits)
   apart-onward s l a = rw (o .commits) (All-append a (All-map (λ c i e. omega arith) (o .fresh)))
 
-  -- a commit that was backed stays so while its sequence stays whole
-  pub backed-onward : {ts us : ℕ → Track} (c : Commit) → c .stamp ≤ h .clock → (v : BackedBy z h ts c) → In (v .by) (us (v .lane) .gs)
-      → Whole z.slots (us (v .lane) .hist) (v .by) → BackedBy z k us c
-  unfolding wordsBelow
-  backed-onward c l v i w =
-      record {
-        lane = v .lane;
-        low = v .low;
-        by = v .by;
-        among = i;
-        stamp = v .stamp;
-        whole = w;
-        names = λ w j e. v .names w j (ap (txnWrites z.words w (c .txn)) (sym (words-onward z h k o (c .stamp) l)) ∙ e);
-      }
+  -- a commit that was backed stays so while its sequences stay
+  pub backed-onward : (ts us : ℕ → Track) (c : Commit) → c .stamp ≤ h .clock → ((M : ℕ) (g : Seq) → In g (ts M .gs) → g .stamp ≡ c .stamp → In g (us M .gs))
+      → Backed z h ts c → Backed z k us c
+  unfolding Backed wordsBelow
+  backed-onward ts us c l stays v w j e =
+      let n = v w j (ap (txnWrites z.words w (c .txn)) (sym (words-onward z h k o (c .stamp) l)) ∙ e) in
+      record { lane = n .lane; low = n .low; by = n .by; among = stays (n .lane) (n .by) (n .among) (n .stamp); stamp = n .stamp; named = n .named }
 
 -- ---- a call of one lane
--- a list of sequences that is not empty
-pub record HasOne (gs : List Seq) : Type 0 where
-  pub by : Seq
-  pub rest : List Seq
-  pub is : gs ≡ by ∷ rest
-
 -- lane L takes machine m and history h to n and k, and the ghosts from ts to us: what it has to show, the other lanes' part is the same for every call
 pub record Moving (z : Sizes) (L : ℕ) (h k : History) (m n : Machine) (ts us : ℕ → Track) : Type 0 where
   pub track : Track
@@ -264,12 +251,11 @@ pub record Moving (z : Sizes) (L : ℕ) (h k : History) (m n : Machine) (ts us :
   pub others : (M : ℕ) → M ≢ L → (w : ℕ) → w < z.words → flushed M (getD (n .flags) (1 + w) 0) ≡ flushed M (getD (m .flags) (1 + w) 0)
   -- its floor does not fall, and a first one is above the clock
   pub floor : (x : ℕ) → x ≤ h .clock → AtMost (page .floor) x → AtMost (pageAt h L .floor) x
-  -- the sequences of its commits stay whole, and its new commits are backed
-  pub kept : (c : Commit) → In c (h .commits) → AtMost (leastFloorOf (h .pages)) (c .stamp) → (g : Seq) → In g (ts L .gs) → g .stamp ≡ c .stamp → Whole z.slots (ts L .hist) g
-      → In g (track .gs) × Whole z.slots (track .hist) g
-  pub fresh : (c : Commit) → In c (k .commits) → (In c (h .commits)) ⊎ BackedBy z k us c
-  pub first : (k .commits ≡ h .commits) ⊎ Drained z us
-  pub still : HasOne (ts L .priors) → HasOne (track .priors)
+  -- the sequences of its commits stay; each sequence that was there and whole stays whole, and a new one is; its new commits are backed
+  pub stays : (c : Commit) → In c (h .commits) → (g : Seq) → In g (ts L .gs) → g .stamp ≡ c .stamp → In g (track .gs)
+  pub kept : (g : Seq) → In g (track .gs)
+      → ((In g (ts L .gs)) × (AtMost (leastFloorOf (h .pages)) (g .stamp) → Whole z.slots (ts L .hist) g → Whole z.slots (track .hist) g)) ⊎ (Whole z.slots (track .hist) g)
+  pub fresh : (c : Commit) → In c (k .commits) → (In c (h .commits)) ⊎ Backed z k us c
 
 -- the timestamps of a lane's sequences were given
 module _ (z : Sizes) (base : ℕ) (h : History) (m : Machine) (b : Book z base h m) (t : Ties z base m h) (M : ℕ) (i : M < z.lanes) where
@@ -298,40 +284,34 @@ module _ (z : Sizes) (base L : ℕ) (h k : History) (m n : Machine) (b : Book z 
       (λ a. v .floor x l (rw (v .pages .here) at a))
       (λ M d a. rw (v .pages .others M d) at a))
 
-  backed-old : (c : Commit) → In c (h .commits) → AtMost (leastFloorOf (h .pages)) (c .stamp) → BackedBy z k us c
-  backed-old c i a =
-      let w = t .backed (a .stamp) (a .is) c i (a .low) in
-      let p = stays (w .lane) (w .by) (w .among) (w .stamp) (w .whole) in
-      backed-onward z h k (v .onward) c (In-All (b .upto) i) w (p .0) (p .1)
+  backed-new : (c : Commit) → In c (k .commits) → Backed z k us c
+  backed-new c i = go (v .fresh c i)
     where
-      stays : (M : ℕ) (g : Seq) → In g (t .ts M .gs) → g .stamp ≡ c .stamp → Whole z.slots (t .ts M .hist) g → In g (us M .gs) × Whole z.slots (us M .hist) g
-      stays =
-          lane-cases (λ M. (g : Seq) → In g (t .ts M .gs) → g .stamp ≡ c .stamp → Whole z.slots (t .ts M .hist) g → In g (us M .gs) × Whole z.slots (us M .hist) g) L
-          (λ g j e w. rw (v .tracks .here) (v .kept c i a g j e w))
-          (λ M d g j e w. rw (v .tracks .others M d) (j, w))
-
-  backed-new : (f : ℕ) → leastFloorOf (k .pages) ≡ At f → (c : Commit) → In c (k .commits) → f ≤ c .stamp → BackedBy z k us c
-  backed-new f e c i l = go (v .fresh c i)
-    where
-      go : (In c (h .commits)) ⊎ BackedBy z k us c → BackedBy z k us c
-      go (inl j) = backed-old c j (floors (c .stamp) (In-All (b .upto) j) (record { stamp = f; is = e; low = l }))
+      go : (In c (h .commits)) ⊎ Backed z k us c → Backed z k us c
+      go (inl j) =
+          backed-onward z h k (v .onward) (t .ts) us c (In-All (b .upto) j)
+          (lane-cases (λ M. (g : Seq) → In g (t .ts M .gs) → g .stamp ≡ c .stamp → In g (us M .gs)) L
+          (λ g q e. rw (v .tracks .here) (v .stays c j g q e))
+          (λ M d g q e. rw (v .tracks .others M d) q))
+          (t .backed c j)
       go (inr w) = w
 
-  once-new : (k .commits ≡ []) ⊎ Drained z us
-  once-new = go (v .first) (t .once)
-    where
-      has : (M : ℕ) → HasOne (t .ts M .priors) → HasOne (us M .priors)
-      has =
-          lane-cases (λ M. HasOne (t .ts M .priors) → HasOne (us M .priors)) L
-          (λ o. rw (v .tracks .here) (v .still o))
-          (λ M d o. rw (v .tracks .others M d) o)
+  whole-old : (M : ℕ) → M < z.lanes → (g : Seq) → In g (t .ts M .gs) → AtMost (leastFloorOf (k .pages)) (g .stamp) → (AtMost (leastFloorOf (h .pages)) (g .stamp)) × Whole z.slots (t .ts M .hist) g
+  whole-old M i g j a =
+      let c = floors (g .stamp) (In-All (given-now z base h m b t M i) j) a in
+      (c, t .whole M i (c .stamp) (c .is) g j (c .low))
 
-      go : (k .commits ≡ h .commits) ⊎ Drained z us → (h .commits ≡ []) ⊎ Drained z (t .ts) → (k .commits ≡ []) ⊎ Drained z us
-      go (inr d) o = inr d
-      go (inl e) (inl p) = inl (e ∙ p)
-      go (inl e) (inr d) =
-          let o = has (d .lane) (record { by = d .by; rest = d .rest; is = d .newest }) in
-          inr (record { lane = d .lane; low = d .low; by = o .by; rest = o .rest; newest = o .is })
+  whole-new : (M : ℕ) → M < z.lanes → (f : ℕ) → leastFloorOf (k .pages) ≡ At f → (g : Seq) → In g (us M .gs) → f ≤ g .stamp → Whole z.slots (us M .hist) g
+  whole-new =
+      lane-cases (λ M. M < z.lanes → (f : ℕ) → leastFloorOf (k .pages) ≡ At f → (g : Seq) → In g (us M .gs) → f ≤ g .stamp → Whole z.slots (us M .hist) g) L
+      (λ i f e g j l. rw (v .tracks .here) (own i (record { stamp = f; is = e; low = l }) (v .kept g (rw (v .tracks .here) at j))))
+      (λ M d i f e g j l. rw (v .tracks .others M d) (whole-old M i g (rw (v .tracks .others M d) at j) (record { stamp = f; is = e; low = l }) .1))
+    where
+      own : L < z.lanes → {g : Seq} → AtMost (leastFloorOf (k .pages)) (g .stamp)
+          → ((In g (t .ts L .gs)) × (AtMost (leastFloorOf (h .pages)) (g .stamp) → Whole z.slots (t .ts L .hist) g → Whole z.slots (v .track .hist) g)) ⊎ (Whole z.slots (v .track .hist) g)
+          → Whole z.slots (v .track .hist) g
+      own i {g} a (inl (j, f)) = let o = whole-old L i g j a in f (o .0) (o .1)
+      own i a (inr w) = w
 
   ties-new : Ties z base n k
   ties-new =
@@ -364,7 +344,7 @@ module _ (z : Sizes) (base L : ℕ) (h k : History) (m n : Machine) (b : Book z 
             (λ i w l e. rw (v .tracks .here) (v .own w l e))
             (λ M d i w l e. rw (v .tracks .others M d) (t .flags M i w l (sym (v .others M d w l) ∙ e)));
         backed = backed-new;
-        once = once-new;
+        whole = whole-new;
       }
 
   pub ties-moved : TiesOf z base n k us

@@ -55,8 +55,8 @@ module _ (z : Sizes) (ok : sizesOk z ≡ true) (base : ℕ) (image words : List 
         open′ = λ L i g q. no-more q;
         cells = λ w i. inl refl;
         flags = λ L i w j e. clash _ e (unflushed L w j);
-        backed = λ b e c i l. none-in i;
-        once = inl refl;
+        backed = λ c i. none-in i;
+        whole = λ L i b e g j l. elim j [ ];
       }
 
 -- ---- a write-back
@@ -75,5 +75,5 @@ ties-writes z base m h i b t l =
       cells = cells-writtenBack z m (t .running .shape) (t .cells) i;
       flags = t .flags;
       backed = t .backed;
-      once = t .once;
+      whole = t .whole;
     }

@@ -1,4 +1,5 @@
 -- Membership in a list, as a data type. Assumes nothing.
+use mathlib.Core.Path.{_≡_, refl}
 use mathlib.Core.Logic.{_⊎_, inl, inr}
 use mathlib.Core.List.{List, [], _∷_, _++_}
 use Rattle.laws.specs.Lists.{All, none as nil, more}
@@ -8,6 +9,10 @@ pub data In {A : Type 0} (x : A) : List A → Type 0 where
   there : {y : A} {l : List A} → In x l → In x (y ∷ l)
 
 module _ {A : Type 0} where
+  pub in-cases : {x y : A} {l : List A} → In x (y ∷ l) → (x ≡ y) ⊎ In x l
+  in-cases here = inl refl
+  in-cases (there i) = inr i
+
   pub In-left : {x : A} {k : List A} (l : List A) → In x k → In x (k ++ l)
   In-left l here = here
   In-left l (there i) = there (In-left l i)

@@ -7,10 +7,9 @@ use native.Mathlib.Omega.{arith}
 use lib.Dec.{eqb}
 use borrow.Author.Tests.{eqb-true, eqb-false, eq-eqb, ne-eqb}
 use Rattle.laws.specs.Tests.{split, clash, or-left, or-right}
-use Rattle.laws.specs.Lists.{All, none as nil, more}
 use Rattle.image.specs.StoresLaws.{lastAt, lastAt-append}
 use Rattle.log.specs.Log.{Old, Complete}
-use Rattle.recovery.specs.Recovery.{undoEntries, undoSequences}
+use Rattle.recovery.specs.Recovery.{undoEntries, undoSequences, undoneBefore}
 use Rattle.laws.specs.Members.{In, here, there}
 
 -- ---- entries
@@ -71,26 +70,26 @@ firstsOf-none (q ∷ qs) w x h =
     firstsOf-none qs w (firstOld q.entries w x) (or-right (writes q.entries w) _ h)
     ∙ firstOld-none q.entries w x (or-left (writes q.entries w) _ h)
 
--- ---- f is the value of word w below each timestamp
-module _ (w : ℕ) (f : ℕ → ℕ) where
-  -- a sequence that names w has, first, the value below its timestamp
-  unfoldable pub OldIs : Complete → Type 0
-  OldIs q = (x : ℕ) → writes q.entries w ≡ true → firstOld q.entries w x ≡ f q.stamp
+-- ---- what undoing leaves at word w: the first old value of the last sequence that names it
+module _ (w y : ℕ) where
+  pub data Ends : List Complete → Type 0 where
+    done : Ends []
+    ends : {q : Complete} {qs : List Complete} → (anyWrites qs w ≡ false → writes (q .entries) w ≡ true → (x : ℕ) → firstOld (q .entries) w x ≡ y) → Ends qs → Ends (q ∷ qs)
 
-  -- each sequence after which none names w has the value y below its timestamp
-  pub data Steady (y : ℕ) : List Complete → Type 0 where
-    settled : Steady y []
-    steady : {q : Complete} {qs : List Complete} → (anyWrites qs w ≡ false → f (q .stamp) ≡ y) → Steady y qs → Steady y (q ∷ qs)
-
-  -- so the value left at w is y
-  pub firstsOf-steady : {y : ℕ} {qs : List Complete} (x : ℕ) → All OldIs qs → Steady y qs → anyWrites qs w ≡ true → firstsOf qs w x ≡ y
-  unfolding OldIs firstsOf anyWrites
-  firstsOf-steady x nil settled h = clash false h refl
-  firstsOf-steady x (more {x = q} {l = qs} o os) (steady s ss) h =
+  pub firstsOf-ends : {qs : List Complete} (x : ℕ) → Ends qs → anyWrites qs w ≡ true → firstsOf qs w x ≡ y
+  unfolding firstsOf anyWrites
+  firstsOf-ends x done h = clash false h refl
+  firstsOf-ends x (ends {q = q} {qs = qs} f es) h =
       split (anyWrites qs w)
-      (λ e. firstsOf-steady (firstOld q.entries w x) os ss e)
-      (λ e. firstsOf-none qs w (firstOld q.entries w x) e ∙ o x (only (writes q.entries w) (rw e at h)) ∙ s e)
+      (λ e. firstsOf-ends (firstOld (q .entries) w x) es e)
+      (λ e. firstsOf-none qs w (firstOld (q .entries) w x) e ∙ f e (only (writes (q .entries) w) (rw e at h)) x)
     where
       only : (b : Bool) → (b || false) ≡ true → b ≡ true
       only true h = refl
       only false h = h
+
+-- a sequence has the value below its timestamp at a word, unless one of the same timestamp that is undone after it names the word too
+unfoldable pub OldIn : (w : ℕ) (f : ℕ → ℕ) → List Complete → Complete → Type 0
+OldIn w f qs q =
+    ((r : Complete) → In r qs → r .stamp ≡ q .stamp → undoneBefore q r ≡ true → writes (r .entries) w ≡ false)
+    → writes (q .entries) w ≡ true → (x : ℕ) → firstOld (q .entries) w x ≡ f (q .stamp)
