@@ -1,4 +1,4 @@
--- Each call answers what the history tells, or is refused with 9 while some lane has a floor: by cases on the call's move. Assumes nothing.
+-- Each call answers what the theorem gives: by cases on the call's move. Assumes nothing.
 use mathlib.Core.Path.{_≡_, refl, ap, _∙_, sym}
 use mathlib.Core.Bool.{true, false, _&&_}
 use mathlib.Core.List.{List, [], _∷_}
@@ -9,24 +9,27 @@ use native.Mathlib.Nat.{le-trans}
 use lib.Dec.{eqb, ltb}
 use lib.ListN.{length}
 use borrow.Author.Tests.{eqb-true, eq-eqb, ne-eqb}
-use Rattle.laws.specs.Tests.{clash, and-left, and-right}
+use Rattle.laws.specs.Tests.{split, clash, and-left, and-right}
 use Rattle.txn.specs.declared.Write.{Write}
 use Rattle.image.specs.Image.{logOf}
 use Rattle.image.specs.declared.Sizes.{Sizes}
-use Rattle.log.specs.Log.{hits, latestIn}
+use Rattle.log.specs.Log.{Complete, completeIn, sequenceOf, later, latest, latestIn, contribution, hitsFrom, hits}
+use Rattle.log.specs.declared.Latest.{Latest}
+use Rattle.log.specs.declared.Latest.the-variants.{Nothing, Is}
+use Rattle.log.specs.declared.Sequence.{Sequence}
 use Rattle.log.specs.declared.Timestamp.{Timestamp}
-use Rattle.log.specs.declared.Timestamp.the-variants.{None}
+use Rattle.log.specs.declared.Timestamp.the-variants.{None, At}
 use Rattle.record.specs.Record.{laneAt, isLogged, loggedIn, boundOf, drainedLane}
-use Rattle.store.specs.Machine.{Machine, Step, numberIn}
-use Rattle.store.specs.Calls.{drained, wouldHit, writesOn, isStale, entriesMatch, matches}
+use Rattle.store.specs.Machine.{Machine, Step, said}
+use Rattle.store.specs.Calls.{drained, writesOn, isStale, entriesMatch, matches}
 use Rattle.store.specs.declared.Answer.{Answer}
 use Rattle.store.specs.declared.Answer.the-variants.{Refused}
 use Rattle.crash.specs.Events.{Call, log, redo, validate, mark, laneOf, callStep}
-use Rattle.crash.specs.History.{History, pageAt, settled, leastFloorOf, writesLogged, sameOlds, commitAbove, refusalBy, takenAnswer, answerBy}
-use Rattle.crash.specs.Theorem.{Answers, told, full}
+use Rattle.crash.specs.History.{History, pageAt, settled, leastFloorOf, writesLogged, sameOlds, commitAbove, slotsBy, takenAnswer}
+use Rattle.crash.specs.Theorem.{isFull, refusalBy, answerBy, Answers}
 use Rattle.crash.proofs.Data.{oldsOf}
 use Rattle.crash.proofs.Moves.{Known, refusalOf, Drains, quiet, late, plain, Move, refusing, draining, logging, redoing, validating, giving-up, marking, call-moves}
-use Rattle.crash.proofs.Refusals.{Refusal, agreed, hitting, same-writes, same-held, refusal-by, number-is}
+use Rattle.crash.proofs.Refusals.{same-writes, same-held, refusal-by, number-is}
 use Rattle.crash.proofs.Lanes.{lane-drained, page-settled, drained-floor, bound-agrees}
 use Rattle.crash.proofs.Agree.{Holding, Book, Logs, is-held, above-last, entries-match}
 
@@ -42,8 +45,27 @@ same-olds (v ∷ vs) (w ∷ ws) t =
     let d = eqb-true (v .old) (w .old) (and-right (eqb (v .word) (w .word)) _ a) in
     rw (c, d, same-olds vs ws b)
 
-number-drains : {z : Sizes} {m : Machine} {c : Call} {a : Answer} → Drains z m c a → numberIn a ≡ 0
-unfolding numberIn
+-- a list that has a latest sequence is not empty, and nothing is hit in an empty one
+later-some : (q : Sequence) (r : Latest) → contribution (later q r) ≡ None → ⊥
+unfolding later contribution
+later-some q Nothing e = absurd (let x : _≡_ {A = ℕ} 0 1 = cc in omega arith)
+later-some q (Is r) e =
+    split (ltb (r .stamp) (q .stamp))
+    (λ t. let f : At (q .stamp) ≡ None = rw t at e in let x : _≡_ {A = ℕ} 0 1 = cc in omega arith)
+    (λ t. let f : At (r .stamp) ≡ None = rw t at e in let x : _≡_ {A = ℕ} 0 1 = cc in omega arith)
+
+hits-none : (N k n : ℕ) (b : Timestamp) → hits N k n b [] ≡ false
+unfolding hits hitsFrom
+hits-none N k n None = refl
+hits-none N k n (At b) = refl
+
+latest-none : (qs : List Complete) → contribution (latest qs) ≡ None → qs ≡ []
+unfolding latest
+latest-none [] e = refl
+latest-none (q ∷ qs) e = absurd (later-some (sequenceOf q) (latest qs) e)
+
+number-drains : {z : Sizes} {m : Machine} {c : Call} {a : Answer} → Drains z m c a → said a .number ≡ 0
+unfolding said
 number-drains (quiet L f ok i e) = refl
 number-drains (late L r t) = refl
 number-drains (plain L) = refl
@@ -90,28 +112,21 @@ module _ (z : Sizes) (base : ℕ) (h : History) (m : Machine) (b : Book z base h
       let p = page-settled L h (rw (b .pages) lane) in
       bound-agrees z (drained z L m .state) (settled L h) (rw (a .lanes) (b .lanes)) (p .pages ∙ b .pages) (floors-drained L lane)
 
-  -- an append that would hit something does so while some lane has a floor
-  hit-floor : (L n : ℕ) → L < z.lanes → wouldHit z L n m ≡ true → leastFloorOf (settled L h .pages) ≡ None → ⊥
-  unfolding wouldHit hits
-  hit-floor L n lane w e = clash false (rw (bound-drained L lane, e) at w) refl
+  -- a lane that has appended nothing has no sequence to hit
+  full-appended : (c : Call) → laneOf c < z.lanes → isFull z c h m ≡ true → pageAt h (laneOf c) .newest ≡ None → ⊥
+  unfolding isFull latestIn
+  full-appended c lane t e =
+      let n = latest-none (completeIn z (m .cache) (laneOf c)) (l .newest (laneOf c) lane ∙ e) in
+      clash _ (rw n at t) (hits-none z.slots (laneAt (m .state) (laneOf c) .next) (slotsBy z c h) (leastFloorOf (settled (laneOf c) h .pages)))
 
   -- ---- the answer
-  told-taken : (c : Call) (a : Answer) → refusalBy z c h ≡ 0 → a ≡ takenAnswer z c h → a ≡ answerBy z c h
+  taken : (c : Call) (a : Answer) → refusalOf z c m ≡ 0 → refusalOf z c m ≡ refusalBy z c h m → a ≡ takenAnswer z c h → a ≡ answerBy z c h m
   unfolding answerBy
-  told-taken c a p e = rw (eq-eqb (refusalBy z c h) 0 p) e
+  taken c a p r e = rw (eq-eqb (refusalBy z c h m) 0 (sym r ∙ p)) e
 
-  told-refused : (c : Call) (n : ℕ) → refusalBy z c h ≡ n → (n ≡ 0 → ⊥) → Refused n ≡ answerBy z c h
+  refused : (c : Call) (n : ℕ) → refusalOf z c m ≡ n → (n ≡ 0 → ⊥) → refusalOf z c m ≡ refusalBy z c h m → Refused n ≡ answerBy z c h m
   unfolding answerBy
-  told-refused c n p d = rw (p, ne-eqb n 0 d)
-
-  -- a call that is not refused
-  taken : (c : Call) (a : Answer) → refusalOf z c m ≡ 0 → Refusal z h m c → a ≡ takenAnswer z c h → Answers z h c a
-  taken c a p (agreed q) e = told (told-taken c a (sym q ∙ p) e)
-  taken c a p (hitting q app lane n w r) e = absurd (omega (arith, p, r))
-
-  refused : (c : Call) (n : ℕ) → refusalOf z c m ≡ n → (n ≡ 0 → ⊥) → Refusal z h m c → Answers z h c (Refused n)
-  refused c n e d (agreed q) = told (told-refused c n (sym q ∙ e) d)
-  refused c n e d (hitting q app lane k w r) = full q app (hit-floor (laneOf c) k lane w) (ap Refused (sym e ∙ r))
+  refused c n e d r = rw (sym r ∙ e, ne-eqb n 0 d)
 
   drains-answer : {c : Call} {a : Answer} → Known z m (laneOf c) → Drains z m c a → a ≡ takenAnswer z c h
   unfolding takenAnswer laneOf
@@ -119,8 +134,8 @@ module _ (z : Sizes) (base : ℕ) (h : History) (m : Machine) (b : Book z base h
   drains-answer k (late L r t) = rw (sym (same-stale L (k .lane) (r .held)), t)
   drains-answer k (plain L) = refl
 
-  by-move : {c : Call} {s : Step} → Move z m c s → numberIn (s .answer) ≡ refusalOf z c m → Refusal z h m c → Answers z h c (s .answer)
-  unfolding numberIn takenAnswer
+  by-move : {c : Call} {s : Step} → Move z m c s → said (s .answer) .number ≡ refusalOf z c m → refusalOf z c m ≡ refusalBy z c h m → s .answer ≡ answerBy z c h m
+  unfolding said takenAnswer
   by-move {c} (refusing n e d) p r = refused c n e d r
   by-move {c} (draining {a = a} k d) p r = taken c a (sym p ∙ number-drains d) r (drains-answer k d)
   by-move (logging L f k ok i q room) p r =
@@ -136,6 +151,10 @@ module _ (z : Sizes) (base : ℕ) (h : History) (m : Machine) (b : Book z base h
       (rw (sym (same-writes z h m (b .live) f), sym (same-matches L (k .lane) (y .held) (writesOn z f m)), t))
   by-move (marking L k room) p r = taken (mark L) _ (sym p) r (rw (same-held z h m (b .live) L (k .lane), b .live .clock))
 
-  pub answers : (c : Call) → Answers z h c (callStep z c m .answer)
+  pub answers : (c : Call) → Answers z h m c (callStep z c m .answer)
   answers c =
-      by-move (call-moves z m c) (number-is z m c) (refusal-by z h m (b .live) (record { buffers = b .buffers; fields = b .fields }) c)
+      record {
+        gives = by-move (call-moves z m c) (number-is z m c)
+            (refusal-by z h m (b .live) bound-drained (record { buffers = b .buffers; fields = b .fields }) c);
+        appended = full-appended c;
+      }

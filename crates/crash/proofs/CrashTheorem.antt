@@ -3,6 +3,7 @@ use mathlib.Core.Path.{_≡_}
 use mathlib.Core.Bool.{true}
 use Rattle.image.specs.Image.{sizesOk}
 use Rattle.image.specs.declared.Sizes.{Sizes}
+use Rattle.crash.specs.Events.{vandzulge}
 use Rattle.crash.specs.Theorem.{CrashTheorem}
 use Rattle.crash.proofs.FromLogs.{LogLaws, crash-theorem-by-logs}
 use Rattle.crash.proofs.Ties.{Ties}
@@ -28,5 +29,5 @@ ties-laws z ok =
       marks = ties-marks z;
     }
 
-pub crash-theorem : CrashTheorem
+pub crash-theorem : CrashTheorem vandzulge
 crash-theorem = crash-theorem-by-logs Ties ties-laws

@@ -11,17 +11,18 @@ use Rattle.record.specs.Record.{noLane, laneAt}
 use Rattle.record.specs.declared.Lane.{Lane}
 use Rattle.store.specs.declared.Answer.the-variants.{Refused, Logged, Committed, Stale, Changed, Marked}
 use Rattle.recovery.specs.declared.Recovered.the-variants.{Cut, Finished}
-use Rattle.crash.specs.Events.{log, redo, validate, mark, drain, Junk, Event, writeBack, call, recover, fails, failsInDrain, System, live, down, Reply, answered, recovered, failed, happens}
+use Rattle.crash.specs.Events.{log, redo, validate, mark, drain, Event, call, recover, fails, failsInDrain, failsAfterDrain, failsInRecovery, System, live, down, Reply, answered, recovered, failed, vandzulge, happens}
 use Rattle.crash.proofs.Everything.{everything}
+use Rattle.crash.proofs.Worked.{small, junk, set0, copy, writeBacks, twoLanes}
 
 -- ---- running a list of events
 unfoldable replies : Sizes → System → List Event → List Reply
 replies z y [] = []
-replies z y (e ∷ es) = happens z y e .reply ∷ replies z (happens z y e .system) es
+replies z y (e ∷ es) = happens vandzulge z y e .reply ∷ replies z (happens vandzulge z y e .system) es
 
 unfoldable afterAll : Sizes → System → List Event → System
 afterAll z y [] = y
-afterAll z y (e ∷ es) = afterAll z (happens z y e .system) es
+afterAll z y (e ∷ es) = afterAll z (happens vandzulge z y e .system) es
 
 -- the data words in non-volatile memory
 unfoldable wordsIn : Sizes → System → List ℕ
@@ -37,33 +38,11 @@ unfoldable laneIn : ℕ → System → Lane
 laneIn L (live m) = laneAt (m .state) L
 laneIn L (down nvm j found) = noLane
 
--- write-backs of n words from word i on
-unfoldable writeBacks : (i n : ℕ) → List Event
-writeBacks i zero = []
-writeBacks i (suc n) = writeBack i ∷ writeBacks (suc i) n
-
--- two data words and two lanes of 34 slots: an image of 139 words. Both data words are 0 at first
-abbrev small : Sizes
-small = record { words = 2; lanes = 2; slots = 34 }
-
+-- both data words are 0 at first
 abbrev begun : System
 begun = live (started small 0 (startImage small (0 ∷ 0 ∷ [])))
 
--- what a failure leaves
-abbrev junk : Junk
-junk = record { cache = 7 ∷ 7 ∷ []; flags = 255 ∷ [] }
-
--- SET word 0 to k; COPY word 0 into word 1
-abbrev set0 : ℕ → List ℕ
-set0 k = 1 ∷ 0 ∷ 0 ∷ k ∷ []
-
-abbrev copy : List ℕ
-copy = 2 ∷ 1 ∷ 0 ∷ 0 ∷ []
-
--- ---- two lanes: lane 1 logs a COPY at 2; lane 0 logs a SET at 4 and commits at 6; lane 1 is stale, validates at 8, logs the COPY again at 10
-abbrev twoLanes : List Event
-twoLanes = call (log 1 copy) ∷ call (log 0 (set0 2)) ∷ call (redo 0) ∷ call (redo 1) ∷ call (validate 1 copy) ∷ call (log 1 copy) ∷ []
-
+-- ---- the two-lane scenario
 two-lanes : replies small begun twoLanes
     ≡ answered (Logged (record { count = 1; stamp = 2 }))
     ∷ answered (Logged (record { count = 1; stamp = 4 }))
@@ -117,6 +96,37 @@ cut-twice = refl
 cut-twice-words : wordsIn small (afterAll small begun (inDrain ++ (recover 1 junk ∷ recover 5 junk ∷ recover 1000 junk ∷ []))) ≡ 0 ∷ 0 ∷ []
 unfolding everything afterAll wordsIn
 cut-twice-words = refl
+
+-- ---- a cut inside a call, after its whole drain: the mark at 6 has reached the log, so the commit at 4 is below the boundary and stays; what the second Log would have done is lost
+abbrev afterDrain : List Event
+afterDrain = call (log 0 (set0 2)) ∷ call (redo 0) ∷ call (mark 0) ∷ failsAfterDrain (log 0 (set0 3)) junk ∷ []
+
+after-drain : replies small begun (afterDrain ++ (recover 1000 junk ∷ []))
+    ≡ answered (Logged (record { count = 1; stamp = 2 }))
+    ∷ answered (Committed 4)
+    ∷ answered (Marked (record { stamp = 6; dropped = false }))
+    ∷ failed true
+    ∷ recovered (Finished (record { boundary = At 6; undone = 0 }))
+    ∷ []
+unfolding everything replies
+after-drain = refl
+
+after-drain-words : wordsIn small (afterAll small begun (afterDrain ++ (recover 1000 junk ∷ []))) ≡ 2 ∷ 0 ∷ []
+unfolding everything afterAll wordsIn
+after-drain-words = refl
+
+-- ---- power failing inside recovery: after its first store, which undoes the entry; at the second try after the base timestamp's; and after its last store, before it answers
+abbrev inRecovery : List Event
+inRecovery = failsInRecovery 1 junk ∷ failsInRecovery 2 junk ∷ failsInRecovery 138 junk ∷ []
+
+in-recovery : replies small (afterAll small begun inDrain) (inRecovery ++ (recover 1000 junk ∷ []))
+    ≡ failed false ∷ failed false ∷ failed false ∷ recovered (Finished (record { boundary = None; undone = 0 })) ∷ []
+unfolding everything replies afterAll
+in-recovery = refl
+
+in-recovery-words : wordsIn small (afterAll small begun (inDrain ++ (inRecovery ++ (recover 1000 junk ∷ [])))) ≡ 0 ∷ 0 ∷ []
+unfolding everything afterAll wordsIn
+in-recovery-words = refl
 
 -- ---- a Validate after its word was changed, and changed back: lane 1 commits 7 at 6 and 0 at 10, lane 0, logged at 2, commits 5 at 12.
 -- All is written back; the boundary is 10, and what is committed below it leaves 7

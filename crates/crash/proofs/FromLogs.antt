@@ -17,6 +17,7 @@ use Rattle.store.specs.Calls.{started, startImage, drained, writesOn, appended,
 use Rattle.store.specs.FormatLaws.{length-startImage}
 use Rattle.store.specs.Calls as calls
 use Rattle.recovery.specs.Recovery.{boundary, newBase}
+use Rattle.crash.specs.Events.{vandzulge}
 use Rattle.crash.specs.History.{History, opened, pageAt, wordsBelow, settled, stamped, released, heldBy, restarted, leastFloorOf}
 use Rattle.crash.specs.Theorem.{NotBelow, CrashTheorem}
 use Rattle.recovery.specs.SequenceLaws.{newBase-even}
@@ -149,5 +150,5 @@ module _ (z : Sizes) (ok : sizesOk z ≡ true) (G : ℕ → Machine → History 
       }
 
 -- the crash theorem, from the logs' laws
-pub crash-theorem-by-logs : (G : Sizes → ℕ → Machine → History → Type 0) → ((z : Sizes) → sizesOk z ≡ true → LogLaws z (G z)) → CrashTheorem
+pub crash-theorem-by-logs : (G : Sizes → ℕ → Machine → History → Type 0) → ((z : Sizes) → sizesOk z ≡ true → LogLaws z (G z)) → CrashTheorem vandzulge
 crash-theorem-by-logs G laws = crash-theorem-from (λ z. Inv z (G z)) AtCut (λ z ok. all-laws z ok (G z) (laws z ok))

@@ -1,5 +1,8 @@
 -- worked values
 pub mod Everything
+pub mod Worked
+pub mod Refute
+pub mod WrongStores
 pub mod Examples
 pub mod BenchSheet
 -- what undoing leaves

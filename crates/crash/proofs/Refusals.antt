@@ -1,44 +1,53 @@
--- A call's refusal is the one that the history tells, or cause 9: causes 1 and 2 do not hold, and the others are the same tests. Assumes nothing.
+-- A call's refusal is the one that the theorem gives: causes 1 and 2 do not hold, and the others are the same tests, of machine or history. Assumes nothing.
 use mathlib.Core.Path.{_≡_, refl, ap, _∙_, sym}
-use mathlib.Core.Logic.{_⊎_, inl, inr}
-use mathlib.Core.Bool.{Bool, true, false, cond, not, _&&_}
+use mathlib.Core.Bool.{Bool, true, false, cond, not, _&&_, and-false}
 use mathlib.Core.List.{List, [], _∷_, _++_}
-use Prim.Native.Nat.{ℕ, _+_, _-_, _^_, _<_}
+use Prim.Native.Nat.{ℕ, zero, suc, _+_, _-_, _^_, _<_}
 use lib.Dec.{eqb, leb}
 use lib.ListN.{length}
-use borrow.Author.Tests.{leb-false}
-use Rattle.laws.specs.Tests.{split, and-left, and-right}
+use native.Mathlib.Omega.{arith}
+use borrow.Author.Tests.{leb-false, le-leb, le-ltb, ne-eqb}
 use Rattle.txn.specs.Txn.{run}
 use Rattle.image.specs.Image.{buffersOk}
 use Rattle.image.specs.declared.Sizes.{Sizes}
-use Rattle.record.specs.Record.{laneAt, isLogged, recordOk, spent}
-use Rattle.store.specs.Machine.{Machine, Step, Cause, firstCause, unless, numberIn}
-use Rattle.store.specs.Calls.{badBuffers, badRecord, badLane, badTxn, notLogged, clockSpent, wouldHit, writesOn, drainRefusal, drainStep, logRefusal, logStep, redoRefusal, redoStep, isStale, validateRefusal, validateStep, matches, markRefusal, markStep}
+use Rattle.log.specs.Log.{Complete, completeIn, back, ahead, overlaps, hitsFrom, hits}
+use Rattle.log.specs.declared.Timestamp.{Timestamp}
+use Rattle.log.specs.declared.Timestamp.the-variants.{None, At}
+use Rattle.record.specs.Record.{laneAt, isLogged, recordOk, spent, boundOf}
+use Rattle.store.specs.Machine.{Machine, Step, Cause, firstCause, unless, said}
+use Rattle.store.specs.Calls.{badBuffers, badRecord, badLane, badTxn, notLogged, clockSpent, drained, wouldHit, writesOn, drainRefusal, drainStep, logRefusal, logStep, redoRefusal, redoStep, isStale, validateRefusal, validateStep, matches, markRefusal, markStep}
 use Rattle.crash.specs.Events.{Call, log, redo, validate, mark, drain, laneOf, callStep}
 use Rattle.crash.specs.History as book
-use Rattle.crash.specs.History.{History, writesNow, holdsOne, refusalBy, appends}
-use Rattle.crash.specs.Theorem.{Live}
-use Rattle.crash.proofs.Moves.{refusalOf, none-holds, unless-by}
+use Rattle.crash.specs.History.{History, settled, leastFloorOf, writesNow, holdsOne, causesBy, slotsBy}
+use Rattle.crash.specs.Theorem.{Live, isFull, refusalBy}
+use Rattle.crash.proofs.Moves.{refusalOf, unless-by}
 
 -- causes 1 and 2 do not hold
 pub record Fine (z : Sizes) (m : Machine) : Type 0 where
   pub buffers : buffersOk z (length (m .cache)) (length (m .nvm)) (length (m .flags)) ≡ true
   pub fields : recordOk z (m .state) ≡ true
 
--- the refusal: the history's; or 9, where it has none
-pub data Refusal (z : Sizes) (h : History) (m : Machine) (c : Call) : Type 0 where
-  agreed : refusalOf z c m ≡ refusalBy z c h → Refusal z h m c
-  hitting : refusalBy z c h ≡ 0 → appends z c h ≡ true → laneOf c < z.lanes → (n : ℕ) → wouldHit z (laneOf c) n m ≡ true → refusalOf z c m ≡ 9
-      → Refusal z h m c
-
--- one cause more, at the end of a list
-pub last-cause : (cs : List Cause) (n : ℕ) (b : Bool)
-    → ((firstCause cs ≡ 0) × (b ≡ true) × (firstCause (cs ++ (record { number = n; holds = b } ∷ [])) ≡ n))
-    ⊎ (firstCause (cs ++ (record { number = n; holds = b } ∷ [])) ≡ firstCause cs)
+-- a last cause that does not hold
+pub end-false : (cs : List Cause) (n : ℕ) → firstCause (cs ++ (record { number = n; holds = false } ∷ [])) ≡ firstCause cs
 unfolding firstCause
-last-cause [] n true = inl (refl, refl, refl)
-last-cause [] n false = inr refl
-last-cause (c ∷ cs) n b = split (c .holds) (λ e. rw e (inr refl)) (λ e. rw e (last-cause cs n b))
+end-false [] n = refl
+end-false (c ∷ cs) n = ap (cond (c .holds) (c .number)) (end-false cs n)
+
+-- no slots hit nothing
+over-nothing : (N k j n : ℕ) → overlaps N k 0 j n ≡ false
+unfolding overlaps
+over-nothing N k j zero = le-ltb (ahead N k j) 0 (omega arith)
+over-nothing N k j (suc n) = rw (le-ltb (ahead N k (back N j (suc n))) 0 (omega arith), over-nothing N k j n)
+
+from-nothing : (N k b : ℕ) (qs : List Complete) → hitsFrom N k 0 b qs ≡ false
+unfolding hitsFrom
+from-nothing N k b [] = refl
+from-nothing N k b (q ∷ qs) = rw (over-nothing N k (q .slot) (length (q .entries)), and-false (leb b (q .stamp)), from-nothing N k b qs)
+
+hits-nothing : (N k : ℕ) (b : Timestamp) (qs : List Complete) → hits N k 0 b qs ≡ false
+unfolding hits
+hits-nothing N k None qs = refl
+hits-nothing N k (At b) qs = from-nothing N k b qs
 
 -- the first two causes of a list do not hold, and where the third does not, the rest are the same
 pub past-two : (a b c : Bool) (n : ℕ) (cs ds : List Cause) → a ≡ true → b ≡ true → (c ≡ false → firstCause cs ≡ firstCause ds)
@@ -62,70 +71,80 @@ module _ (z : Sizes) (h : History) (m : Machine) (v : Live z h m) where
   unfolding holdsOne
   same-held L l = v .held L l
 
-  -- a list that cause 9 ends, by what the rest of the list says
-  by-nine : (c : Call) (told : List Cause) (b : Bool) (n : ℕ) → refusalBy z c h ≡ firstCause told
-      → refusalOf z c m ≡ firstCause (told ++ (record { number = 9; holds = b } ∷ []))
-      → (firstCause told ≡ 0 → laneOf c < z.lanes) → (b ≡ true → appends z c h ≡ true) → (b ≡ true → wouldHit z (laneOf c) n m ≡ true)
-      → Refusal z h m c
-  by-nine c told b n p q lane app hit = go (last-cause told 9 b)
-    where
-      go : ((firstCause told ≡ 0) × (b ≡ true) × (firstCause (told ++ (record { number = 9; holds = b } ∷ [])) ≡ 9))
-          ⊎ (firstCause (told ++ (record { number = 9; holds = b } ∷ [])) ≡ firstCause told) → Refusal z h m c
-      go (inl (k, t, r)) = hitting (p ∙ k) (app t) (lane k) n (hit t) (q ∙ r)
-      go (inr r) = agreed (q ∙ r ∙ sym p)
+  -- an append that would hit something, by the history's least floor
+  module _ (bound : (L : ℕ) → L < z.lanes → boundOf z (drained z L m .state) ≡ leastFloorOf (settled L h .pages)) where
+    same-hit : (L n : ℕ) → L < z.lanes
+        → wouldHit z L n m ≡ hits z.slots (laneAt (m .state) L .next) n (leastFloorOf (settled L h .pages)) (completeIn z (m .cache) L)
+    unfolding wouldHit
+    same-hit L n l = ap (λ (b : Timestamp). hits z.slots (laneAt (m .state) L .next) n b (completeIn z (m .cache) L)) (bound L l)
 
-  module _ (ok : Fine z m) where
-    log-refusal : (L : ℕ) (f : List ℕ) → Refusal z h m (log L f)
-    unfolding refusalOf logRefusal refusalBy appends laneOf badBuffers badRecord badLane badTxn book.badLane book.badTxn
-    log-refusal L f =
-        by-nine (log L f) _ (leb 1 n && wouldHit z L (n + 1) m) (n + 1) refl
-        (past-two _ _ (leb z.lanes L) 3 _ _ (ok .buffers) (ok .fields)
-        (λ e. rw (same-writes f, same-spent, same-held L (leb-false z.lanes L e))))
-        (λ e. leb-false z.lanes L (none-holds _ _ _ e .0)) (and-left _ _) (and-right (leb 1 n) _)
+    log-full : (L : ℕ) (f : List ℕ) → L < z.lanes
+        → (leb 1 (length (writesNow z f h)) && wouldHit z L (length (writesNow z f h) + 1) m) ≡ isFull z (log L f) h m
+    unfolding isFull slotsBy laneOf
+    log-full L f l = go (length (writesNow z f h))
       where
-        n : ℕ
-        n = length (writesNow z f h)
+        go : (n : ℕ) → (leb 1 n && wouldHit z L (n + 1) m)
+            ≡ hits z.slots (laneAt (m .state) L .next) (cond (eqb n 0) 0 (n + 1)) (leastFloorOf (settled L h .pages)) (completeIn z (m .cache) L)
+        go zero = sym (hits-nothing z.slots (laneAt (m .state) L .next) (leastFloorOf (settled L h .pages)) (completeIn z (m .cache) L))
+        go (suc n) = rw (le-leb 1 (suc n) (omega arith), ne-eqb (suc n) 0 (λ e. omega arith)) (same-hit L (suc n + 1) l)
 
-    mark-refusal : (L : ℕ) → Refusal z h m (mark L)
-    unfolding refusalOf markRefusal refusalBy appends laneOf badBuffers badRecord badLane clockSpent book.badLane
-    mark-refusal L =
-        by-nine (mark L) _ (wouldHit z L 1 m) 1 refl
-        (past-two _ _ (leb z.lanes L) 3 _ _ (ok .buffers) (ok .fields) (λ e. rw same-spent))
-        (λ e. leb-false z.lanes L (none-holds _ _ _ e .0)) (λ t. refl) (λ t. t)
+    mark-full : (L : ℕ) → L < z.lanes → wouldHit z L 1 m ≡ isFull z (mark L) h m
+    unfolding isFull slotsBy laneOf
+    mark-full L l = same-hit L 1 l
 
-    redo-refusal : (L : ℕ) → Refusal z h m (redo L)
-    unfolding refusalOf redoRefusal refusalBy badBuffers badRecord badLane notLogged clockSpent book.badLane
-    redo-refusal L =
-        agreed (past-two _ _ (leb z.lanes L) 3 _ _ (ok .buffers) (ok .fields) (λ e. rw (same-spent, same-held L (leb-false z.lanes L e))))
+    -- a call that appends nothing
+    none-full : (c : Call) → slotsBy z c h ≡ 0 → refusalBy z c h m ≡ firstCause (causesBy z c h)
+    unfolding refusalBy isFull
+    none-full c e =
+        rw (e, hits-nothing z.slots (laneAt (m .state) (laneOf c) .next) (leastFloorOf (settled (laneOf c) h .pages)) (completeIn z (m .cache) (laneOf c)))
+        (end-false (causesBy z c h) 9)
 
-    validate-refusal : (L : ℕ) (f : List ℕ) → Refusal z h m (validate L f)
-    unfolding refusalOf validateRefusal refusalBy badBuffers badRecord badLane badTxn notLogged clockSpent book.badLane book.badTxn
-    validate-refusal L f =
-        agreed (past-two _ _ (leb z.lanes L) 3 _ _ (ok .buffers) (ok .fields) (λ e. rw (same-spent, same-held L (leb-false z.lanes L e))))
+    module _ (ok : Fine z m) where
+      log-refusal : (L : ℕ) (f : List ℕ) → refusalOf z (log L f) m ≡ refusalBy z (log L f) h m
+      unfolding refusalOf logRefusal refusalBy causesBy badBuffers badRecord badLane badTxn book.badLane book.badTxn
+      log-refusal L f =
+          past-two _ _ (leb z.lanes L) 3 _ _ (ok .buffers) (ok .fields)
+          (λ e. let l = leb-false z.lanes L e in rw (same-writes f, same-spent, same-held L l, log-full L f l))
 
-    drain-refusal : (L : ℕ) → Refusal z h m (drain L)
-    unfolding refusalOf drainRefusal refusalBy badBuffers badRecord badLane book.badLane
-    drain-refusal L = agreed (past-two _ _ (leb z.lanes L) 3 _ _ (ok .buffers) (ok .fields) (λ e. refl))
+      mark-refusal : (L : ℕ) → refusalOf z (mark L) m ≡ refusalBy z (mark L) h m
+      unfolding refusalOf markRefusal refusalBy causesBy badBuffers badRecord badLane clockSpent book.badLane
+      mark-refusal L =
+          past-two _ _ (leb z.lanes L) 3 _ _ (ok .buffers) (ok .fields) (λ e. rw (same-spent, mark-full L (leb-false z.lanes L e)))
 
-    pub refusal-by : (c : Call) → Refusal z h m c
-    refusal-by (log L f) = log-refusal L f
-    refusal-by (redo L) = redo-refusal L
-    refusal-by (validate L f) = validate-refusal L f
-    refusal-by (mark L) = mark-refusal L
-    refusal-by (drain L) = drain-refusal L
+      redo-refusal : (L : ℕ) → refusalOf z (redo L) m ≡ firstCause (causesBy z (redo L) h)
+      unfolding refusalOf redoRefusal causesBy badBuffers badRecord badLane notLogged clockSpent book.badLane book.notHeld
+      redo-refusal L =
+          past-two _ _ (leb z.lanes L) 3 _ _ (ok .buffers) (ok .fields) (λ e. rw (same-spent, same-held L (leb-false z.lanes L e)))
+
+      validate-refusal : (L : ℕ) (f : List ℕ) → refusalOf z (validate L f) m ≡ firstCause (causesBy z (validate L f) h)
+      unfolding refusalOf validateRefusal causesBy badBuffers badRecord badLane badTxn notLogged clockSpent book.badLane book.badTxn book.notHeld
+      validate-refusal L f =
+          past-two _ _ (leb z.lanes L) 3 _ _ (ok .buffers) (ok .fields) (λ e. rw (same-spent, same-held L (leb-false z.lanes L e)))
+
+      drain-refusal : (L : ℕ) → refusalOf z (drain L) m ≡ firstCause (causesBy z (drain L) h)
+      unfolding refusalOf drainRefusal causesBy badBuffers badRecord badLane book.badLane
+      drain-refusal L = past-two _ _ (leb z.lanes L) 3 _ _ (ok .buffers) (ok .fields) (λ e. refl)
+
+      pub refusal-by : (c : Call) → refusalOf z c m ≡ refusalBy z c h m
+      unfolding slotsBy
+      refusal-by (log L f) = log-refusal L f
+      refusal-by (redo L) = redo-refusal L ∙ sym (none-full (redo L) refl)
+      refusal-by (validate L f) = validate-refusal L f ∙ sym (none-full (validate L f) refl)
+      refusal-by (mark L) = mark-refusal L
+      refusal-by (drain L) = drain-refusal L ∙ sym (none-full (drain L) refl)
 
 -- ---- the number in the answer
-number-unless : (n : ℕ) (m : Machine) (s : Step) → numberIn (s .answer) ≡ 0 → numberIn (unless n m s .answer) ≡ n
-unfolding numberIn
-number-unless n m s e = unless-by (λ (t : Step). numberIn (t .answer) ≡ n) n m s (λ d. refl) (λ p. e ∙ sym p)
+number-unless : (n : ℕ) (m : Machine) (s : Step) → said (s .answer) .number ≡ 0 → said (unless n m s .answer) .number ≡ n
+unfolding said
+number-unless n m s e = unless-by (λ (t : Step). said (t .answer) .number ≡ n) n m s (λ d. refl) (λ p. e ∙ sym p)
 
-number-cond : (b : Bool) (s t : Step) → numberIn (s .answer) ≡ 0 → numberIn (t .answer) ≡ 0 → numberIn (cond b s t .answer) ≡ 0
+number-cond : (b : Bool) (s t : Step) → said (s .answer) .number ≡ 0 → said (t .answer) .number ≡ 0 → said (cond b s t .answer) .number ≡ 0
 number-cond true s t p q = p
 number-cond false s t p q = q
 
 -- a call answers the number of its refusal
-pub number-is : (z : Sizes) (m : Machine) (c : Call) → numberIn (callStep z c m .answer) ≡ refusalOf z c m
-unfolding callStep refusalOf logStep redoStep validateStep markStep drainStep numberIn
+pub number-is : (z : Sizes) (m : Machine) (c : Call) → said (callStep z c m .answer) .number ≡ refusalOf z c m
+unfolding callStep refusalOf logStep redoStep validateStep markStep drainStep said
 number-is z m (log L f) = number-unless (logRefusal z L f m) m _ (number-cond (eqb (length (writesOn z f m)) 0) _ _ refl refl)
 number-is z m (redo L) = number-unless (redoRefusal z L m) m _ (number-cond (isStale L m) _ _ refl refl)
 number-is z m (validate L f) = number-unless (validateRefusal z L f m) m _ (number-cond (matches z L (writesOn z f m) m) _ _ refl refl)

@@ -14,12 +14,14 @@ use Rattle.image.specs.ImageLaws.{image-filled}
 use Rattle.image.specs.Stores.{stored}
 use Rattle.image.specs.StoresLaws.{length-stored}
 use Rattle.image.specs.declared.Sizes.{Sizes}
-use Rattle.log.specs.declared.Timestamp.{Timestamp}
 use Rattle.store.specs.Machine.{Machine, firstCause}
 use Rattle.store.specs.Calls.{badBuffers, started}
 use Rattle.recovery.specs.Recovery.{boundary, undoStores, newBase, recoveryStores, recoveredNvm, oddBase, recoverRefusal, allMade, Restarted, recoverStep}
-use Rattle.recovery.specs.declared.Recovered.the-variants.{Cut, Finished}
+use Rattle.recovery.specs.declared.Finished.{Finished}
+use Rattle.recovery.specs.declared.Recovered.the-variants as Recovered
+use Rattle.recovery.specs.declared.Recovered.the-variants.{Cut}
 use Rattle.crash.specs.Events.{fitted}
+use Rattle.crash.specs.Theorem.{recoveryAnswer}
 use Rattle.recovery.specs.SequenceLaws.{newBase-even}
 use Rattle.recovery.specs.AgainLaws.{recoveredImage, cut-base, recovered-again}
 use Rattle.recovery.specs.FreshLaws.{recovered-base}
@@ -54,7 +56,7 @@ recoveredNvm-even z k nvm s h = go (cut-base z nvm (image-filled z (length nvm) 
 pub finished-step : (z : Sizes) (limit : ℕ) (m : Machine) → recoverRefusal z m ≡ 0 → allMade z limit (m .nvm) ≡ true
     → recoverStep z limit m
     ≡ record {
-      answer = Finished (record { boundary = boundary z (m .nvm); undone = length (undoStores z (m .nvm)) });
+      answer = Recovered.Finished (record { boundary = boundary z (m .nvm); undone = length (undoStores z (m .nvm)) });
       machine = started z (baseOf (recoveredImage z (m .nvm))) (recoveredImage z (m .nvm));
     }
 unfolding recoverStep
@@ -65,6 +67,16 @@ pub cut-step : (z : Sizes) (limit : ℕ) (m : Machine) → recoverRefusal z m �
     ≡ record { answer = Cut; machine = record { state = m .state; cache = m .cache; nvm = recoveredNvm z limit (m .nvm); flags = m .flags } }
 unfolding recoverStep
 cut-step z limit m r e = rw (r, e)
+
+-- the answer is the one that the theorem gives
+answer-finished : (z : Sizes) (limit : ℕ) (nvm : List ℕ) → allMade z limit nvm ≡ true
+    → Recovered.Finished (record { boundary = boundary z nvm; undone = length (undoStores z nvm) }) ≡ recoveryAnswer z limit nvm
+unfolding allMade recoveryAnswer
+answer-finished z limit nvm e = rw e
+
+answer-cut : (z : Sizes) (limit : ℕ) (nvm : List ℕ) → allMade z limit nvm ≡ false → Cut ≡ recoveryAnswer z limit nvm
+unfolding allMade recoveryAnswer
+answer-cut z limit nvm e = rw e
 
 -- ---- any number of recoveries cut short
 -- these cells lead to the image that a recovery of the cut cells leaves
@@ -93,15 +105,14 @@ module _ (z : Sizes) {nvm found : List ℕ} (l : Leads z nvm found) where
 
 -- the call on cells that lead there: cut short, or the start from the image of the cut cells
 pub data Restarts (z : Sizes) (limit : ℕ) (found : List ℕ) (m : Machine) : Restarted → Type 0 where
-  short : Leads z (recoveredNvm z limit (m .nvm)) found
+  short : Cut ≡ recoveryAnswer z limit (m .nvm) → Leads z (recoveredNvm z limit (m .nvm)) found
       → Restarts z limit found m
       (record { answer = Cut; machine = record { state = m .state; cache = m .cache; nvm = recoveredNvm z limit (m .nvm); flags = m .flags } })
-  finished : (b : Timestamp) (n : ℕ)
-      → Restarts z limit found m
-      (record { answer = Finished (record { boundary = b; undone = n }); machine = started z (newBase z found) (recoveredImage z found) })
+  finished : {a : Finished} → Recovered.Finished a ≡ recoveryAnswer z limit (m .nvm)
+      → Restarts z limit found m (record { answer = Recovered.Finished a; machine = started z (newBase z found) (recoveredImage z found) })
 
 pub restarts : (z : Sizes) (limit : ℕ) {found : List ℕ} (m : Machine) → Leads z (m .nvm) found → recoverRefusal z m ≡ 0 → Restarts z limit found m (recoverStep z limit m)
 restarts z limit {found} m l r =
     split (allMade z limit (m .nvm))
-    (λ e. rw (finished-step z limit m r e, leads-base z l, l .same) (finished (boundary z (m .nvm)) (length (undoStores z (m .nvm)))))
-    (λ e. rw (cut-step z limit m r e) (short (leads-cut z l limit)))
+    (λ e. rw (finished-step z limit m r e, leads-base z l, l .same) (finished (answer-finished z limit (m .nvm) e)))
+    (λ e. rw (cut-step z limit m r e) (short (answer-cut z limit (m .nvm) e) (leads-cut z l limit)))

@@ -13,16 +13,16 @@ use Rattle.image.specs.Image.{sizesOk, buffersOk, imageLength, baseOf, dataOf}
 use Rattle.image.specs.ImageLaws.{buffers-in, buffers-good}
 use Rattle.image.specs.Flush.{flushed, writtenBack}
 use Rattle.image.specs.declared.Sizes.{Sizes}
-use Rattle.store.specs.Machine.{Machine, Step, firstCause, unless, numberIn}
+use Rattle.store.specs.Machine.{Machine, Step, firstCause, unless, said}
 use Rattle.store.specs.Calls.{badBuffers, started, startImage, drained, formatRefusal, formatStep, writeBackRefusal, writeBackStep}
 use Rattle.store.specs.declared.Answer.the-variants as answer
 use Rattle.recovery.specs.Recovery.{boundary, newBase, recoveredNvm, Restarted}
-use Rattle.crash.specs.Events.{Call, drain, Junk, Event, format, writeBack, call, recover, fails, failsInDrain, failsAfterDrain, failsInRecovery, System, live, down, happens, laneOf, callStep, isTaken, fit, partlyDrained, bare, foundOr, afterStep, afterFormat, recoveredSystem, afterRecovery, afterFailure, notOffered}
+use Rattle.crash.specs.Events.{Call, drain, Junk, Event, format, writeBack, call, recover, fails, failsInDrain, failsAfterDrain, failsInRecovery, System, live, down, nvmOf, vandzulge, happens, laneOf, callStep, isTaken, fit, partlyDrained, bare, foundOr, afterStep, afterFormat, recoveredSystem, afterRecovery, afterFailure, notOffered}
 use Rattle.crash.specs.History.{History, opened, wordsBelow, settled, restarted, taken, afterCall, afterRecovered, fedAnswer, fedFailure, fed, leastFloorOf}
 use Rattle.crash.specs.Theorem.{Live, InStep, Answers, formatAnswer, writeBackAnswer, NotBelow, RecoveryReply, Replied, Holds, CrashTheorem}
 use Rattle.crash.proofs.Moves.{none-holds, Known}
-use Rattle.recovery.specs.OrderLaws.{undone-none}
 use Rattle.recovery.specs.AgainLaws.{recoveredImage}
+use Rattle.recovery.specs.FreshLaws.{recovered-none}
 use Rattle.crash.proofs.Restart.{recover-taken, length-fitted, Leads, leads-self, leads-cut, Restarts, short, finished, restarts}
 use Rattle.crash.proofs.Fed.{taken-known, drain-taken}
 
@@ -35,7 +35,7 @@ pub record Laws (z : Sizes) (Inv : Machine → History → Type 0) (AtCut : List
   pub lives : (m : Machine) (h : History) → Inv m h → Live z h m
   pub buffers : (m : Machine) (h : History) → Inv m h → buffersOk z (length (m .cache)) (length (m .nvm)) (length (m .flags)) ≡ true
   pub calls : (m : Machine) (h : History) (c : Call) → Inv m h → Inv (callStep z c m .machine) (afterCall c (callStep z c m .answer) h)
-  pub answers : (m : Machine) (h : History) (c : Call) → Inv m h → Answers z h c (callStep z c m .answer)
+  pub answers : (m : Machine) (h : History) (c : Call) → Inv m h → Answers z h m c (callStep z c m .answer)
   pub writes : (m : Machine) (h : History) (i : ℕ) → Inv m h → i < imageLength z
       → Inv (record { state = m .state; cache = m .cache; nvm = writtenBack i (m .cache) (m .nvm); flags = m .flags }) h
   -- the cells that a failure leaves
@@ -130,24 +130,32 @@ module _ (z : Sizes) (ok : sizesOk z ≡ true) (Inv : Machine → History → Ty
   -- a recovery by a machine whose cells lead where the cut cells lead
   module _ (limit : ℕ) (m : Machine) (y : System) (i : Junk) (found : List ℕ) (h : History) (a : AtCut found h) where
     recovers : {r : Restarted} → Restarts z limit found m r
-        → RecoveryReply z h found (recoveredSystem y (fit z i) found r (r .answer)) (r .answer)
+        → RecoveryReply z h limit (m .nvm) found (recoveredSystem y (fit z i) found r (r .answer)) (r .answer)
         × Good (recoveredSystem y (fit z i) found r (r .answer)) (afterRecovered z found (r .answer) h)
     unfolding recoveredSystem afterRecovered Good foundOr started fit
-    recovers (short l) = (
-      tt,
+    recovers (short e l) = (
+      record { gives = e; leaves = tt },
       record { cut = a; leads = l; cache = length-fitted (imageLength z) (i .cache); flags = length-fitted (imageLength z) (i .flags) },
     )
-    recovers (finished b n) = (
-      record { nvm = laws .words found h a; cache = laws .words found h a; floors = laws .floors found h a; none = undone-none z found },
+    recovers (finished e) = (
+      record {
+        gives = e;
+        leaves = record {
+          nvm = laws .words found h a;
+          cache = laws .words found h a;
+          floors = laws .floors found h a;
+          none = recovered-none z found (laws .size found h a);
+        };
+      },
       laws .restarts found h a,
     )
 
   -- Format by a machine whose buffers are right
   module _ (start : List ℕ) (m : Machine) (y : System) (h : History) (g : Good y h) (b : buffersOk z (length (m .cache)) (length (m .nvm)) (length (m .flags)) ≡ true) where
     formatted : (formatStep z start m .answer ≡ formatAnswer z start)
-        × Good (cond (eqb (numberIn (formatStep z start m .answer)) 0) (live (formatStep z start m .machine)) y)
-        (cond (eqb (numberIn (formatStep z start m .answer)) 0) (opened z start 0) h)
-    unfolding numberIn Good
+        × Good (cond (said (formatStep z start m .answer) .refused) y (live (formatStep z start m .machine)))
+        (cond (said (formatStep z start m .answer) .refused) h (opened z start 0))
+    unfolding said Good
     formatted =
         rw (format-answer z start m b)
         (split (eqb (length start) (z .words)) (λ e. rw e (refl, laws .formats start (eqb-true (length start) (z .words) e))) (λ e. rw e (refl, g)))
@@ -167,15 +175,15 @@ module _ (z : Sizes) (ok : sizesOk z ≡ true) (Inv : Machine → History → Ty
 
   -- a whole drain is a Drain
   wholly : (m : Machine) (h : History) (L : ℕ) → Inv m h → Known z m L → Inv (drained z L m) (settled L h)
-  unfolding afterCall taken numberIn
+  unfolding afterCall taken said
   wholly m h L v k =
       let e = drain-taken z m L k in
       subst (λ (s : Step). Inv (s .machine) (afterCall (drain L) (s .answer) h)) e (laws .calls m h (drain L) v)
 
   -- ---- one event: what is replied, and what is kept
   record Kept (y : System) (h : History) (e : Event) : Type 0 where
-    reply : Replied z h e (happens z y e .found) (happens z y e .system) (happens z y e .reply)
-    good : Good (happens z y e .system) (fed z e (happens z y e .reply) (happens z y e .found) h)
+    reply : Replied z h e y (happens vandzulge z y e .found) (happens vandzulge z y e .system) (happens vandzulge z y e .reply)
+    good : Good (happens vandzulge z y e .system) (fed z e (happens vandzulge z y e .reply) (happens vandzulge z y e .found) h)
 
   -- of a running store
   module _ (m : Machine) (h : History) (v : Inv m h) where
@@ -183,11 +191,11 @@ module _ (z : Sizes) (ok : sizesOk z ≡ true) (Inv : Machine → History → Ty
     leads-now = loses (m .nvm) (record { cache = []; flags = [] }) h (laws .cuts m h v) .leads
 
     on-format : (start : List ℕ) → Kept (live m) h (format start)
-    unfolding happens afterFormat fed fedAnswer Good
+    unfolding happens vandzulge afterFormat fed fedAnswer Good
     on-format start = let r = formatted start m (live m) h v (laws .buffers m h v) in record { reply = r .0; good = r .1 }
 
     on-write : (i : ℕ) → Kept (live m) h (writeBack i)
-    unfolding happens afterStep fed fedAnswer Good
+    unfolding happens vandzulge afterStep fed fedAnswer Good
     on-write i =
         let b = write-answer z i m (laws .buffers m h v) in
         record {
@@ -196,59 +204,59 @@ module _ (z : Sizes) (ok : sizesOk z ≡ true) (Inv : Machine → History → Ty
         }
 
     on-call : (c : Call) → Kept (live m) h (call c)
-    unfolding happens afterStep fed fedAnswer Good
+    unfolding happens vandzulge afterStep fed fedAnswer Good
     on-call c = record { reply = laws .answers m h c v; good = laws .calls m h c v }
 
     on-recover : (limit : ℕ) (j : Junk) → Kept (live m) h (recover limit j)
-    unfolding happens afterRecovery fed Good
+    unfolding happens vandzulge afterRecovery fed nvmOf Good
     on-recover limit j =
         let a = laws .cuts m h v in
         let r = recovers limit m (live m) j (m .nvm) h a (restarts z limit m leads-now (recover-taken z m (laws .buffers m h v) (leads-now .even))) in
         record { reply = r .0; good = r .1 }
 
     on-failure : (j : Junk) → Kept (live m) h (fails j)
-    unfolding happens afterFailure fed fedFailure Good foundOr
+    unfolding happens vandzulge afterFailure fed fedFailure Good foundOr
     on-failure j = record { reply = tt; good = loses (m .nvm) j h (laws .cuts m h v) }
 
     on-part : (c : Call) (is : List ℕ) (j : Junk) → Kept (live m) h (failsInDrain c is j)
-    unfolding happens afterFailure fed fedFailure Good foundOr
+    unfolding happens vandzulge afterFailure fed fedFailure Good foundOr
     on-part c is j =
         record {
           reply = tt;
           good = loses _ j h
-              (split (isTaken z c m) (λ t. rw t (partly (laneOf c) is m h v)) (λ t. rw t (laws .cuts m h v)));
+              (split (isTaken vandzulge z c m) (λ t. rw t (partly (laneOf c) is m h v)) (λ t. rw t (laws .cuts m h v)));
         }
 
     on-drain : (c : Call) (j : Junk) → Kept (live m) h (failsAfterDrain c j)
-    unfolding happens afterFailure fed fedFailure Good foundOr drained
+    unfolding happens vandzulge afterFailure fed fedFailure Good foundOr drained
     on-drain c j =
         record {
           reply = tt;
           good = loses _ j _
-              (split (isTaken z c m) (λ t. rw t (laws .cuts _ _ (wholly m h (laneOf c) v (taken-known z c m t)))) (λ t. rw t (laws .cuts m h v)));
+              (split (isTaken vandzulge z c m) (λ t. rw t (laws .cuts _ _ (wholly m h (laneOf c) v (taken-known z c m t)))) (λ t. rw t (laws .cuts m h v)));
         }
 
     on-failed-recovery : (n : ℕ) (j : Junk) → Kept (live m) h (failsInRecovery n j)
-    unfolding happens afterFailure fed fedFailure Good foundOr
+    unfolding happens vandzulge afterFailure fed fedFailure Good foundOr
     on-failed-recovery n j = record { reply = tt; good = loses-more (m .nvm) (fit z j) (m .nvm) h (loses (m .nvm) j h (laws .cuts m h v)) n j }
 
   -- of a store without a record
   module _ (nvm : List ℕ) (j : Junk) (found : Option (List ℕ)) (h : History) (l : Lost nvm j (foundOr nvm found) h) where
     down-format : (start : List ℕ) → Kept (down nvm j found) h (format start)
-    unfolding happens afterFormat fed fedAnswer bare Good
+    unfolding happens vandzulge afterFormat fed fedAnswer bare Good
     down-format start =
         let r = formatted start (bare nvm j) (down nvm j found) h l (bare-fits nvm j (foundOr nvm found) h l) in
         record { reply = r .0; good = r .1 }
 
     down-recover : (limit : ℕ) (i : Junk) → Kept (down nvm j found) h (recover limit i)
-    unfolding happens afterRecovery fed bare Good
+    unfolding happens vandzulge afterRecovery fed nvmOf bare Good
     down-recover limit i =
         let b = bare-fits nvm j (foundOr nvm found) h l in
         let r = recovers limit (bare nvm j) (down nvm j found) i (foundOr nvm found) h (l .cut) (restarts z limit (bare nvm j) (l .leads) (recover-taken z (bare nvm j) b (l .leads .even))) in
         record { reply = r .0; good = r .1 }
 
     down-fails : (i : Junk) → Kept (down nvm j found) h (fails i)
-    unfolding happens afterFailure fed fedFailure Good fit
+    unfolding happens vandzulge afterFailure fed fedFailure Good fit
     down-fails i =
         record {
           reply = tt;
@@ -261,7 +269,7 @@ module _ (z : Sizes) (ok : sizesOk z ≡ true) (Inv : Machine → History → Ty
         }
 
     down-failed-recovery : (n : ℕ) (i : Junk) → Kept (down nvm j found) h (failsInRecovery n i)
-    unfolding happens afterFailure fed fedFailure Good foundOr
+    unfolding happens vandzulge afterFailure fed fedFailure Good foundOr
     down-failed-recovery n i = record { reply = tt; good = loses-more nvm j (foundOr nvm found) h l n i }
 
   event : (y : System) (h : History) (e : Event) → Good y h → Kept y h e
@@ -283,21 +291,21 @@ module _ (z : Sizes) (ok : sizesOk z ≡ true) (Inv : Machine → History → Ty
   event (down nvm j found) h (failsAfterDrain c i) l = record { reply = tt; good = l }
   event (down nvm j found) h (failsInRecovery n i) l = down-failed-recovery nvm j found h l n i
 
-  pub all-events : (y : System) (h : History) (es : List Event) → Good y h → Holds z y h es
+  pub all-events : (y : System) (h : History) (es : List Event) → Good y h → Holds vandzulge z y h es
   all-events y h [] v = tt
   all-events y h (e ∷ es) v =
       let k = event y h e v in (
-        record { reply = k .reply; store = in-step (happens z y e .system) (fed z e (happens z y e .reply) (happens z y e .found) h) (k .good) },
-        all-events (happens z y e .system) (fed z e (happens z y e .reply) (happens z y e .found) h) es (k .good),
+        record { reply = k .reply; store = in-step (happens vandzulge z y e .system) (fed z e (happens vandzulge z y e .reply) (happens vandzulge z y e .found) h) (k .good) },
+        all-events (happens vandzulge z y e .system) (fed z e (happens vandzulge z y e .reply) (happens vandzulge z y e .found) h) es (k .good),
       )
 
 -- the crash theorem, from the laws
 pub crash-theorem-from : (Inv : Sizes → Machine → History → Type 0) (AtCut : Sizes → List ℕ → History → Type 0)
     → ((z : Sizes) → sizesOk z ≡ true → Laws z (Inv z) (AtCut z))
-    → CrashTheorem
-unfolding CrashTheorem Good
+    → CrashTheorem vandzulge
+unfolding CrashTheorem vandzulge Good
 crash-theorem-from Inv AtCut laws z start m e es =
     let f = format-true z start m e in
     let ok = buffers-in z _ _ _ (f .0) .sizes-ok in
-    subst (λ (s : Step). Holds z (live (s .machine)) (opened z start 0) es) (sym (formats-at z start m (f .0) (f .1)))
+    subst (λ (s : Step). Holds vandzulge z (live (s .machine)) (opened z start 0) es) (sym (formats-at z start m (f .0) (f .1)))
     (all-events z ok (Inv z) (AtCut z) (laws z ok) (live (started z 0 (startImage z start))) (opened z start 0) es (laws z ok .formats start (f .1)))

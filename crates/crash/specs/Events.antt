@@ -1,15 +1,14 @@
--- What can happen to a store: calls, write-backs, recoveries, and power failing at every place; and the store after it. 01, "The cut claim". Assumes nothing.
+-- What can happen to a store, ours or any other: calls, write-backs, recoveries, and power failing at every place; and the store after it. 01, "The cut claim". Assumes nothing.
 use Prim.Native.Nat.{ℕ}
-use mathlib.Core.Bool.{Bool, false, cond}
+use mathlib.Core.Bool.{Bool, false, cond, not}
 use mathlib.Core.List.{List, [], _∷_, _++_}
 use mathlib.Core.Option.{Option, none, some}
-use lib.Dec.{eqb}
 use lib.ListN.{getD, take, replicate}
 use Rattle.image.specs.Image.{imageLength}
 use Rattle.image.specs.Flush.{flushed, writtenBack, drainedNvm}
 use Rattle.image.specs.declared.Sizes.{Sizes}
 use Rattle.record.specs.Record.{startRecord}
-use Rattle.store.specs.Machine.{Machine, Step, numberIn}
+use Rattle.store.specs.Machine.{Machine, Step, said}
 use Rattle.store.specs.Calls.{formatStep, writeBackStep, drainStep, logStep, redoStep, validateStep, markStep}
 use Rattle.store.specs.declared.Answer.{Answer}
 use Rattle.recovery.specs.Recovery.{Restarted, recoverStep, recoveredNvm}
@@ -49,6 +48,11 @@ pub data System : Type 0 where
   live : Machine → System
   down : (nvm : List ℕ) → Junk → (found : Option (List ℕ)) → System
 
+-- the cells
+unfoldable pub nvmOf : System → List ℕ
+nvmOf (live m) = m .nvm
+nvmOf (down nvm j found) = nvm
+
 -- what the caller sees of an event
 pub data Reply : Type 0 where
   answered : Answer → Reply
@@ -79,9 +83,22 @@ callStep z (validate L f) m = validateStep z L f m
 callStep z (mark L) m = markStep z L m
 callStep z (drain L) m = drainStep z L m
 
+-- ---- stores
+-- what a store does: in its calls, in recovery, and, where power fails inside recovery, with the cells by its first so many stores
+pub record Design : Type 0 where
+  pub format : Sizes → (start : List ℕ) → Machine → Step
+  pub writeBack : Sizes → (word : ℕ) → Machine → Step
+  pub call : Sizes → Call → Machine → Step
+  pub recover : Sizes → (limit : ℕ) → Machine → Restarted
+  pub cutShort : Sizes → (stores : ℕ) → (nvm : List ℕ) → List ℕ
+
+-- this one: the definitions that the contracts of its code cite
+unfoldable pub vandzulge : Design
+vandzulge = record { format = formatStep; writeBack = writeBackStep; call = callStep; recover = recoverStep; cutShort = recoveredNvm }
+
 -- a refused call drains nothing
-unfoldable pub isTaken : Sizes → Call → Machine → Bool
-isTaken z c m = eqb (numberIn (callStep z c m .answer)) 0
+unfoldable pub isTaken : Design → Sizes → Call → Machine → Bool
+isTaken d z c m = not (said (d .call z c m .answer) .refused)
 
 -- ---- failures
 -- the first n of these numbers, with 0s where there are fewer: every list of n numbers is one
@@ -110,7 +127,7 @@ afterStep s = record { reply = answered (s .answer); system = live (s .machine);
 
 -- a Format starts anew, or is refused
 unfoldable pub afterFormat : System → Step → Happened
-afterFormat y s = record { reply = answered (s .answer); system = cond (eqb (numberIn (s .answer)) 0) (live (s .machine)) y; found = [] }
+afterFormat y s = record { reply = answered (s .answer); system = cond (said (s .answer) .refused) y (live (s .machine)); found = [] }
 
 unfoldable pub recoveredSystem : System → Junk → List ℕ → Restarted → Recovered → System
 recoveredSystem y j found r (Refused n) = y
@@ -126,23 +143,23 @@ afterFailure drained nvm j found = record { reply = failed drained; system = dow
 unfoldable pub notOffered : System → Happened
 notOffered y = record { reply = ignored; system = y; found = [] }
 
-unfoldable pub happens : Sizes → System → Event → Happened
-happens z (live m) (format start) = afterFormat (live m) (formatStep z start m)
-happens z (live m) (writeBack i) = afterStep (writeBackStep z i m)
-happens z (live m) (call c) = afterStep (callStep z c m)
-happens z (live m) (recover limit j) = afterRecovery (live m) (fit z j) (m .nvm) (recoverStep z limit m)
-happens z (live m) (fails j) = afterFailure false (m .nvm) (fit z j) none
-happens z (live m) (failsInDrain c is j) =
-    afterFailure false (cond (isTaken z c m) (partlyDrained (laneOf c) is (m .flags) (m .cache) (m .nvm)) (m .nvm)) (fit z j) none
-happens z (live m) (failsAfterDrain c j) =
-    afterFailure (isTaken z c m) (cond (isTaken z c m) (drainedNvm (laneOf c) (m .flags) (m .cache) (m .nvm)) (m .nvm)) (fit z j) none
-happens z (live m) (failsInRecovery n j) = afterFailure false (recoveredNvm z n (m .nvm)) (fit z j) (some (m .nvm))
-happens z (down nvm j found) (format start) = afterFormat (down nvm j found) (formatStep z start (bare nvm j))
-happens z (down nvm j found) (writeBack i) = notOffered (down nvm j found)
-happens z (down nvm j found) (call c) = notOffered (down nvm j found)
-happens z (down nvm j found) (recover limit k) =
-    afterRecovery (down nvm j found) (fit z k) (foundOr nvm found) (recoverStep z limit (bare nvm j))
-happens z (down nvm j found) (fails k) = afterFailure false nvm (fit z k) found
-happens z (down nvm j found) (failsInDrain c is k) = notOffered (down nvm j found)
-happens z (down nvm j found) (failsAfterDrain c k) = notOffered (down nvm j found)
-happens z (down nvm j found) (failsInRecovery n k) = afterFailure false (recoveredNvm z n nvm) (fit z k) (some (foundOr nvm found))
+unfoldable pub happens : Design → Sizes → System → Event → Happened
+happens d z (live m) (format start) = afterFormat (live m) (d .format z start m)
+happens d z (live m) (writeBack i) = afterStep (d .writeBack z i m)
+happens d z (live m) (call c) = afterStep (d .call z c m)
+happens d z (live m) (recover limit j) = afterRecovery (live m) (fit z j) (m .nvm) (d .recover z limit m)
+happens d z (live m) (fails j) = afterFailure false (m .nvm) (fit z j) none
+happens d z (live m) (failsInDrain c is j) =
+    afterFailure false (cond (isTaken d z c m) (partlyDrained (laneOf c) is (m .flags) (m .cache) (m .nvm)) (m .nvm)) (fit z j) none
+happens d z (live m) (failsAfterDrain c j) =
+    afterFailure (isTaken d z c m) (cond (isTaken d z c m) (drainedNvm (laneOf c) (m .flags) (m .cache) (m .nvm)) (m .nvm)) (fit z j) none
+happens d z (live m) (failsInRecovery n j) = afterFailure false (d .cutShort z n (m .nvm)) (fit z j) (some (m .nvm))
+happens d z (down nvm j found) (format start) = afterFormat (down nvm j found) (d .format z start (bare nvm j))
+happens d z (down nvm j found) (writeBack i) = notOffered (down nvm j found)
+happens d z (down nvm j found) (call c) = notOffered (down nvm j found)
+happens d z (down nvm j found) (recover limit k) =
+    afterRecovery (down nvm j found) (fit z k) (foundOr nvm found) (d .recover z limit (bare nvm j))
+happens d z (down nvm j found) (fails k) = afterFailure false nvm (fit z k) found
+happens d z (down nvm j found) (failsInDrain c is k) = notOffered (down nvm j found)
+happens d z (down nvm j found) (failsAfterDrain c k) = notOffered (down nvm j found)
+happens d z (down nvm j found) (failsInRecovery n k) = afterFailure false (d .cutShort z n nvm) (fit z k) (some (foundOr nvm found))

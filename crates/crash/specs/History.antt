@@ -11,7 +11,7 @@ use Rattle.image.specs.declared.Sizes.{Sizes}
 use Rattle.log.specs.declared.Timestamp.{Timestamp}
 use Rattle.log.specs.declared.Timestamp.the-variants.{None, At}
 use Rattle.record.specs.Record.{lesser}
-use Rattle.store.specs.Machine.{Cause, firstCause, numberIn, stampIn}
+use Rattle.store.specs.Machine.{Cause, Said, said}
 use Rattle.store.specs.declared.Answer.{Answer}
 use Rattle.store.specs.declared.Answer.the-variants as answer
 use Rattle.recovery.specs.Recovery.{boundary, newBase}
@@ -96,24 +96,25 @@ unfoldable pub heldBy : Option (List ℕ) → List (List ℕ)
 heldBy none = []
 heldBy (some f) = f ∷ []
 
-unfoldable pub isNone : List ℕ → Bool
-isNone [] = true
-isNone (x ∷ xs) = false
+-- is a count answered, and above 0
+unfoldable pub isCounted : List ℕ → Bool
+isCounted [] = false
+isCounted (n ∷ ns) = leb 1 n
 
--- a call that was taken, by the timestamp in its answer
-unfoldable pub taken : Call → (stamp : List ℕ) → History → History
-taken (log L f) s h = cond (isNone s) (settled L h) (stamped L (some f) [] (settled L h))
-taken (redo L) s h = cond (isNone s) (settled L h) (stamped L none (heldBy (pageAt h L .held)) (settled L h))
-taken (validate L f) s h = cond (isNone s) (released L (settled L h)) (stamped L none (f ∷ []) (settled L h))
-taken (mark L) s h = stamped L none [] (settled L h)
-taken (drain L) s h = settled L h
+-- a call that was taken, by what it answered
+unfoldable pub taken : Call → Said → History → History
+taken (log L f) t h = cond (isCounted t.count) (stamped L (some f) [] (settled L h)) (settled L h)
+taken (redo L) t h = cond t.stale (settled L h) (stamped L none (heldBy (pageAt h L .held)) (settled L h))
+taken (validate L f) t h = cond t.changed (released L (settled L h)) (stamped L none (f ∷ []) (settled L h))
+taken (mark L) t h = stamped L none [] (settled L h)
+taken (drain L) t h = settled L h
 
 -- a finished recovery that started from these cut cells
 unfoldable pub restarted : Sizes → List ℕ → History → History
 restarted z found h = opened z (wordsBelow z (boundary z found) h) (newBase z found)
 
 unfoldable pub afterCall : Call → Answer → History → History
-afterCall c a h = cond (eqb (numberIn a) 0) (taken c (stampIn a) h) h
+afterCall c a h = cond (said a .refused) h (taken c (said a) h)
 
 unfoldable pub afterRecovered : Sizes → List ℕ → Recovered → History → History
 afterRecovered z found (Refused n) h = h
@@ -122,7 +123,7 @@ afterRecovered z found (Finished a) h = restarted z found h
 
 -- by the reply; a reply that the event cannot have does nothing
 unfoldable pub fedAnswer : Sizes → Event → Answer → History → History
-fedAnswer z (format start) a h = cond (eqb (numberIn a) 0) (opened z start 0) h
+fedAnswer z (format start) a h = cond (said a .refused) h (opened z start 0)
 fedAnswer z (writeBack i) a h = h
 fedAnswer z (call c) a h = afterCall c a h
 fedAnswer z (recover limit j) a h = h
@@ -180,7 +181,7 @@ unfoldable pub commitAbove : Timestamp → List Commit → Bool
 commitAbove b [] = false
 commitAbove b (c ∷ cs) = isAbove b (c .stamp) || commitAbove b cs
 
--- causes 3, 5, 6, 7 and 8
+-- ---- causes 3, 5, 6, 7 and 8
 unfoldable pub badLane : Sizes → ℕ → Cause
 badLane z L = record { number = 3; holds = leb z.lanes L }
 
@@ -190,23 +191,32 @@ badTxn z f = record { number = 5; holds = not (txnOk 16 z.words f) }
 unfoldable pub holdsOne : ℕ → History → Bool
 holdsOne L h = isSome (pageAt h L .held)
 
+unfoldable pub notHeld : ℕ → History → Cause
+notHeld L h = record { number = 7; holds = not (holdsOne L h) }
+
 unfoldable pub clockSpent : History → Bool
 clockSpent h = leb (2 ^ 64 - 2) h.clock
 
-unfoldable pub refusalBy : Sizes → Call → History → ℕ
-refusalBy z (log L f) h =
-    firstCause
-    (badLane z L
+-- a call's causes for refusal, in order; 1 and 2 never hold, and 9 is not the history's to tell, since it has no logs
+unfoldable pub causesBy : Sizes → Call → History → List Cause
+causesBy z (log L f) h =
+    badLane z L
     ∷ badTxn z f
     ∷ record { number = 6; holds = holdsOne L h }
     ∷ record { number = 8; holds = leb 1 (length (writesNow z f h)) && clockSpent h }
-    ∷ [])
-refusalBy z (redo L) h =
-    firstCause (badLane z L ∷ record { number = 7; holds = not (holdsOne L h) } ∷ record { number = 8; holds = clockSpent h } ∷ [])
-refusalBy z (validate L f) h =
-    firstCause (badLane z L ∷ badTxn z f ∷ record { number = 7; holds = not (holdsOne L h) } ∷ record { number = 8; holds = clockSpent h } ∷ [])
-refusalBy z (mark L) h = firstCause (badLane z L ∷ record { number = 8; holds = clockSpent h } ∷ [])
-refusalBy z (drain L) h = firstCause (badLane z L ∷ [])
+    ∷ []
+causesBy z (redo L) h = badLane z L ∷ notHeld L h ∷ record { number = 8; holds = clockSpent h } ∷ []
+causesBy z (validate L f) h = badLane z L ∷ badTxn z f ∷ notHeld L h ∷ record { number = 8; holds = clockSpent h } ∷ []
+causesBy z (mark L) h = badLane z L ∷ record { number = 8; holds = clockSpent h } ∷ []
+causesBy z (drain L) h = badLane z L ∷ []
+
+-- how many slots a call appends to its lane's log
+unfoldable pub slotsBy : Sizes → Call → History → ℕ
+slotsBy z (log L f) h = let n = length (writesNow z f h) in cond (eqb n 0) 0 (n + 1)
+slotsBy z (redo L) h = 0
+slotsBy z (validate L f) h = 0
+slotsBy z (mark L) h = 1
+slotsBy z (drain L) h = 0
 
 -- the answer of a call that is not refused
 unfoldable pub takenAnswer : Sizes → Call → History → Answer
@@ -218,15 +228,3 @@ takenAnswer z (validate L f) h =
     cond (sameOlds (writesNow z f h) (writesLogged z L h)) (answer.Committed (h.clock + 2)) answer.Changed
 takenAnswer z (mark L) h = answer.Marked (record { stamp = h.clock + 2; dropped = holdsOne L h })
 takenAnswer z (drain L) h = answer.Done
-
--- the answer, cause 9 apart
-unfoldable pub answerBy : Sizes → Call → History → Answer
-answerBy z c h = cond (eqb (refusalBy z c h) 0) (takenAnswer z c h) (answer.Refused (refusalBy z c h))
-
--- does a call append to a log: only then can cause 9 stop it
-unfoldable pub appends : Sizes → Call → History → Bool
-appends z (log L f) h = leb 1 (length (writesNow z f h))
-appends z (redo L) h = false
-appends z (validate L f) h = false
-appends z (mark L) h = true
-appends z (drain L) h = false

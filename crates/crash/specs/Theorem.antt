@@ -1,24 +1,25 @@
 -- The crash theorem: what holds after every event of every list of events from a Format on. The order's demands 2 and 3, and 01, "The cut claim". Assumes nothing.
 use Prim.Native.Nat.{ℕ, _≤_, _<_}
-use mathlib.Core.Bool.{true, cond}
-use mathlib.Core.List.{List, [], _∷_}
+use mathlib.Core.Bool.{Bool, true, cond}
+use mathlib.Core.List.{List, [], _∷_, _++_}
 use mathlib.Core.Path.{_≡_}
 use lib.Dec.{leb, eqb}
 use lib.ListN.{length}
 use Rattle.image.specs.Image.{imageLength, dataOf}
 use Rattle.image.specs.declared.Sizes.{Sizes}
+use Rattle.log.specs.Log.{completeIn, hits}
 use Rattle.log.specs.declared.Timestamp.{Timestamp}
 use Rattle.log.specs.declared.Timestamp.the-variants.{None, At}
 use Rattle.record.specs.Record.{laneAt, isLogged}
-use Rattle.store.specs.Machine.{Machine}
-use Rattle.store.specs.Calls.{formatRefusal, formatStep}
+use Rattle.store.specs.Machine.{Machine, firstCause}
+use Rattle.store.specs.Calls.{formatRefusal}
 use Rattle.store.specs.declared.Answer.{Answer}
 use Rattle.store.specs.declared.Answer.the-variants as answer
-use Rattle.recovery.specs.Recovery.{boundary, undone}
+use Rattle.recovery.specs.Recovery.{boundary, undoStores, recoveryStores}
 use Rattle.recovery.specs.declared.Recovered.{Recovered}
 use Rattle.recovery.specs.declared.Recovered.the-variants.{Refused, Cut, Finished}
-use Rattle.crash.specs.Events.{Call, Event, format, writeBack, call, recover, fails, failsInDrain, failsAfterDrain, failsInRecovery, System, live, down, Reply, answered, recovered, failed, ignored, happens, laneOf}
-use Rattle.crash.specs.History.{History, opened, fed, pageAt, present, wordsBelow, leastFloorOf, settled, isSome, answerBy, refusalBy, appends}
+use Rattle.crash.specs.Events.{Call, Event, format, writeBack, call, recover, fails, failsInDrain, failsAfterDrain, failsInRecovery, System, live, down, nvmOf, Reply, answered, recovered, failed, ignored, Design, happens, laneOf}
+use Rattle.crash.specs.History.{History, opened, fed, pageAt, present, wordsBelow, leastFloorOf, settled, isSome, causesBy, slotsBy, takenAnswer}
 
 -- ---- a running store
 pub record Live (z : Sizes) (h : History) (m : Machine) : Type 0 where
@@ -36,10 +37,30 @@ InStep z h (live m) = Live z h m
 InStep z h (down nvm j found) = Unit {0}
 
 -- ---- answers
--- the answer to a call is the one that 01 gives; by cause 9 only an append is refused, and only while some lane has a floor
-pub data Answers (z : Sizes) (h : History) (c : Call) (a : Answer) : Type 0 where
-  told : a ≡ answerBy z c h → Answers z h c a
-  full : refusalBy z c h ≡ 0 → appends z c h ≡ true → (leastFloorOf (settled (laneOf c) h .pages) ≡ None → ⊥) → a ≡ answer.Refused 9 → Answers z h c a
+-- would the append of a call write a slot of a sequence that is not below the least floor, floors as after its lane's drain: cause 9, the one that
+-- the history cannot tell, since it has no logs. The slots are those of the machine's cached log
+unfoldable pub isFull : Sizes → Call → History → Machine → Bool
+isFull z c h m =
+    hits z.slots (laneAt (m .state) (laneOf c) .next) (slotsBy z c h) (leastFloorOf (settled (laneOf c) h .pages)) (completeIn z (m .cache) (laneOf c))
+
+-- the number of the refusal, 0 where it is none
+unfoldable pub refusalBy : Sizes → Call → History → Machine → ℕ
+refusalBy z c h m = firstCause (causesBy z c h ++ (record { number = 9; holds = isFull z c h m } ∷ []))
+
+unfoldable pub answerBy : Sizes → Call → History → Machine → Answer
+answerBy z c h m = cond (eqb (refusalBy z c h m) 0) (takenAnswer z c h) (answer.Refused (refusalBy z c h m))
+
+-- the answer to a call on a store with this machine
+pub record Answers (z : Sizes) (h : History) (m : Machine) (c : Call) (a : Answer) : Type 0 where
+  -- is the one that 01 gives
+  pub gives : a ≡ answerBy z c h m
+  -- and a lane whose log is full has appended since the start
+  pub appended : laneOf c < z .lanes → isFull z c h m ≡ true → pageAt h (laneOf c) .newest ≡ None → ⊥
+
+-- without a record no call is answered
+abbrev pub CallReply : Sizes → History → System → Call → Answer → Type 0
+CallReply z h (live m) c a = Answers z h m c a
+CallReply z h (down nvm j found) c a = ⊥
 
 -- a refused Format, and a write-back of no word of the image
 abbrev pub formatAnswer : Sizes → List ℕ → Answer
@@ -49,6 +70,12 @@ abbrev pub writeBackAnswer : Sizes → ℕ → Answer
 writeBackAnswer z i = cond (leb (imageLength z) i) (answer.Refused 4) answer.Done
 
 -- ---- recovery
+-- the answer of a recovery with this limit that finds these cells: cut exactly where stores remain past the limit, else their boundary, and how many entries they
+-- have to undo. Never a refusal: recovery of a formatted store is taken
+unfoldable pub recoveryAnswer : Sizes → (limit : ℕ) → (cells : List ℕ) → Recovered
+recoveryAnswer z limit cells =
+    cond (leb (length (recoveryStores z cells)) limit) (Finished (record { boundary = boundary z cells; undone = length (undoStores z cells) })) Cut
+
 -- a boundary is at least the least floor, and there is one only if some lane has a floor
 pub data NotBelow : (floor boundary : Timestamp) → Type 0 where
   noBoundary : {f : Timestamp} → NotBelow f None
@@ -61,42 +88,55 @@ pub record Recovers (z : Sizes) (h : History) (found : List ℕ) (m : Machine) :
   pub cache : dataOf z (m .cache) ≡ wordsBelow z (boundary z found) h
   -- the boundary is not below the least floor
   pub floors : NotBelow (leastFloorOf (h .pages)) (boundary z found)
-  -- where there is none, nothing was undone
-  pub none : boundary z found ≡ None → undone z found ≡ []
+  -- where there is none, nothing was undone: the data words are those of the cut cells
+  pub none : boundary z found ≡ None → dataOf z (m .nvm) ≡ dataOf z found
 
--- a recovery of a formatted store is never refused
-abbrev pub RecoveryReply : Sizes → History → List ℕ → System → Recovered → Type 0
-RecoveryReply z h found y (Refused n) = ⊥
-RecoveryReply z h found y Cut = Unit {0}
-RecoveryReply z h found (live m) (Finished a) = Recovers z h found m
-RecoveryReply z h found (down nvm j f) (Finished a) = ⊥
+-- only a store with a record has finished
+abbrev pub Finishes : Sizes → History → (found : List ℕ) → System → Recovered → Type 0
+Finishes z h found y (Refused n) = ⊥
+Finishes z h found y Cut = Unit {0}
+Finishes z h found (live m) (Finished a) = Recovers z h found m
+Finishes z h found (down nvm j f) (Finished a) = ⊥
 
--- ---- one event: what is replied, of the history before it
-abbrev pub Replied : Sizes → History → Event → List ℕ → System → Reply → Type 0
-Replied z h (format start) found y (answered a) = a ≡ formatAnswer z start
-Replied z h (writeBack i) found y (answered a) = a ≡ writeBackAnswer z i
-Replied z h (call c) found y (answered a) = Answers z h c a
-Replied z h (recover limit j) found y (answered a) = ⊥
-Replied z h (fails j) found y (answered a) = ⊥
-Replied z h (failsInDrain c is j) found y (answered a) = ⊥
-Replied z h (failsAfterDrain c j) found y (answered a) = ⊥
-Replied z h (failsInRecovery n j) found y (answered a) = ⊥
-Replied z h e found y (recovered r) = RecoveryReply z h found y r
-Replied z h e found y (failed d) = Unit {0}
-Replied z h e found y ignored = Unit {0}
+-- the cells are those that this call found; the cut cells are those that the first recovery since the start found
+pub record RecoveryReply (z : Sizes) (h : History) (limit : ℕ) (cells found : List ℕ) (y : System) (r : Recovered) : Type 0 where
+  pub gives : r ≡ recoveryAnswer z limit cells
+  pub leaves : Finishes z h found y r
 
-pub record Agrees (z : Sizes) (h : History) (e : Event) (was : System) : Type 0 where
-  pub reply : Replied z h e (happens z was e .found) (happens z was e .system) (happens z was e .reply)
-  pub store : InStep z (fed z e (happens z was e .reply) (happens z was e .found) h) (happens z was e .system)
+-- ---- one event: what is replied, of the history and the store before it
+abbrev pub Replied : Sizes → History → Event → (was : System) → (found : List ℕ) → (is : System) → Reply → Type 0
+Replied z h (format start) was found is (answered a) = a ≡ formatAnswer z start
+Replied z h (writeBack i) was found is (answered a) = a ≡ writeBackAnswer z i
+Replied z h (call c) was found is (answered a) = CallReply z h was c a
+Replied z h (recover limit j) was found is (answered a) = ⊥
+Replied z h (fails j) was found is (answered a) = ⊥
+Replied z h (failsInDrain c ws j) was found is (answered a) = ⊥
+Replied z h (failsAfterDrain c j) was found is (answered a) = ⊥
+Replied z h (failsInRecovery n j) was found is (answered a) = ⊥
+Replied z h (format start) was found is (recovered r) = ⊥
+Replied z h (writeBack i) was found is (recovered r) = ⊥
+Replied z h (call c) was found is (recovered r) = ⊥
+Replied z h (recover limit j) was found is (recovered r) = RecoveryReply z h limit (nvmOf was) found is r
+Replied z h (fails j) was found is (recovered r) = ⊥
+Replied z h (failsInDrain c ws j) was found is (recovered r) = ⊥
+Replied z h (failsAfterDrain c j) was found is (recovered r) = ⊥
+Replied z h (failsInRecovery n j) was found is (recovered r) = ⊥
+Replied z h e was found is (failed d) = Unit {0}
+Replied z h e was found is ignored = Unit {0}
+
+pub record Agrees (d : Design) (z : Sizes) (h : History) (e : Event) (was : System) : Type 0 where
+  pub reply : Replied z h e was (happens d z was e .found) (happens d z was e .system) (happens d z was e .reply)
+  pub store : InStep z (fed z e (happens d z was e .reply) (happens d z was e .found) h) (happens d z was e .system)
 
 -- ---- every event of a list
-abbrev pub Holds : Sizes → System → History → List Event → Type 0
-Holds z y h [] = Unit {0}
-Holds z y h (e ∷ es) =
-    Agrees z h e y × Holds z (happens z y e .system) (fed z e (happens z y e .reply) (happens z y e .found) h) es
+abbrev pub Holds : Design → Sizes → System → History → List Event → Type 0
+Holds d z y h [] = Unit {0}
+Holds d z y h (e ∷ es) =
+    Agrees d z h e y × Holds d z (happens d z y e .system) (fed z e (happens d z y e .reply) (happens d z y e .found) h) es
 
--- the theorem: for all sizes, buffers and start words that Format does not refuse, and all lists of events after it
-unfoldable pub CrashTheorem : Type 0
-CrashTheorem =
+-- the theorem about a store: for all sizes, buffers and start words that Format is not to refuse, and all lists of events after it.
+-- It holds of ours (`CrashTheorem.crash-theorem`), and of none of the wrong ones in `proofs/WrongStores`
+unfoldable pub CrashTheorem : Design → Type 0
+CrashTheorem d =
     (z : Sizes) (start : List ℕ) (m : Machine) → formatRefusal z start m ≡ 0
-    → (es : List Event) → Holds z (live (formatStep z start m .machine)) (opened z start 0) es
+    → (es : List Event) → Holds d z (live (d .format z start m .machine)) (opened z start 0) es

@@ -1,6 +1,6 @@
 -- The machine that a call works on: the record and the three buffers; a step of it; refusals. 01, "Refused calls". Assumes nothing.
 use Prim.Native.Nat.{ℕ}
-use mathlib.Core.Bool.{Bool, false, cond}
+use mathlib.Core.Bool.{Bool, true, false, cond}
 use mathlib.Core.List.{List, [], _∷_}
 use lib.Dec.{eqb}
 use Rattle.record.specs.declared.Record.{Record}
@@ -34,47 +34,26 @@ firstCause (c ∷ cs) = cond c.holds c.number (firstCause cs)
 unfoldable pub unless : ℕ → Machine → Step → Step
 unless number m step = cond (eqb number 0) step (record { answer = Refused number; machine = m })
 
--- ---- an answer in 01's words
--- the number of the refusal, 0 where it is none
-unfoldable pub numberIn : Answer → ℕ
-numberIn (Refused n) = n
-numberIn Done = 0
-numberIn NoWrites = 0
-numberIn (Logged a) = 0
-numberIn (Committed s) = 0
-numberIn Stale = 0
-numberIn Changed = 0
-numberIn (Marked a) = 0
+-- ---- an answer in the specification's words
+pub record Said : Type 0 where
+  -- was the call refused, and by which number: 0 where it was not
+  pub refused : Bool
+  pub number : ℕ
+  -- the count of writes that Log answers, the new timestamp, and whether Mark dropped a transaction: a list of one, or of none
+  pub count : List ℕ
+  pub stamp : List ℕ
+  pub dropped : List Bool
+  -- a commit since the logged one; other writes than those logged
+  pub stale : Bool
+  pub changed : Bool
 
--- the count of writes that Log answers, as a list of one or none
-unfoldable pub countIn : Answer → List ℕ
-countIn (Refused n) = []
-countIn Done = []
-countIn NoWrites = 0 ∷ []
-countIn (Logged a) = a.count ∷ []
-countIn (Committed s) = []
-countIn Stale = []
-countIn Changed = []
-countIn (Marked a) = []
-
--- the timestamp in an answer, as a list of one or none
-unfoldable pub stampIn : Answer → List ℕ
-stampIn (Refused n) = []
-stampIn Done = []
-stampIn NoWrites = []
-stampIn (Logged a) = a.stamp ∷ []
-stampIn (Committed s) = s ∷ []
-stampIn Stale = []
-stampIn Changed = []
-stampIn (Marked a) = a.stamp ∷ []
-
--- does the answer say that a logged transaction was dropped
-unfoldable pub droppedIn : Answer → Bool
-droppedIn (Refused n) = false
-droppedIn Done = false
-droppedIn NoWrites = false
-droppedIn (Logged a) = false
-droppedIn (Committed s) = false
-droppedIn Stale = false
-droppedIn Changed = false
-droppedIn (Marked a) = a.dropped
+-- what each answer says; no two answers say the same (`SaidLaws.said-back`)
+unfoldable pub said : Answer → Said
+said (Refused n) = record { refused = true; number = n; count = []; stamp = []; dropped = []; stale = false; changed = false }
+said Done = record { refused = false; number = 0; count = []; stamp = []; dropped = []; stale = false; changed = false }
+said NoWrites = record { refused = false; number = 0; count = 0 ∷ []; stamp = []; dropped = []; stale = false; changed = false }
+said (Logged a) = record { refused = false; number = 0; count = a.count ∷ []; stamp = a.stamp ∷ []; dropped = []; stale = false; changed = false }
+said (Committed s) = record { refused = false; number = 0; count = []; stamp = s ∷ []; dropped = []; stale = false; changed = false }
+said Stale = record { refused = false; number = 0; count = []; stamp = []; dropped = []; stale = true; changed = false }
+said Changed = record { refused = false; number = 0; count = []; stamp = []; dropped = []; stale = false; changed = true }
+said (Marked a) = record { refused = false; number = 0; count = []; stamp = a.stamp ∷ []; dropped = a.dropped ∷ []; stale = false; changed = false }
