@@ -1,5 +1,6 @@
 pub mod Recovery
 pub mod Interface
+pub mod ToldLaws
 pub mod Limit
 pub mod Picking
 pub mod Undo

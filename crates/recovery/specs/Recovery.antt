@@ -1,6 +1,6 @@
--- Recovery: the boundary, what is undone and in which order, the list of stores, and as many of them as a limit lets through. 01, "Recovery". Assumes nothing.
+-- Recovery: the boundary, what is undone and in which order, the list of stores, and as many of them as a limit lets through; what its answer tells. 01, "Recovery". Assumes nothing.
 use Prim.Native.Nat.{ℕ, zero, suc, _+_, _*_, _%_, max}
-use mathlib.Core.Bool.{Bool, cond, _&&_, _||_}
+use mathlib.Core.Bool.{Bool, true, false, cond, _&&_, _||_}
 use mathlib.Core.List.{List, [], _∷_, _++_}
 use lib.Dec.{leb, ltb, eqb}
 use lib.ListN.{length, take}
@@ -130,3 +130,20 @@ recoverStep z limit m =
     })
     (record { answer = Cut; machine = record { state = m.state; cache = m.cache; nvm = nvm; flags = m.flags } }))
     (record { answer = Refused number; machine = m })
+
+-- ---- its answer in the specification's words
+pub record Told : Type 0 where
+  -- was recovery refused, and by which number: 0 where it was not
+  pub refused : Bool
+  pub number : ℕ
+  -- do stores remain past the limit
+  pub cut : Bool
+  -- the boundary; the count of entries undone: a list of one where recovery finished, else of none
+  pub boundary : Timestamp
+  pub undone : List ℕ
+
+-- what each answer tells; no two answers tell the same (`ToldLaws.told-back`)
+unfoldable pub told : Recovered → Told
+told (Refused n) = record { refused = true; number = n; cut = false; boundary = None; undone = [] }
+told Cut = record { refused = false; number = 0; cut = true; boundary = None; undone = [] }
+told (Finished f) = record { refused = false; number = 0; cut = false; boundary = f.boundary; undone = f.undone ∷ [] }
