@@ -1,19 +1,14 @@
 -- What a call leaves for a caller that lends words: the number returned, the record's words, the answer's words, the buffers. Assumes nothing.
 use Prim.Native.Nat.{ℕ}
-use mathlib.Core.Bool.{Bool, cond, _&&_}
+use mathlib.Core.Bool.{Bool, cond, _&&_, _||_}
 use mathlib.Core.List.{List, [], _∷_}
 use lib.Dec.{eqb}
-use lib.ListN.{length}
+use lib.ListN.{length, getD}
 use Rattle.image.specs.declared.Sizes.{Sizes}
 use Rattle.log.specs.declared.Timestamp.{Timestamp}
 use Rattle.log.specs.declared.Timestamp.the-variants.{None, At}
-use Rattle.store.specs.declared.Answer.{Answer}
-use Rattle.store.specs.declared.Answer.the-variants as answers
-use Rattle.store.specs.Machine.{Machine, Step, numberIn}
-use Rattle.recovery.specs.declared.Finished.{Finished}
-use Rattle.recovery.specs.declared.Recovered.{Recovered}
-use Rattle.recovery.specs.declared.Recovered.the-variants as recovereds
-use Rattle.recovery.specs.Recovery.{Restarted}
+use Rattle.store.specs.Machine.{Machine, Step, Said, said}
+use Rattle.recovery.specs.Recovery.{Restarted, Told, told}
 use Rattle.abi.specs.Fields.{bitFor, wordsOf}
 
 -- W, T, N
@@ -28,22 +23,16 @@ unfoldable pub bothFit : (state answer : List ℕ) → Bool
 bothFit state answer = recordFits state && eqb (length answer) 3
 
 -- ---- the words of an answer
-unfoldable pub noWords : List ℕ
-noWords = 0 ∷ 0 ∷ 0 ∷ []
+-- the first word: Log's count; 1 where Mark dropped a transaction; 1 where Redo or Validate committed, which answer a timestamp alone; else 0
+unfoldable pub firstWord : (count : List ℕ) → (dropped : List Bool) → (stamp : List ℕ) → ℕ
+firstWord (n ∷ ns) ds ss = n
+firstWord [] (d ∷ ds) ss = bitFor d
+firstWord [] [] (s ∷ ss) = 1
+firstWord [] [] [] = 0
 
-unfoldable pub committedWords : ℕ → List ℕ
-committedWords s = 1 ∷ s ∷ 0 ∷ []
-
--- Log: count and timestamp; Redo and Validate: 1 and the timestamp where they committed; Mark: whether it dropped a transaction, and the timestamp
-unfoldable pub answerWords : Answer → List ℕ
-answerWords (answers.Refused n) = noWords
-answerWords answers.Done = noWords
-answerWords answers.NoWrites = noWords
-answerWords (answers.Logged a) = a .count ∷ a .stamp ∷ 0 ∷ []
-answerWords (answers.Committed s) = committedWords s
-answerWords answers.Stale = noWords
-answerWords answers.Changed = noWords
-answerWords (answers.Marked a) = bitFor (a .dropped) ∷ a .stamp ∷ 0 ∷ []
+-- the second is the timestamp, 0 where there is none; the third is 0
+unfoldable pub saidWords : Said → List ℕ
+saidWords s = firstWord (s .count) (s .dropped) (s .stamp) ∷ getD (s .stamp) 0 0 ∷ 0 ∷ []
 
 -- what a slice then holds: where the call is taken, new words; else those before
 unfoldable pub whereTaken : (number : ℕ) → (new before : List ℕ) → List ℕ
@@ -68,42 +57,37 @@ leftWith number state m = leftBy number state (m .cache) (m .nvm) (m .flags)
 unfoldable pub leaves : (fits : Bool) → (state : List ℕ) → (Machine → Step) → Machine → Left
 leaves fits state call m =
     let s = call m in
-    let number = numberIn (s .answer) in
+    let number = said (s .answer) .number in
     cond fits (leftWith number (whereTaken number (wordsOf (s .machine .state)) state) (s .machine)) (leftWith 1 state m)
 
 -- the answer's words after it
 unfoldable pub replies : (fits : Bool) → (answer : List ℕ) → (Machine → Step) → Machine → List ℕ
 replies fits answer call m =
-    let s = call m in
-    cond fits (whereTaken (numberIn (s .answer)) (answerWords (s .answer)) answer) answer
+    let s = said (call m .answer) in
+    cond fits (whereTaken (s .number) (saidWords s) answer) answer
 
 -- ---- recovery
-unfoldable pub recoveredNumber : Recovered → ℕ
-recoveredNumber (recovereds.Refused n) = n
-recoveredNumber recovereds.Cut = 0
-recoveredNumber (recovereds.Finished f) = 0
+-- what a slice then holds: where recovery finished, new words; else those before
+unfoldable pub whereFinished : Told → (new before : List ℕ) → List ℕ
+whereFinished t new before = cond (t .refused || t .cut) before new
 
+-- 1 and 0, or 2 and the boundary; then the count of entries undone
 unfoldable pub finishedWords : Timestamp → ℕ → List ℕ
 finishedWords None undone = 1 ∷ 0 ∷ undone ∷ []
 finishedWords (At b) undone = 2 ∷ b ∷ undone ∷ []
 
-unfoldable pub recoveredWords : Recovered → List ℕ
-recoveredWords (recovereds.Refused n) = noWords
-recoveredWords recovereds.Cut = noWords
-recoveredWords (recovereds.Finished f) = finishedWords (f .boundary) (f .undone)
+-- 0s where recovery did not finish
+unfoldable pub toldWords : Told → List ℕ
+toldWords t = whereFinished t (finishedWords (t .boundary) (getD (t .undone) 0 0)) (0 ∷ 0 ∷ 0 ∷ [])
 
--- a recovery that is refused or cut short leaves the words as they were
-unfoldable pub recoveredState : Recovered → (new before : List ℕ) → List ℕ
-recoveredState (recovereds.Refused n) new before = before
-recoveredState recovereds.Cut new before = before
-recoveredState (recovereds.Finished f) new before = new
-
+-- a recovery that is refused or cut short leaves the record's words as they were
 unfoldable pub restarts : (fits : Bool) → (state : List ℕ) → (Machine → Restarted) → Machine → Left
 restarts fits state call m =
     let s = call m in
-    cond fits (leftWith (recoveredNumber (s .answer)) (recoveredState (s .answer) (wordsOf (s .machine .state)) state) (s .machine)) (leftWith 1 state m)
+    let t = told (s .answer) in
+    cond fits (leftWith (t .number) (whereFinished t (wordsOf (s .machine .state)) state) (s .machine)) (leftWith 1 state m)
 
 unfoldable pub restartReplies : (fits : Bool) → (answer : List ℕ) → (Machine → Restarted) → Machine → List ℕ
 restartReplies fits answer call m =
-    let s = call m in
-    cond fits (whereTaken (recoveredNumber (s .answer)) (recoveredWords (s .answer)) answer) answer
+    let t = told (call m .answer) in
+    cond fits (whereTaken (t .number) (toldWords t) answer) answer

@@ -1,27 +1,25 @@
 -- What a call leaves: by a refused length, and by what the call's own contract says. Assumes nothing.
 use Prim.Native.Nat.{ℕ, _+_}
 use mathlib.Core.Path.{_≡_, refl, sym, _∙_, ap}
-use mathlib.Core.Bool.{Bool, true, false}
+use mathlib.Core.Bool.{Bool, true, false, _||_}
 use mathlib.Core.List.{List, _++_, append-nil}
 use native.Mathlib.Omega.{arith}
-use lib.ListN.{length, drop-of-length-le}
+use lib.ListN.{length, getD, drop-of-length-le}
 use lib.Seq.{sets, sets-eq}
 use borrow.Author.Tests.{eq-eqb, ne-eqb}
+use Rattle.laws.specs.Tests.{split}
 use Rattle.record.specs.declared.Record.{Record}
 use Rattle.store.specs.declared.Answer.{Answer}
 use Rattle.store.specs.declared.Outcome.{Outcome}
-use Rattle.store.specs.Machine.{Machine, Step, numberIn}
+use Rattle.store.specs.Machine.{Machine, Step, Said, said}
 use Rattle.store.specs.Interface.{machineOf, stepOf, blankStepOf}
 use Rattle.recovery.specs.declared.Restart.{Restart}
-use Rattle.recovery.specs.Recovery.{Restarted}
+use Rattle.recovery.specs.Recovery.{Restarted, Told, told}
 use Rattle.recovery.specs.Interface.{restartedOf}
 use Rattle.abi.specs.Fields.{wordsOf}
 use Rattle.log.specs.declared.Timestamp.{Timestamp}
 use Rattle.log.specs.declared.Timestamp.the-variants.{None, At}
-use Rattle.store.specs.declared.Answer.the-variants as answers
-use Rattle.recovery.specs.declared.Recovered.{Recovered}
-use Rattle.recovery.specs.declared.Recovered.the-variants as recovereds
-use Rattle.abi.specs.Abi.{finishedWords, noWords, committedWords, recordFits, bothFit, answerWords, whereTaken, leftBy, leaves, replies, recoveredNumber, recoveredWords, recoveredState, restarts, restartReplies}
+use Rattle.abi.specs.Abi.{recordFits, bothFit, saidWords, whereTaken, leftBy, leaves, replies, whereFinished, finishedWords, toldWords, restarts, restartReplies}
 
 -- ---- lengths
 pub fits-not : (state : List ℕ) → (length state ≡ 322 → ⊥) → recordFits state ≡ false
@@ -63,27 +61,22 @@ over-all ws xs ys new e f h k =
     ∙ append-nil xs
     ∙ f
 
-pub answer-three : (a : Answer) → length (answerWords a) ≡ 3
-unfolding answerWords noWords committedWords
-answer-three (answers.Refused n) = refl
-answer-three answers.Done = refl
-answer-three answers.NoWrites = refl
-answer-three (answers.Logged a) = refl
-answer-three (answers.Committed s) = refl
-answer-three answers.Stale = refl
-answer-three answers.Changed = refl
-answer-three (answers.Marked a) = refl
+pub said-three : (s : Said) → length (saidWords s) ≡ 3
+unfolding saidWords
+said-three s = refl
 
 finished-three : (b : Timestamp) (undone : ℕ) → length (finishedWords b undone) ≡ 3
 unfolding finishedWords
 finished-three None undone = refl
 finished-three (At b) undone = refl
 
-pub recovered-three : (a : Recovered) → length (recoveredWords a) ≡ 3
-unfolding recoveredWords noWords
-recovered-three (recovereds.Refused n) = refl
-recovered-three recovereds.Cut = refl
-recovered-three (recovereds.Finished f) = finished-three (f .boundary) (f .undone)
+where-three : (t : Told) (new before : List ℕ) → length new ≡ 3 → length before ≡ 3 → length (whereFinished t new before) ≡ 3
+unfolding whereFinished
+where-three t new before n b = split (t .refused || t .cut) (λ e. rw e b) (λ e. rw e n)
+
+pub told-three : (t : Told) → length (toldWords t) ≡ 3
+unfolding toldWords
+told-three t = where-three t _ _ (finished-three (t .boundary) (getD (t .undone) 0 0)) refl
 
 -- ---- a call
 module _ (state : List ℕ) (call : Machine → Step) (r : Record) (cache nvm flags : List ℕ) where
@@ -94,7 +87,7 @@ module _ (state : List ℕ) (call : Machine → Step) (r : Record) (cache nvm fl
 
   pub left-by : (fits : Bool) (before : Record) (o : Outcome) (cache′ nvm′ flags′ : List ℕ) (number : ℕ) (words : List ℕ) → fits ≡ true → before ≡ r
       → stepOf o cache′ nvm′ flags′ ≡ call (machineOf before cache nvm flags)
-      → number ≡ numberIn (o .answer) → words ≡ whereTaken (numberIn (o .answer)) (wordsOf (o .state)) state
+      → number ≡ said (o .answer) .number → words ≡ whereTaken (said (o .answer) .number) (wordsOf (o .state)) state
       → leftBy number words cache′ nvm′ flags′ ≡ leaves fits state call (machineOf r cache nvm flags)
   unfolding leaves
   left-by fits before o cache′ nvm′ flags′ number words e b s n w = rw (e, ← b, ← s, n, w)
@@ -106,7 +99,7 @@ module _ (answer : List ℕ) (call : Machine → Step) (r : Record) (cache nvm f
 
   pub reply-by : (fits : Bool) (before : Record) (o : Outcome) (cache′ nvm′ flags′ : List ℕ) (words : List ℕ) → fits ≡ true → before ≡ r
       → stepOf o cache′ nvm′ flags′ ≡ call (machineOf before cache nvm flags)
-      → words ≡ whereTaken (numberIn (o .answer)) (answerWords (o .answer)) answer → words ≡ replies fits answer call (machineOf r cache nvm flags)
+      → words ≡ whereTaken (said (o .answer) .number) (saidWords (said (o .answer))) answer → words ≡ replies fits answer call (machineOf r cache nvm flags)
   unfolding replies
   reply-by fits before o cache′ nvm′ flags′ words e b s w = rw (e, ← b, ← s, w)
 
@@ -118,7 +111,7 @@ module _ (state : List ℕ) (call : Machine → Restarted) (r : Record) (cache n
 
   pub restart-by : (fits : Bool) (o : Restart) (cache′ nvm′ flags′ : List ℕ) (number : ℕ) (words : List ℕ) → fits ≡ true
       → restartedOf o cache′ nvm′ flags′ ≡ call (machineOf r cache nvm flags)
-      → number ≡ recoveredNumber (o .answer) → words ≡ recoveredState (o .answer) (wordsOf (o .state)) state
+      → number ≡ told (o .answer) .number → words ≡ whereFinished (told (o .answer)) (wordsOf (o .state)) state
       → leftBy number words cache′ nvm′ flags′ ≡ restarts fits state call (machineOf r cache nvm flags)
   unfolding restarts
   restart-by fits o cache′ nvm′ flags′ number words e s n w = rw (e, ← s, n, w)
@@ -130,11 +123,11 @@ module _ (answer : List ℕ) (call : Machine → Restarted) (r : Record) (cache 
 
   pub restart-reply-by : (fits : Bool) (o : Restart) (cache′ nvm′ flags′ : List ℕ) (words : List ℕ) → fits ≡ true
       → restartedOf o cache′ nvm′ flags′ ≡ call (machineOf r cache nvm flags)
-      → words ≡ whereTaken (recoveredNumber (o .answer)) (recoveredWords (o .answer)) answer → words ≡ restartReplies fits answer call (machineOf r cache nvm flags)
+      → words ≡ whereTaken (told (o .answer) .number) (toldWords (told (o .answer))) answer → words ≡ restartReplies fits answer call (machineOf r cache nvm flags)
   unfolding restartReplies
   restart-reply-by fits o cache′ nvm′ flags′ words e s w = rw (e, ← s, w)
 
 -- ---- write-back, which lends no record
-pub blank-by : (call : Machine → Step) (m : Machine) (said : Answer) (cache′ nvm′ flags′ : List ℕ) (number : ℕ) → blankStepOf said cache′ nvm′ flags′ ≡ call m
-    → number ≡ numberIn said → (number ≡ numberIn (call m .answer)) × (nvm′ ≡ call m .machine .nvm)
-blank-by call m said cache′ nvm′ flags′ number s n = rw (← s) (n, refl)
+pub blank-by : (call : Machine → Step) (m : Machine) (a : Answer) (cache′ nvm′ flags′ : List ℕ) (number : ℕ) → blankStepOf a cache′ nvm′ flags′ ≡ call m
+    → number ≡ said a .number → (number ≡ said (call m .answer) .number) × (nvm′ ≡ call m .machine .nvm)
+blank-by call m a cache′ nvm′ flags′ number s n = rw (← s) (n, refl)

@@ -7,13 +7,14 @@ use store::Answer;
 use store::Outcome;
 ghost use mathlib.Core.Path.{_≡_};
 ghost use lib.ListN.{length};
-ghost use Rattle.store.specs.Machine.{numberIn};
+ghost use Rattle.store.specs.Machine.{said};
+ghost use Rattle.recovery.specs.Recovery.{told};
 ghost use Rattle.abi.specs.Fields.{wordsOf};
-ghost use Rattle.abi.specs.Abi.{answerWords, whereTaken, recoveredNumber, recoveredWords, recoveredState, finishedWords};
+ghost use Rattle.abi.specs.Abi.{saidWords, whereTaken, whereFinished, finishedWords, toldWords};
 
 // The number of the refusal, 0 where it is none.
 pub(crate) fn number_in(answer: Answer) -> u64
-    ensures { λ r. ⌜ r ≡ numberIn answer ⌝ }
+    ensures { λ r. ⌜ r ≡ said answer .number ⌝ }
 {
     match answer {
         Answer::Refused(number) => number,
@@ -28,7 +29,7 @@ pub(crate) fn number_in(answer: Answer) -> u64
 }
 
 fn answer_words(answer: Answer) -> [u64; 3]
-    ensures { λ r. ⌜ r ≡ answerWords answer ⌝ }
+    ensures { λ r. ⌜ r ≡ saidWords (said answer) ⌝ }
 {
     match answer {
         Answer::Refused(_) => [0, 0, 0],
@@ -45,11 +46,11 @@ fn answer_words(answer: Answer) -> [u64; 3]
 // Writes the record where the call was taken; its number.
 pub(crate) fn settle(outcome: Outcome, state: &mut [u64]) -> u64
     requires { ⌜ length (now state) ≡ 322 ⌝ }
-    ensures number { λ r. ⌜ r ≡ numberIn (outcome .answer) ⌝ }
-    ensures words { λ r. ⌜ now (state .exit) ≡ whereTaken (numberIn (outcome .answer)) (wordsOf (outcome .state)) (now (state .entry)) ⌝ }
+    ensures number { λ r. ⌜ r ≡ said (outcome .answer) .number ⌝ }
+    ensures words { λ r. ⌜ now (state .exit) ≡ whereTaken (said (outcome .answer) .number) (wordsOf (outcome .state)) (now (state .entry)) ⌝ }
 {
-    let said = outcome.answer;
-    let number = number_in(said);
+    let answer = outcome.answer;
+    let number = number_in(answer);
     if number != 0 {
         return number;
     }
@@ -59,21 +60,21 @@ pub(crate) fn settle(outcome: Outcome, state: &mut [u64]) -> u64
 }
 
 // Writes the answer's words where the call was taken.
-pub(crate) fn reply(said: Answer, answer: &mut [u64])
+pub(crate) fn reply(given: Answer, answer: &mut [u64])
     requires { ⌜ length (now answer) ≡ 3 ⌝ }
-    ensures { λ r. ⌜ now (answer .exit) ≡ whereTaken (numberIn said) (answerWords said) (now (answer .entry)) ⌝ }
+    ensures { λ r. ⌜ now (answer .exit) ≡ whereTaken (said given .number) (saidWords (said given)) (now (answer .entry)) ⌝ }
 {
-    let number = number_in(said);
+    let number = number_in(given);
     if number == 0 {
-        let words = answer_words(said);
+        let words = answer_words(given);
         fields::put(&words, answer, 0);
     }
 }
 
-fn recovered_number(said: Recovered) -> u64
-    ensures { λ r. ⌜ r ≡ recoveredNumber said ⌝ }
+fn recovered_number(answer: Recovered) -> u64
+    ensures { λ r. ⌜ r ≡ told answer .number ⌝ }
 {
-    match said {
+    match answer {
         Recovered::Refused(number) => number,
         Recovered::Cut => 0,
         Recovered::Finished(_) => 0,
@@ -89,10 +90,10 @@ fn finished_words(boundary: Timestamp, undone: usize) -> [u64; 3]
     }
 }
 
-fn recovered_words(said: Recovered) -> [u64; 3]
-    ensures { λ r. ⌜ r ≡ recoveredWords said ⌝ }
+fn recovered_words(answer: Recovered) -> [u64; 3]
+    ensures { λ r. ⌜ r ≡ toldWords (told answer) ⌝ }
 {
-    match said {
+    match answer {
         Recovered::Refused(_) => [0, 0, 0],
         Recovered::Cut => [0, 0, 0],
         Recovered::Finished(finished) => {
@@ -105,11 +106,11 @@ fn recovered_words(said: Recovered) -> [u64; 3]
 // Writes the record where recovery finished; its number.
 pub(crate) fn restart(from: Restart, state: &mut [u64]) -> u64
     requires { ⌜ length (now state) ≡ 322 ⌝ }
-    ensures number { λ r. ⌜ r ≡ recoveredNumber (from .answer) ⌝ }
-    ensures words { λ r. ⌜ now (state .exit) ≡ recoveredState (from .answer) (wordsOf (from .state)) (now (state .entry)) ⌝ }
+    ensures number { λ r. ⌜ r ≡ told (from .answer) .number ⌝ }
+    ensures words { λ r. ⌜ now (state .exit) ≡ whereFinished (told (from .answer)) (wordsOf (from .state)) (now (state .entry)) ⌝ }
 {
-    let said = from.answer;
-    match said {
+    let answer = from.answer;
+    match answer {
         Recovered::Refused(number) => number,
         Recovered::Cut => 0,
         Recovered::Finished(_) => {
@@ -121,13 +122,13 @@ pub(crate) fn restart(from: Restart, state: &mut [u64]) -> u64
 }
 
 // Writes recovery's answer where the call was taken.
-pub(crate) fn reply_restart(said: Recovered, answer: &mut [u64])
+pub(crate) fn reply_restart(given: Recovered, answer: &mut [u64])
     requires { ⌜ length (now answer) ≡ 3 ⌝ }
-    ensures { λ r. ⌜ now (answer .exit) ≡ whereTaken (recoveredNumber said) (recoveredWords said) (now (answer .entry)) ⌝ }
+    ensures { λ r. ⌜ now (answer .exit) ≡ whereTaken (told given .number) (toldWords (told given)) (now (answer .entry)) ⌝ }
 {
-    let number = recovered_number(said);
+    let number = recovered_number(given);
     if number == 0 {
-        let words = recovered_words(said);
+        let words = recovered_words(given);
         fields::put(&words, answer, 0);
     }
 }

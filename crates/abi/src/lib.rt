@@ -1,7 +1,7 @@
 // The calls for other languages: numbers and slices only. Each returns 0 where the call is taken, else the number of its refusal, and then it has touched nothing.
 // The sizes are W, T and N. `state` is the record in 322 words, `answer` has 3 words; another length of either is refusal 1.
 ghost use mathlib.Core.Path.{_≡_};
-ghost use Rattle.store.specs.Machine.{numberIn};
+ghost use Rattle.store.specs.Machine.{said};
 ghost use Rattle.store.specs.Calls.{formatStep, writeBackStep, drainStep, logStep, redoStep, validateStep, markStep};
 ghost use Rattle.store.specs.Interface.{machineOf, blankOf};
 ghost use Rattle.recovery.specs.Recovery.{recoverStep};
@@ -55,7 +55,7 @@ pub extern "C" fn vandzulge_write_back(
     flags: &[u8],
     word: usize,
 ) -> u64
-    ensures number { λ r. ⌜ r ≡ numberIn (writeBackStep (sizesOf words lanes slots) word (blankOf (now (cache .entry)) (now (nvm .entry)) (now (flags .entry))) .answer) ⌝ }
+    ensures number { λ r. ⌜ r ≡ said (writeBackStep (sizesOf words lanes slots) word (blankOf (now (cache .entry)) (now (nvm .entry)) (now (flags .entry))) .answer) .number ⌝ }
     ensures copied { λ r. ⌜ now (nvm .exit) ≡ writeBackStep (sizesOf words lanes slots) word (blankOf (now (cache .entry)) (now (nvm .entry)) (now (flags .entry))) .machine .nvm ⌝ }
 {
     let sizes = Sizes {
@@ -63,8 +63,8 @@ pub extern "C" fn vandzulge_write_back(
         lanes,
         slots,
     };
-    let said = store::write_back(sizes, cache, nvm, flags, word);
-    answers::number_in(said)
+    let answer = store::write_back(sizes, cache, nvm, flags, word);
+    answers::number_in(answer)
 }
 
 // Drains a lane. It has no answer.
@@ -124,8 +124,8 @@ pub extern "C" fn vandzulge_log(
     };
     let before = fields::record_from(state);
     let outcome = append::log(sizes, before, cache, nvm, flags, lane, txn);
-    let said = outcome.answer;
-    answers::reply(said, answer);
+    let given = outcome.answer;
+    answers::reply(given, answer);
     answers::settle(outcome, state)
 }
 
@@ -158,8 +158,8 @@ pub extern "C" fn vandzulge_redo(
     };
     let before = fields::record_from(state);
     let outcome = commit::redo(sizes, before, cache, nvm, flags, lane);
-    let said = outcome.answer;
-    answers::reply(said, answer);
+    let given = outcome.answer;
+    answers::reply(given, answer);
     answers::settle(outcome, state)
 }
 
@@ -193,8 +193,8 @@ pub extern "C" fn vandzulge_validate(
     };
     let before = fields::record_from(state);
     let outcome = commit::validate(sizes, before, cache, nvm, flags, lane, txn);
-    let said = outcome.answer;
-    answers::reply(said, answer);
+    let given = outcome.answer;
+    answers::reply(given, answer);
     answers::settle(outcome, state)
 }
 
@@ -227,8 +227,8 @@ pub extern "C" fn vandzulge_mark(
     };
     let before = fields::record_from(state);
     let outcome = append::mark(sizes, before, cache, nvm, flags, lane);
-    let said = outcome.answer;
-    answers::reply(said, answer);
+    let given = outcome.answer;
+    answers::reply(given, answer);
     answers::settle(outcome, state)
 }
 
@@ -261,7 +261,7 @@ pub extern "C" fn vandzulge_recover(
         slots,
     };
     let result = recovery::recover(sizes, cache, nvm, flags, limit);
-    let said = result.answer;
-    answers::reply_restart(said, answer);
+    let given = result.answer;
+    answers::reply_restart(given, answer);
     answers::restart(result, state)
 }

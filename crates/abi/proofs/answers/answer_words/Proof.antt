@@ -1,7 +1,8 @@
--- `answers::answer_words` is `answerWords`, arm by arm.
+-- `answers::answer_words` is `saidWords` of what the answer says, arm by arm.
 -- Assumes nothing.
 use borrow.Author.Needs.{needs}
-use Rattle.abi.specs.Abi.{answerWords, noWords, committedWords}
+use Rattle.store.specs.Machine.{said}
+use Rattle.abi.specs.Abi.{firstWord, saidWords}
 use Rattle.abi.proofs.answers.answer_words.Statement.{statement}
 use Rattle.abi.proofs.answers.answer_words.Tie as tie
 
@@ -33,35 +34,35 @@ bit-for-requires : tie.Need-bit-for-requires
 bit-for-requires c κs = search needs
 
 returns : tie.Need-returns
-unfolding answerWords noWords
+unfolding said saidWords firstWord
 returns c = rw (c .enum-told .given .1)
 
 returns-2 : tie.Need-returns-2
-unfolding answerWords noWords
+unfolding said saidWords firstWord
 returns-2 c = rw (c .enum-told2 .given .1)
 
 returns-3 : tie.Need-returns-3
-unfolding answerWords noWords
+unfolding said saidWords firstWord
 returns-3 c = rw (c .enum-told3 .given .1)
 
 returns-4 : tie.Need-returns-4
-unfolding answerWords
+unfolding said saidWords firstWord
 returns-4 c = rw (c .before .answer .given .1)
 
 returns-5 : tie.Need-returns-5
-unfolding answerWords committedWords
+unfolding said saidWords firstWord
 returns-5 c = rw (c .before .answer2 .given .1)
 
 returns-6 : tie.Need-returns-6
-unfolding answerWords noWords
+unfolding said saidWords firstWord
 returns-6 c = rw (c .enum-told4 .given .1)
 
 returns-7 : tie.Need-returns-7
-unfolding answerWords noWords
+unfolding said saidWords firstWord
 returns-7 c = rw (c .enum-told5 .given .1)
 
 returns-8 : tie.Need-returns-8
-unfolding answerWords
+unfolding said saidWords firstWord
 returns-8 c = rw (c .before .before .answer3 .given .1, c .bit-for .ensures)
 
 pub answer-words-spec : {M : Type 1} → statement M

@@ -1,7 +1,7 @@
--- `answers::number_in` is `numberIn`, arm by arm.
+-- `answers::number_in` is the number that the answer says, arm by arm.
 -- Assumes nothing.
 use borrow.Author.Needs.{needs}
-use Rattle.store.specs.Machine.{numberIn}
+use Rattle.store.specs.Machine.{said}
 use Rattle.abi.proofs.answers.number_in.Statement.{statement}
 use Rattle.abi.proofs.answers.number_in.Tie as tie
 
@@ -30,35 +30,35 @@ enum-told-7 : tie.Need-enum-told-7
 enum-told-7 c = search needs
 
 returns : tie.Need-returns
-unfolding numberIn
+unfolding said
 returns c = rw (c .before .answer .given .1)
 
 returns-2 : tie.Need-returns-2
-unfolding numberIn
+unfolding said
 returns-2 c = rw (c .enum-told .given .1)
 
 returns-3 : tie.Need-returns-3
-unfolding numberIn
+unfolding said
 returns-3 c = rw (c .enum-told2 .given .1)
 
 returns-4 : tie.Need-returns-4
-unfolding numberIn
+unfolding said
 returns-4 c = rw (c .enum-told3 .given .1)
 
 returns-5 : tie.Need-returns-5
-unfolding numberIn
+unfolding said
 returns-5 c = rw (c .enum-told4 .given .1)
 
 returns-6 : tie.Need-returns-6
-unfolding numberIn
+unfolding said
 returns-6 c = rw (c .enum-told5 .given .1)
 
 returns-7 : tie.Need-returns-7
-unfolding numberIn
+unfolding said
 returns-7 c = rw (c .enum-told6 .given .1)
 
 returns-8 : tie.Need-returns-8
-unfolding numberIn
+unfolding said
 returns-8 c = rw (c .enum-told7 .given .1)
 
 pub number-in-spec : {M : Type 1} → statement M

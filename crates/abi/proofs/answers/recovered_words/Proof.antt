@@ -1,7 +1,8 @@
--- `answers::recovered_words` is `recoveredWords`, arm by arm.
+-- `answers::recovered_words` is `toldWords` of what the answer tells, arm by arm.
 -- Assumes nothing.
 use borrow.Author.Needs.{needs}
-use Rattle.abi.specs.Abi.{recoveredWords, noWords}
+use Rattle.recovery.specs.Recovery.{told}
+use Rattle.abi.specs.Abi.{whereFinished, toldWords}
 use Rattle.abi.proofs.answers.recovered_words.Statement.{statement}
 use Rattle.abi.proofs.answers.recovered_words.Tie as tie
 
@@ -11,23 +12,23 @@ enum-told c = search needs
 enum-told-2 : tie.Need-enum-told-2
 enum-told-2 c = search needs
 
-enum-known-said : tie.Need-enum-known-said
-enum-known-said c = search needs
+enum-known-answer : tie.Need-enum-known-answer
+enum-known-answer c = search needs
 
 finished-words-requires : tie.Need-finished-words-requires
 finished-words-requires c κs = search needs
 
 returns : tie.Need-returns
-unfolding recoveredWords noWords
+unfolding told toldWords whereFinished
 returns c = rw (c .enum-told .given .1)
 
 returns-2 : tie.Need-returns-2
-unfolding recoveredWords noWords
+unfolding told toldWords whereFinished
 returns-2 c = rw (c .enum-told2 .given .1)
 
 returns-3 : tie.Need-returns-3
-unfolding recoveredWords
-returns-3 c = rw (c .before .before .said .given .1, c .finished-words .ensures)
+unfolding told toldWords whereFinished
+returns-3 c = rw (c .before .before .answer .given .1, c .finished-words .ensures)
 
 pub recovered-words-spec : {M : Type 1} → statement M
 recovered-words-spec =
@@ -35,7 +36,7 @@ recovered-words-spec =
     (tie.spec
     enum-told
     enum-told-2
-    enum-known-said
+    enum-known-answer
     finished-words-requires
     returns
     returns-2

@@ -1,7 +1,7 @@
 -- `answers::reply` writes the answer's three words over all three where the call is taken.
 -- Assumes nothing.
 use borrow.Author.Needs.{needs}
-use Rattle.abi.specs.AbiLaws.{taken, not-taken, over-all, answer-three}
+use Rattle.abi.specs.AbiLaws.{taken, not-taken, over-all, said-three}
 use Rattle.abi.proofs.answers.reply.Statement.{statement}
 use Rattle.abi.proofs.answers.reply.Tie as tie
 
@@ -22,7 +22,7 @@ same-length c = search needs
 
 returns : tie.Need-returns
 returns c = let p = c .before .before in let w = p .before .before .before in let e = w .before in
-    taken _ _ _ _ _ (e .before .number-in .ensures) (e .if1 .taken) (over-all _ _ _ _ (p .put .ensures) (w .answer-words .ensures) (e .before .before .before .pre) (answer-three _))
+    taken _ _ _ _ _ (e .before .number-in .ensures) (e .if1 .taken) (over-all _ _ _ _ (p .put .ensures) (w .answer-words .ensures) (e .before .before .before .pre) (said-three _))
 
 returns-2 : tie.Need-returns-2
 returns-2 c = not-taken _ _ _ _ (c .before .number-in .ensures) (c .if1 .left)

@@ -1,7 +1,7 @@
 -- `answers::reply_restart` writes the answer's three words over all three where the call is taken.
 -- Assumes nothing.
 use borrow.Author.Needs.{needs}
-use Rattle.abi.specs.AbiLaws.{taken, not-taken, over-all, recovered-three}
+use Rattle.abi.specs.AbiLaws.{taken, not-taken, over-all, told-three}
 use Rattle.abi.proofs.answers.reply_restart.Statement.{statement}
 use Rattle.abi.proofs.answers.reply_restart.Tie as tie
 
@@ -22,7 +22,7 @@ same-length c = search needs
 
 returns : tie.Need-returns
 returns c = let p = c .before .before in let w = p .before .before .before in let e = w .before in
-    taken _ _ _ _ _ (e .before .recovered-number .ensures) (e .if1 .taken) (over-all _ _ _ _ (p .put .ensures) (w .recovered-words .ensures) (e .before .before .before .pre) (recovered-three _))
+    taken _ _ _ _ _ (e .before .recovered-number .ensures) (e .if1 .taken) (over-all _ _ _ _ (p .put .ensures) (w .recovered-words .ensures) (e .before .before .before .pre) (told-three _))
 
 returns-2 : tie.Need-returns-2
 returns-2 c = not-taken _ _ _ _ (c .before .recovered-number .ensures) (c .if1 .left)

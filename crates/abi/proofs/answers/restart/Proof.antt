@@ -2,12 +2,13 @@
 -- Assumes nothing.
 use mathlib.Core.Path.{refl}
 use borrow.Author.Needs.{needs}
-use Rattle.abi.specs.Abi.{recoveredNumber, recoveredState}
+use Rattle.recovery.specs.Recovery.{told}
+use Rattle.abi.specs.Abi.{whereFinished}
 use Rattle.abi.proofs.answers.restart.Statement.{statement}
 use Rattle.abi.proofs.answers.restart.Tie as tie
 
-enum-known-said : tie.Need-enum-known-said
-enum-known-said c = search needs
+enum-known-answer : tie.Need-enum-known-answer
+enum-known-answer c = search needs
 
 enum-told : tie.Need-enum-told
 enum-told c = search needs
@@ -19,25 +20,25 @@ record-to-requires : tie.Need-record-to-requires
 record-to-requires c κs = search needs
 
 returns : tie.Need-returns
-unfolding recoveredNumber recoveredState
-returns c = rw (c .before .said .given .1) (refl, refl)
+unfolding told whereFinished
+returns c = rw (c .before .answer .given .1) (refl, refl)
 
 returns-2 : tie.Need-returns-2
-unfolding recoveredNumber recoveredState
+unfolding told whereFinished
 returns-2 c = rw (c .enum-told .given .1) (refl, refl)
 
 same-length : tie.Need-same-length
 same-length c = search needs
 
 returns-3 : tie.Need-returns-3
-unfolding recoveredNumber recoveredState
+unfolding told whereFinished
 returns-3 c = let r = c .before .before in rw (r .before .before .before .enum-told2 .given .1) (refl, r .record-to .ensures)
 
 pub restart-spec : {M : Type 1} → statement M
 restart-spec =
     tie.close
     (tie.spec
-    enum-known-said
+    enum-known-answer
     enum-told
     enum-told-2
     record-to-requires
