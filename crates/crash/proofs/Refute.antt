@@ -13,7 +13,7 @@ use Rattle.record.specs.Record.{startRecord}
 use Rattle.store.specs.Machine.{Machine, said}
 use Rattle.store.specs.Calls.{formatRefusal}
 use Rattle.store.specs.declared.Answer.{Answer}
-use Rattle.recovery.specs.Recovery.{boundary}
+use Rattle.recovery.specs.Recovery.{boundary, told}
 use Rattle.recovery.specs.declared.Recovered.{Recovered}
 use Rattle.recovery.specs.declared.Recovered.the-variants.{Refused, Cut, Finished}
 use Rattle.crash.specs.Events.{Call, Junk, Event, call, recover, System, live, down, nvmOf, Reply, answered, recovered, failed, ignored, Design, happens}
@@ -84,14 +84,9 @@ answerSides z h c (live m) ignored = noSides
 answerSides z h c (down nvm j found) r = noSides
 
 -- how many entries recovery answers to have undone, of the cells before it
-unfoldable pub undoneIn : Recovered → List ℕ
-undoneIn (Refused n) = []
-undoneIn Cut = []
-undoneIn (Finished a) = a .undone ∷ []
-
 unfoldable pub countSides : Sizes → (limit : ℕ) → (cells : List ℕ) → Reply → Sides
 countSides z limit cells (answered a) = noSides
-countSides z limit cells (recovered r) = record { has = undoneIn r; due = undoneIn (recoveryAnswer z limit cells) }
+countSides z limit cells (recovered r) = record { has = told r .undone; due = told (recoveryAnswer z limit cells) .undone }
 countSides z limit cells (failed b) = noSides
 countSides z limit cells ignored = noSides
 
@@ -132,7 +127,7 @@ module _ (z : Sizes) (h : History) (was is : System) (found : List ℕ) where
     count-due : (r : Reply) → Replied z h (recover limit j) was found is r → countSides z limit (nvmOf was) r .has ≡ countSides z limit (nvmOf was) r .due
     unfolding countSides
     count-due (answered a) v = refl
-    count-due (recovered r) v = ap undoneIn (v .gives)
+    count-due (recovered r) v = ap (λ (x : Recovered). told x .undone) (v .gives)
     count-due (failed b) v = refl
     count-due ignored v = refl
 
@@ -229,5 +224,5 @@ module _ (d : Design) (z : Sizes) (start : List ℕ) (es : List Event) where
 
 -- one name that opens all of this, for the lists that the checker computes
 unfoldable pub refuting : ℕ
-unfolding everything same differ wordsSides clockSides numbersIn answerSides undoneIn countSides finishedSides recoveredSides worldAfter blank was differs is leftSides
+unfolding everything same differ wordsSides clockSides numbersIn answerSides countSides finishedSides recoveredSides worldAfter blank was differs is leftSides
 refuting = 0

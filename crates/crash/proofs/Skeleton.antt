@@ -16,7 +16,7 @@ use Rattle.image.specs.declared.Sizes.{Sizes}
 use Rattle.store.specs.Machine.{Machine, Step, firstCause, unless, said}
 use Rattle.store.specs.Calls.{badBuffers, started, startImage, drained, formatRefusal, formatStep, writeBackRefusal, writeBackStep}
 use Rattle.store.specs.declared.Answer.the-variants as answer
-use Rattle.recovery.specs.Recovery.{boundary, newBase, recoveredNvm, Restarted}
+use Rattle.recovery.specs.Recovery.{boundary, newBase, recoveredNvm, Restarted, told}
 use Rattle.crash.specs.Events.{Call, drain, Junk, Event, format, writeBack, call, recover, fails, failsInDrain, failsAfterDrain, failsInRecovery, System, live, down, nvmOf, vandzulge, happens, laneOf, callStep, isTaken, fit, partlyDrained, bare, foundOr, afterStep, afterFormat, recoveredSystem, afterRecovery, afterFailure, notOffered}
 use Rattle.crash.specs.History.{History, opened, wordsBelow, settled, restarted, taken, afterCall, afterRecovered, fedAnswer, fedFailure, fed, leastFloorOf}
 use Rattle.crash.specs.Theorem.{Live, InStep, Answers, formatAnswer, writeBackAnswer, NotBelow, RecoveryReply, Replied, Holds, CrashTheorem}
@@ -132,7 +132,7 @@ module _ (z : Sizes) (ok : sizesOk z ≡ true) (Inv : Machine → History → Ty
     recovers : {r : Restarted} → Restarts z limit found m r
         → RecoveryReply z h limit (m .nvm) found (recoveredSystem y (fit z i) found r (r .answer)) (r .answer)
         × Good (recoveredSystem y (fit z i) found r (r .answer)) (afterRecovered z found (r .answer) h)
-    unfolding recoveredSystem afterRecovered Good foundOr started fit
+    unfolding recoveredSystem afterRecovered told Good foundOr started fit
     recovers (short e l) = (
       record { gives = e; leaves = tt },
       record { cut = a; leads = l; cache = length-fitted (imageLength z) (i .cache); flags = length-fitted (imageLength z) (i .flags) },

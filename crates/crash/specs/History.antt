@@ -14,9 +14,8 @@ use Rattle.record.specs.Record.{lesser}
 use Rattle.store.specs.Machine.{Cause, Said, said}
 use Rattle.store.specs.declared.Answer.{Answer}
 use Rattle.store.specs.declared.Answer.the-variants as answer
-use Rattle.recovery.specs.Recovery.{boundary, newBase}
+use Rattle.recovery.specs.Recovery.{boundary, newBase, told}
 use Rattle.recovery.specs.declared.Recovered.{Recovered}
-use Rattle.recovery.specs.declared.Recovered.the-variants.{Refused, Cut, Finished}
 use Rattle.crash.specs.Events.{Call, log, redo, validate, mark, drain, Event, format, writeBack, call, recover, fails, failsInDrain, failsAfterDrain, failsInRecovery, Reply, answered, recovered, failed, ignored, laneOf}
 
 -- a lane's page: the transaction it holds, its newest timestamp, its floor
@@ -116,10 +115,9 @@ restarted z found h = opened z (wordsBelow z (boundary z found) h) (newBase z fo
 unfoldable pub afterCall : Call → Answer → History → History
 afterCall c a h = cond (said a .refused) h (taken c (said a) h)
 
+-- a recovery that was refused or cut short does nothing
 unfoldable pub afterRecovered : Sizes → List ℕ → Recovered → History → History
-afterRecovered z found (Refused n) h = h
-afterRecovered z found Cut h = h
-afterRecovered z found (Finished a) h = restarted z found h
+afterRecovered z found r h = cond (told r .refused || told r .cut) h (restarted z found h)
 
 -- by the reply; a reply that the event cannot have does nothing
 unfoldable pub fedAnswer : Sizes → Event → Answer → History → History
