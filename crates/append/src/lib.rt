@@ -161,7 +161,8 @@ pub fn log_refusal(
     plan.number
 }
 
-// A sequence of these writes at this timestamp, appended to a lane that is drained: the lane then, with this phase and redo log.
+// A sequence of these writes at this timestamp, appended to a lane that is drained: the lane then, with this phase and redo log. All cached changes of an append
+// are made here, and no non-volatile memory is lent: it stores no cell.
 fn appended(
     sizes: Sizes,
     drained: Lane,

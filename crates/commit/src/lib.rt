@@ -84,7 +84,8 @@ fn committed_state(mut state: Record, lane: usize) -> Record
     state
 }
 
-// The words of a commit of these pairs at this timestamp, which replaces the one that closes the entries of the lane's logged transaction.
+// The words of a commit of these pairs at this timestamp, which replaces the one that closes the entries of the lane's logged transaction. All cached changes of
+// a commit are made here, and no non-volatile memory is lent: it stores no cell.
 fn commit(
     sizes: Sizes,
     cache: &mut [u64],

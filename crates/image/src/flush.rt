@@ -53,6 +53,7 @@ pub fn write_back(cache: &[u64], nvm: &mut [u64], word: usize)
 }
 
 // Copies each word that the lane has flushed to non-volatile memory and clears the lane's bit there; writes no other word. One pass over the flags.
+// The cache is lent to be read: it is the same before the first of these stores and after the last.
 pub fn drain(lane: usize, cache: &[u64], nvm: &mut [u64], flags: &mut [u8])
     requires { ⌜ (lane < 8) × (length (now nvm) ≡ length (now cache)) × (length (now flags) ≡ length (now cache)) ⌝ }
     ensures copied { λ r. ⌜ now (nvm .exit) ≡ drainedNvm lane (now (flags .entry)) (now (cache .entry)) (now (nvm .entry)) ⌝ }
