@@ -2,7 +2,7 @@
 use mathlib.Core.Path.{_≡_, ap, _∙_, sym}
 use mathlib.Core.Bool.{cond}
 use mathlib.Core.List.{List, _∷_}
-use Prim.Native.Nat.{ℕ, _+_, _*_, _%_, _≤_, _<_}
+use Prim.Native.Nat.{ℕ, _+_, _*_, _≤_, _<_}
 use native.Mathlib.Omega.{arith}
 use lib.Dec.{eqb}
 use lib.ListN.{length, getD, replicate, length-replicate, getD-replicate}
@@ -16,7 +16,6 @@ use Rattle.log.specs.declared.Timestamp.the-variants.{None}
 use Rattle.recovery.specs.Recovery.{boundary, undone, undoStores, newBase, zeros, recoveryStores}
 use Rattle.recovery.specs.OrderLaws.{undone-none}
 use Rattle.recovery.specs.UndoneLaws.{firstsOf, undoSequences-at}
-use Rattle.recovery.specs.SequenceLaws.{newBase-even}
 use Rattle.recovery.specs.AgainLaws.{recoveredImage, all-zeroing, zeroing-low, zeros-at}
 
 module _ (z : Sizes) (c : List ℕ) (size : length c ≡ imageLength z) where

@@ -13,6 +13,7 @@ pub mod UndoLaws
 pub mod RecoveryLaws
 pub mod OrderLaws
 pub mod UndoneLaws
+pub mod BaseLaws
 pub mod SequenceLaws
 pub mod BoundaryLaws
 pub mod UndoStoreLaws
