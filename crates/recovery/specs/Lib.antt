@@ -12,6 +12,7 @@ pub mod EntryLaws
 pub mod UndoLaws
 pub mod RecoveryLaws
 pub mod OrderLaws
+pub mod UndoOrderLaws
 pub mod UndoneLaws
 pub mod BaseLaws
 pub mod SequenceLaws
