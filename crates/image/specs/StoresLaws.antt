@@ -1,4 +1,4 @@
--- Laws of stores: what a list of stores leaves at an index, and that a prefix of it made before changes nothing. Assumes nothing.
+-- Laws of stores: what a list of stores leaves at an index, and that stores it writes over, as a prefix of it, change nothing before it. Assumes nothing.
 use mathlib.Core.Path.{_≡_, refl, ap, _∙_, sym}
 use mathlib.Core.Bool.{Bool, true, false, cond, _||_, or-assoc}
 use mathlib.Core.List.{List, [], _∷_, _++_}
@@ -74,13 +74,17 @@ again (s ∷ l) (suc k) i x = go (eqb s.at i) (again l k i x)
     go true ih = refl
     go false ih = ih
 
+-- where the stores l never show after the stores k, they change nothing
+pub stored-over : (k l : List Store) (image : List ℕ) → ((i x : ℕ) → lastAt k i (lastAt l i x) ≡ lastAt k i x) → stored k (stored l image) ≡ stored k image
+stored-over k l image f =
+    ext-getD 0 _ _ (rw (length-stored k (stored l image), length-stored l image, length-stored k image))
+    (λ i h. point i (rw (length-stored k (stored l image), length-stored l image) at h))
+  where
+    point : (i : ℕ) → i < length image → getD (stored k (stored l image)) i 0 ≡ getD (stored k image) i 0
+    point i h =
+        getD-stored k (stored l image) i (rw length-stored h)
+        ∙ ap (lastAt k i) (getD-stored l image i h) ∙ f i (getD image i 0) ∙ sym (getD-stored k image i h)
+
 -- a prefix of the stores and then all of them is all of them
 pub stored-again : (l : List Store) (k : ℕ) (image : List ℕ) → stored l (stored (take k l) image) ≡ stored l image
-stored-again l k image =
-    ext-getD 0 _ _ (rw (length-stored l (stored (take k l) image), length-stored (take k l) image, length-stored l image))
-    (λ i h. point i (rw (length-stored l (stored (take k l) image), length-stored (take k l) image) at h))
-  where
-    point : (i : ℕ) → i < length image → getD (stored l (stored (take k l) image)) i 0 ≡ getD (stored l image) i 0
-    point i h =
-        getD-stored l (stored (take k l) image) i (rw length-stored h)
-        ∙ ap (lastAt l i) (getD-stored (take k l) image i h) ∙ again l k i (getD image i 0) ∙ sym (getD-stored l image i h)
+stored-again l k image = stored-over l (take k l) image (again l k)
