@@ -1,8 +1,8 @@
--- A recovery that was cut after any of its stores, and then done again, leaves the same image: before the base is stored the next recovery finds
--- the same stores, and from then on nothing to undo. Assumes nothing.
-use mathlib.Core.Path.{_≡_, refl, ap, ap₂, _∙_}
+-- A recovery that was cut after any of its stores, or with any of the log words cleared, and then done again, leaves the same image: before the base is stored
+-- the next recovery finds the same stores, and from then on nothing to undo. Assumes nothing.
+use mathlib.Core.Path.{_≡_, refl, sym, ap, ap₂, _∙_}
 use mathlib.Core.Logic.{_⊎_, inl, inr}
-use mathlib.Core.Bool.{cond}
+use mathlib.Core.Bool.{Bool, true, false, cond, _&&_}
 use mathlib.Core.List.{List, [], _∷_, _++_}
 use Prim.Native.Nat.{ℕ, zero, suc, _+_, _-_, _*_, _%_, _≤_, _<_, max}
 use native.Mathlib.Omega.{arith}
@@ -11,20 +11,21 @@ use lib.Dec.{eqb, leb, ltb}
 use lib.ListN.{length, getD, take, List·getD-eq-default}
 use lib.Seq.{take-append-le}
 use borrow.Author.Tests.{ne-eqb, eqb-false, leb-true, leb-false, ltb-true, ltb-false, le-ltb}
-use Rattle.laws.specs.Tests.{split}
+use Rattle.laws.specs.Tests.{split, and-left, and-right}
 use Rattle.laws.specs.Lists.{All, none as nil, more, All-take, take-past, stretch-same}
 use Rattle.slot.specs.Slot.{readOf, wholeOf, entryShape, stampShape}
 use Rattle.slot.specs.declared.Content.{Content}
 use Rattle.slot.specs.declared.Content.the-variants.{Empty, Torn, Entry, Stamp}
-use Rattle.image.specs.Image.{baseOf, logStart, logOf}
+use Rattle.image.specs.Image.{imageLength, baseOf, logStart, logOf}
 use Rattle.image.specs.ImageLaws.{getD-log}
 use Rattle.image.specs.Stores.{Store, stored}
-use Rattle.image.specs.StoresLaws.{lastAt, length-stored, getD-stored, stored-append, stored-again}
+use Rattle.image.specs.StoresLaws.{lastAt, length-stored, getD-stored, stored-append, stored-over, stored-again}
 use Rattle.image.specs.declared.Sizes.{Sizes}
 use Rattle.log.specs.Log.{slotAt, closes, completeBelow, completeIn, latest, latestIn, contribution}
 use Rattle.log.specs.declared.Timestamp.the-variants.{None}
 use Rattle.record.specs.Record.{lesser}
 use Rattle.recovery.specs.Recovery.{boundaryBelow, boundary, completeOf, undoneFrom, undone, undoSequences, undoStores, wholeStamp, greatestBelow, greatestOf, newBase, zeros, recoveryStores, recoveredNvm}
+use Rattle.recovery.specs.Clearing.{clearing, partlyCleared}
 use Rattle.recovery.specs.UndoStoreLaws.{OnData, data-undo, off-data}
 
 -- the image that a finished recovery leaves
@@ -156,31 +157,40 @@ module _ (z : Sizes) (new old : List ℕ) (h : (i : ℕ) → z.words < i → Sam
       omega arith
 
 -- ---- the zeros
-abbrev pub Zeroing : ℕ → Store → Type 0
-Zeroing W s = (W < s .at) × (s .value ≡ 0)
+-- a store of 0 at a word from `low` on and below `high`
+abbrev pub Zeroing : (low high : ℕ) → Store → Type 0
+Zeroing low high s = (low ≤ s .at) × (s .at < high) × (s .value ≡ 0)
 
-pub all-zeroing : (W at n : ℕ) → W < at → All (Zeroing W) (zeros at n)
+pub all-zeroing : (low at n high : ℕ) → low ≤ at → at + n ≤ high → All (Zeroing low high) (zeros at n)
 unfolding zeros
-all-zeroing W at zero h = nil
-all-zeroing W at (suc n) h = more (h, refl) (all-zeroing W (suc at) n (omega arith))
+all-zeroing low at zero high h g = nil
+all-zeroing low at (suc n) high h g = more (h, omega arith, refl) (all-zeroing low (suc at) n high (omega arith) (omega arith))
 
-pub zeroing-at : (W : ℕ) {l : List Store} → All (Zeroing W) l → (i x : ℕ) → Same0 (lastAt l i x) x
-unfolding lastAt
-zeroing-at W nil i x = inl refl
-zeroing-at W (more {x = s} {l = l} h hs) i x =
-    split (eqb (s .at) i)
-    (λ e. rw e (inr (go (zeroing-at W hs i (s .value)))))
-    (λ e. rw e (zeroing-at W hs i x))
-  where
-    go : Same0 (lastAt l i (s .value)) (s .value) → lastAt l i (s .value) ≡ 0
-    go (inl p) = p ∙ h .1
-    go (inr p) = p
+module _ (low high : ℕ) where
+  pub zeroing-at : {l : List Store} → All (Zeroing low high) l → (i x : ℕ) → Same0 (lastAt l i x) x
+  unfolding lastAt
+  zeroing-at nil i x = inl refl
+  zeroing-at (more {x = s} {l = l} h hs) i x =
+      split (eqb (s .at) i)
+      (λ e. rw e (inr (go (zeroing-at hs i (s .value)))))
+      (λ e. rw e (zeroing-at hs i x))
+    where
+      go : Same0 (lastAt l i (s .value)) (s .value) → lastAt l i (s .value) ≡ 0
+      go (inl p) = p ∙ h .2
+      go (inr p) = p
 
--- they leave the base and the data words
-pub zeroing-low : (W : ℕ) {l : List Store} → All (Zeroing W) l → (i x : ℕ) → i ≤ W → lastAt l i x ≡ x
-unfolding lastAt
-zeroing-low W nil i x b = refl
-zeroing-low W (more {x = s} h hs) i x b = rw (ne-eqb (s .at) i (λ e. omega (arith, h))) (zeroing-low W hs i x b)
+  -- they leave the words below and above
+  pub zeroing-off : {l : List Store} → All (Zeroing low high) l → (i x : ℕ) → (i < low) ⊎ (high ≤ i) → lastAt l i x ≡ x
+  unfolding lastAt
+  zeroing-off nil i x o = refl
+  zeroing-off (more {x = s} h hs) i x o = rw (ne-eqb (s .at) i (λ e. off e o)) (zeroing-off hs i x o)
+    where
+      off : s .at ≡ i → (i < low) ⊎ (high ≤ i) → ⊥
+      off e (inl p) = omega (arith, h .0)
+      off e (inr p) = omega (arith, h .1)
+
+pub zeros-low : (at n i x : ℕ) → i < at → lastAt (zeros at n) i x ≡ x
+zeros-low at n i x h = zeroing-off at (at + n) (all-zeroing at at n (at + n) (omega arith) (omega arith)) i x (inl h)
 
 -- and are 0 where they stand
 pub zeros-at : (at n i x : ℕ) → at ≤ i → i < at + n → lastAt (zeros at n) i x ≡ 0
@@ -188,14 +198,32 @@ unfolding zeros lastAt
 zeros-at at zero i x h g = absurd (omega arith)
 zeros-at at (suc n) i x h g =
     split (eqb at i)
-    (λ e. ap (λ t. lastAt (zeros (suc at) n) i (cond t 0 x)) e ∙ go (zeroing-at at (all-zeroing at (suc at) n (omega arith)) i 0))
+    (λ e. ap (λ t. lastAt (zeros (suc at) n) i (cond t 0 x)) e ∙ go (zeroing-at (suc at) (suc at + n) (all-zeroing (suc at) (suc at) n (suc at + n) (omega arith) (omega arith)) i 0))
     (λ e. ap (λ t. lastAt (zeros (suc at) n) i (cond t 0 x)) e ∙ zeros-at (suc at) n i x (omega (arith, eqb-false at i e)) (omega arith))
   where
     go : Same0 (lastAt (zeros (suc at) n) i 0) 0 → lastAt (zeros (suc at) n) i 0 ≡ 0
     go (inl p) = p
     go (inr p) = p
 
--- ---- the theorem
+-- some of them made before change nothing
+zeros-again : (at n : ℕ) {l : List Store} → All (Zeroing at (at + n)) l → (i x : ℕ) → lastAt (zeros at n) i (lastAt l i x) ≡ lastAt (zeros at n) i x
+zeros-again at n {l} h i x =
+    split (ltb i at)
+    (λ e. ap (lastAt (zeros at n) i) (zeroing-off at (at + n) h i x (inl (ltb-true i at e))))
+    (λ e. split (ltb i (at + n))
+    (λ f. zeros-at at n i (lastAt l i x) (ltb-false i at e) (ltb-true i (at + n) f) ∙ sym (zeros-at at n i x (ltb-false i at e) (ltb-true i (at + n) f)))
+    (λ f. ap (lastAt (zeros at n) i) (zeroing-off at (at + n) h i x (inr (ltb-false i (at + n) f)))))
+
+-- ---- some log words cleared
+all-clearing : (z : Sizes) (words : List ℕ) → All (Zeroing (1 + z.words) (imageLength z)) (clearing z words)
+unfolding clearing
+all-clearing z [] = nil
+all-clearing z (i ∷ is) =
+    split (leb (1 + z.words) i && ltb i (imageLength z))
+    (λ e. rw e (more (leb-true _ _ (and-left _ _ e), ltb-true _ _ (and-right (leb (1 + z.words) i) _ e), refl) (all-clearing z is)))
+    (λ e. rw e (all-clearing z is))
+
+-- ---- the theorems
 module _ (z : Sizes) (c : List ℕ) (pos : 0 < length c) where
   U : List Store
   U = undoStores z c
@@ -203,81 +231,121 @@ module _ (z : Sizes) (c : List ℕ) (pos : 0 < length c) where
   zs : List Store
   zs = zeros (1 + z.words) (2 * z.lanes * z.slots)
 
-  tl : List Store
-  tl = record { at = 0; value = newBase z c } ∷ zs
+  -- the store of the base, then these
+  based : List Store → List Store
+  based l = record { at = 0; value = newBase z c } ∷ l
 
-  whole : recoveryStores z c ≡ U ++ tl
-  unfolding recoveryStores U tl zs
+  whole : recoveryStores z c ≡ U ++ based zs
+  unfolding recoveryStores U based zs
   whole = refl
 
   undo-data : All (OnData z.words) U
   unfolding U
   undo-data = data-undo z c
 
-  -- after the base is stored, and m log words
-  late : ℕ → List ℕ
-  late m = stored (take (suc m) tl) (stored U c)
+  all-zs : All (Zeroing (1 + z.words) (imageLength z)) zs
+  unfolding zs imageLength
+  all-zs = all-zeroing (1 + z.words) (1 + z.words) (2 * z.lanes * z.slots) _ (omega arith) (omega arith)
 
-  late-at : (m i : ℕ) → i < length c → getD (late m) i 0 ≡ lastAt (take m zs) i (cond (eqb 0 i) (newBase z c) (getD (stored U c) i 0))
-  unfolding late tl lastAt
-  late-at m i h = getD-stored (take (suc m) tl) (stored U c) i (rw length-stored h)
+  -- once the base is stored, and any zeros of log words
+  late : List Store → List ℕ
+  late l = stored (based l) (stored U c)
 
-  late-base : (m : ℕ) → baseOf (late m) ≡ newBase z c
-  unfolding baseOf zs
-  late-base m = late-at m 0 pos ∙ zeroing-low z.words (All-take m (all-zeroing z.words (1 + z.words) _ (omega arith))) 0 (newBase z c) (omega arith)
-
-  out : (m i : ℕ) → length c ≤ i → length (late m) ≤ i
+  late-made : (l : List Store) → stored (U ++ based l) c ≡ late l
   unfolding late
-  out m i l = omega (arith, length-stored (take (suc m) tl) (stored U c), length-stored U c)
+  late-made l = stored-append U (based l) c
+
+  length-late : (l : List Store) → length (late l) ≡ length c
+  unfolding late
+  length-late l = length-stored (based l) (stored U c) ∙ length-stored U c
 
   top : greatestOf z c z.lanes ≤ newBase z c
   unfolding newBase
   top = omega arith
 
-  late-word : (m i : ℕ) → z.words < i → Same0 (getD (late m) i 0) (getD c i 0)
-  unfolding zs
-  late-word m i h =
-      split (ltb i (length c))
-      (λ e. let l = ltb-true i (length c) e in
-      rw (late-at m i l, ne-eqb 0 i (λ p. omega arith), getD-stored U c i l, off-data z.words undo-data i (getD c i 0) (inr h))
-      (zeroing-at z.words (All-take m (all-zeroing z.words (1 + z.words) _ (omega arith))) i (getD c i 0)))
-      (λ e. inr (List·getD-eq-default (late m) 0 (out m i (ltb-false i (length c) e))))
+  late-at : (l : List Store) (i : ℕ) → i < length c → getD (late l) i 0 ≡ lastAt l i (cond (eqb 0 i) (newBase z c) (getD (stored U c) i 0))
+  unfolding late based lastAt
+  late-at l i h = getD-stored (based l) (stored U c) i (rw length-stored h)
 
-  late-spent : (m : ℕ) → greatestOf z (late m) z.lanes ≤ baseOf (late m)
-  late-spent m = omega (arith, less-of z (late m) c (late-word m) z.lanes, late-base m, top)
+  module _ (l : List Store) (h : All (Zeroing (1 + z.words) (imageLength z)) l) where
+    late-base : baseOf (late l) ≡ newBase z c
+    unfolding baseOf
+    late-base = late-at l 0 pos ∙ zeroing-off (1 + z.words) (imageLength z) h 0 (newBase z c) (inl (omega arith))
 
-  late-stores : (m : ℕ) → recoveryStores z (late m) ≡ tl
-  unfolding tl zs
-  late-stores m = spent-stores z (late m) (late-spent m) ∙ ap (λ b. record { at = 0; value = b } ∷ zs) (late-base m)
+    late-word : (i : ℕ) → z.words < i → Same0 (getD (late l) i 0) (getD c i 0)
+    late-word i g =
+        split (ltb i (length c))
+        (λ e. let b = ltb-true i (length c) e in
+        rw (late-at l i b, ne-eqb 0 i (λ p. omega arith), getD-stored U c i b, off-data z.words undo-data i (getD c i 0) (inr g))
+        (zeroing-at (1 + z.words) (imageLength z) h i (getD c i 0)))
+        (λ e. inr (List·getD-eq-default (late l) 0 (omega (arith, length-late l, ltb-false i (length c) e))))
 
-  -- cut after k stores: base and logs are as they were, or the base is stored
+    -- no timestamp is above the base
+    late-spent : greatestOf z (late l) z.lanes ≤ baseOf (late l)
+    late-spent = omega (arith, less-of z (late l) c late-word z.lanes, late-base, top)
+
+    late-stores : recoveryStores z (late l) ≡ based zs
+    unfolding based zs
+    late-stores = spent-stores z (late l) late-spent ∙ ap (λ b. record { at = 0; value = b } ∷ zs) late-base
+
+    -- the zeros made before do not show
+    late-over : (i x : ℕ) → lastAt (based zs) i (lastAt (based l) i x) ≡ lastAt (based zs) i x
+    unfolding based zs lastAt imageLength
+    late-over i x = by (eqb 0 i) refl
+      where
+        by : (b : Bool) → eqb 0 i ≡ b → lastAt zs i (cond b (newBase z c) (lastAt l i (cond b (newBase z c) x))) ≡ lastAt zs i (cond b (newBase z c) x)
+        by true e = refl
+        by false e = zeros-again (1 + z.words) (2 * z.lanes * z.slots) h i x
+
+    late-again : recoveredImage z (late l) ≡ recoveredImage z c
+    unfolding late
+    late-again = rw (late-stores, whole, stored-append U (based zs) c) (stored-over (based zs) (based l) (stored U c) late-over)
+
+  -- ---- any of the log words cleared
+  module _ (words : List ℕ) where
+    is-late : partlyCleared z words c ≡ late (clearing z words)
+    unfolding partlyCleared U based
+    is-late = late-made (clearing z words)
+
+    pub cleared-length : length (partlyCleared z words c) ≡ length c
+    cleared-length = ap length is-late ∙ length-late (clearing z words)
+
+    pub cleared-base : baseOf (partlyCleared z words c) ≡ newBase z c
+    cleared-base = ap baseOf is-late ∙ late-base (clearing z words) (all-clearing z words)
+
+    -- a recovery cut while it clears the log words, whichever of them are cleared, and done again leaves the same image
+    pub cleared-again : recoveredImage z (partlyCleared z words c) ≡ recoveredImage z c
+    cleared-again = rw is-late (late-again (clearing z words) (all-clearing z words))
+
+  -- ---- any number of stores made
+  -- base and logs are as they were, or the base is stored
   data Stage (k : ℕ) : Type 0 where
     early : Alike z (recoveredNvm z k c) c → Stage k
-    past : (m : ℕ) → recoveredNvm z k c ≡ late m → Stage k
+    past : (m : ℕ) → recoveredNvm z k c ≡ late (take m zs) → Stage k
 
   stage : (k : ℕ) → Stage k
-  unfolding recoveredNvm late
+  unfolding recoveredNvm based
   stage k =
       split (leb k (length U))
-      (λ e. early (rw (whole, take-append-le k U tl (leb-true k (length U) e)) (alike-data z c pos (All-take k undo-data))))
-      (λ e. rest (k - length U) (take-past U tl k (omega (arith, leb-false k (length U) e))) (omega (arith, leb-false k (length U) e)))
+      (λ e. early (rw (whole, take-append-le k U (based zs) (leb-true k (length U) e)) (alike-data z c pos (All-take k undo-data))))
+      (λ e. rest (k - length U) (take-past U (based zs) k (omega (arith, leb-false k (length U) e))) (omega (arith, leb-false k (length U) e)))
     where
-      rest : (m : ℕ) → take k (U ++ tl) ≡ U ++ take m tl → 0 < m → Stage k
+      rest : (m : ℕ) → take k (U ++ based zs) ≡ U ++ take m (based zs) → 0 < m → Stage k
       rest zero e h = absurd (omega arith)
-      rest (suc m) e h = past m (rw (whole, e) (stored-append U (take (suc m) tl) c))
+      rest (suc m) e h = past m (rw (whole, e) (late-made (take m zs)))
 
   pub cut-base : (k : ℕ) → (baseOf (recoveredNvm z k c) ≡ baseOf c) ⊎ (baseOf (recoveredNvm z k c) ≡ newBase z c)
   cut-base k = go (stage k)
     where
       go : Stage k → (baseOf (recoveredNvm z k c) ≡ baseOf c) ⊎ (baseOf (recoveredNvm z k c) ≡ newBase z c)
       go (early a) = inl (a .base)
-      go (past m e) = inr (ap baseOf e ∙ late-base m)
+      go (past m e) = inr (ap baseOf e ∙ late-base (take m zs) (All-take m all-zs))
 
   -- a recovery cut after any of its stores and done again leaves the same image
   pub recovered-again : (k : ℕ) → recoveredImage z (recoveredNvm z k c) ≡ recoveredImage z c
-  unfolding recoveredNvm late
+  unfolding recoveredNvm
   recovered-again k = go (stage k)
     where
       go : Stage k → recoveredImage z (recoveredNvm z k c) ≡ recoveredImage z c
       go (early a) = rw (alike-stores z (recoveredNvm z k c) c a) (stored-again (recoveryStores z c) k c)
-      go (past m e) = rw (e, late-stores m, whole, stored-append U tl c) (stored-again tl (suc m) (stored U c))
+      go (past m e) = rw e (late-again (take m zs) (All-take m all-zs))

@@ -16,7 +16,7 @@ use Rattle.log.specs.declared.Timestamp.the-variants.{None}
 use Rattle.recovery.specs.Recovery.{boundary, undone, undoStores, newBase, zeros, recoveryStores}
 use Rattle.recovery.specs.OrderLaws.{undone-none}
 use Rattle.recovery.specs.UndoneLaws.{firstsOf, undoSequences-at}
-use Rattle.recovery.specs.AgainLaws.{recoveredImage, all-zeroing, zeroing-low, zeros-at}
+use Rattle.recovery.specs.AgainLaws.{recoveredImage, zeros-low, zeros-at}
 
 module _ (z : Sizes) (c : List ℕ) (size : length c ≡ imageLength z) where
   pub recovered-length : length (recoveredImage z c) ≡ imageLength z
@@ -32,7 +32,7 @@ module _ (z : Sizes) (c : List ℕ) (size : length c ≡ imageLength z) where
       ∙ lastAt-append (undoStores z c) (record { at = 0; value = newBase z c } ∷ zeros (1 + z.words) (2 * z.lanes * z.slots)) i (getD c i 0)
 
   low : (i x : ℕ) → i ≤ z.words → lastAt (zeros (1 + z.words) (2 * z.lanes * z.slots)) i x ≡ x
-  low i x h = zeroing-low z.words (all-zeroing z.words (1 + z.words) (2 * z.lanes * z.slots) (omega arith)) i x h
+  low i x h = zeros-low (1 + z.words) (2 * z.lanes * z.slots) i x (omega arith)
 
   pub recovered-base : baseOf (recoveredImage z c) ≡ newBase z c
   unfolding baseOf imageLength

@@ -2,6 +2,7 @@ pub mod Recovery
 pub mod Interface
 pub mod ToldLaws
 pub mod Limit
+pub mod Clearing
 pub mod Picking
 pub mod Undo
 pub mod LimitLaws
