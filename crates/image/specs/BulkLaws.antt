@@ -31,5 +31,9 @@ module _ (n : ℕ) (given : List ℕ) where
             (getD-set-same xs i v 0 (rw (d .in-all) h) ∙ e);
       }
 
+  -- an element that is the given one already
+  pub filled-skip : (i : ℕ) (xs : List ℕ) → Filled n given i xs → getD xs i 0 ≡ getD given i 0 → Filled n given (i + 1) xs
+  filled-skip i xs d e = record { in-all = d .in-all; below = below-more (λ k. getD xs k 0 ≡ getD given k 0) i (d .below) e }
+
   pub filled-all : (i : ℕ) (xs : List ℕ) → Filled n given i xs → length given ≡ n → n ≤ i → xs ≡ given
   filled-all i xs d e h = ext-getD 0 xs given (d .in-all ∙ sym e) (λ k l. d .below k (omega (arith, d .in-all)))

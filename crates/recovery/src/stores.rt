@@ -35,7 +35,7 @@ fn made(limit: usize, due: usize, count: usize) -> usize
     count
 }
 
-// The log words become 0, in rising order: one stretch, as long as the limit lets it be.
+// The log words become 0, in rising order, as far as the limit lets them. A word that is 0 already counts as stored and is left alone.
 pub fn clear_logs(sizes: Sizes, nvm: &mut [u64], limit: usize, due: usize) -> usize
     requires { ⌜ (sizesOk sizes ≡ true) × (length (now nvm) ≡ imageLength sizes) × (due < 65536) ⌝ }
     ensures counted { λ r. ⌜ r ≡ due + 2 * sizes .lanes * sizes .slots ⌝ }
@@ -44,6 +44,6 @@ pub fn clear_logs(sizes: Sizes, nvm: &mut [u64], limit: usize, due: usize) -> us
     let count = 2 * sizes.lanes * sizes.slots;
     let start = 1 + sizes.words;
     let end = start + made(limit, due, count);
-    image::bulk::clear_words(&mut nvm[start..end]);
+    image::bulk::clear_whole_words(&mut nvm[start..end]);
     due + count
 }

@@ -38,20 +38,20 @@ add-end c =
     let s = sizes-in _ (c .before .before .before .before .before .pre .0) in
     omega (arith, c .made .ensures, min-le-right (a .limit - a .due) (2 * a .sizes .lanes * a .sizes .slots), s .words-high, logs-small _ s)
 
-mul-clear-words : tie.Need-mul-clear-words
-mul-clear-words c = omega (arith, sizes-in _ (c .before .before .before .before .before .pre .0) .words-high)
+mul-clear-whole-words : tie.Need-mul-clear-whole-words
+mul-clear-whole-words c = omega (arith, sizes-in _ (c .before .before .before .before .before .pre .0) .words-high)
 
-sub-clear-words : tie.Need-sub-clear-words
-sub-clear-words c = search needs
+sub-clear-whole-words : tie.Need-sub-clear-whole-words
+sub-clear-whole-words c = search needs
 
-part-clear-words-start : tie.Need-part-clear-words-start
-part-clear-words-start c = search needs
+part-clear-whole-words-start : tie.Need-part-clear-whole-words-start
+part-clear-whole-words-start c = search needs
 
-part-clear-words-end : tie.Need-part-clear-words-end
-part-clear-words-end c = inside c
+part-clear-whole-words-end : tie.Need-part-clear-whole-words-end
+part-clear-whole-words-end c = inside c
 
-clear-words-requires : tie.Need-clear-words-requires
-clear-words-requires c κs = search needs
+clear-whole-words-requires : tie.Need-clear-whole-words-requires
+clear-whole-words-requires c κs = search needs
 
 add-result : tie.Need-add-result
 add-result c = omega (arith, logs-small _ (sizes-in _ (c .before .before .before .before .before .before .before .before .before .pre .0)))
@@ -63,7 +63,7 @@ returns : tie.Need-returns
 returns c =
     let m = c .before .before .before .before in
     let a = m .before .before .before .before .before .args in
-    (refl, limited-zeros _ _ (1 + a .sizes .words) _ (m .made .result) (now (a .nvm)) _ (m .made .ensures) (inside m) (c .before .before .clear-words .ensures))
+    (refl, limited-zeros _ _ (1 + a .sizes .words) _ (m .made .result) (now (a .nvm)) _ (m .made .ensures) (inside m) (c .before .before .clear-whole-words .ensures))
 
 pub clear-logs-spec : {M : Type 1} → statement M
 clear-logs-spec =
@@ -74,11 +74,11 @@ clear-logs-spec =
     add-start
     made-requires
     add-end
-    mul-clear-words
-    sub-clear-words
-    part-clear-words-start
-    part-clear-words-end
-    clear-words-requires
+    mul-clear-whole-words
+    sub-clear-whole-words
+    part-clear-whole-words-start
+    part-clear-whole-words-end
+    clear-whole-words-requires
     add-result
     same-length
     returns)
