@@ -3,39 +3,10 @@
 
 mod common;
 
-use common::{Call, Random, World, LIBRARY, PLAIN};
-use std::collections::BTreeMap;
+use common::states::{walk, Seen};
+use common::{Call, World, LIBRARY, PLAIN};
 use vandzulge::images;
 use vandzulge::Sizes;
-
-/// How often each outcome was seen, by call and answer.
-type Seen = BTreeMap<String, u64>;
-
-fn outcome(call: &Call, number: u64, answer: &[u64]) -> String {
-    let name = match call {
-        Call::Format(_) => "format",
-        Call::WriteBack(_) => "write-back",
-        Call::Drain(_) => "drain",
-        Call::Log(..) => "log",
-        Call::Redo(_) => "redo",
-        Call::Validate(..) => "validate",
-        Call::Mark(_) => "mark",
-        Call::Recover(_) => "recover",
-    };
-    if number != 0 {
-        return format!("{name} refused {number}");
-    }
-    let kind = match (call, answer.first()) {
-        (Call::Log(..), Some(0)) => " without writes",
-        (Call::Redo(_), Some(0)) => " stale",
-        (Call::Validate(..), Some(0)) => " changed",
-        (Call::Mark(_), Some(1)) => " dropped",
-        (Call::Recover(_), Some(0)) => " cut",
-        (Call::Recover(_), Some(1)) => " none",
-        _ => "",
-    };
-    format!("{name}{kind}")
-}
 
 /// Makes the call on both, compares all, and keeps what they left.
 fn both(world: &mut World, call: &Call, seen: &mut Seen, place: &str) {
@@ -54,285 +25,23 @@ fn both(world: &mut World, call: &Call, seen: &mut Seen, place: &str) {
     if number != 0 {
         assert!(other == before, "refused {number}, and not left as it was: {}", told());
     }
-    *seen.entry(outcome(call, number, &world.answer)).or_default() += 1;
+    seen.count(call, number, &world.answer);
 }
-
-fn sizes(random: &mut Random) -> Sizes {
-    let words = random.pick(&[1, 2, 3, 5, 16, 17, 100, 256, 1023, 1024]);
-    let lanes = 1 + random.index(8);
-    let slots = random.pick(&[34, 35, 36, 37, 40, 51, 64, 255, 256]);
-    Sizes { words, lanes, slots }
-}
-
-/// A well-formed transaction of up to 16 instructions.
-fn txn(random: &mut Random, words: usize) -> Vec<u64> {
-    let longest = if random.one_in(3) { 16 } else { 4 };
-    let length = 1 + random.below(longest);
-    let words = words as u64;
-    let mut txn = Vec::new();
-    for following in (0..length).rev() {
-        let (a, b) = (random.below(words), random.below(words));
-        let k = if random.one_in(2) { random.below(4) } else { random.word() };
-        txn.extend(match random.below(6) {
-            0 | 1 => [1, a, 0, k],
-            2 => [2, a, b, 0],
-            3 => [3, a, b, k],
-            4 => [4, 0, b, k],
-            _ if following > 0 => [5, 0, b, 1 + random.below(following)],
-            _ => [1, a, 0, k],
-        });
-    }
-    txn
-}
-
-/// A word that is wrong in many places.
-fn odd_word(random: &mut Random, clock: u64) -> u64 {
-    let near = random.below(9).wrapping_sub(4);
-    match random.below(7) {
-        0 => random.below(20),
-        1 => clock.wrapping_add(near),
-        2 => u64::MAX - random.below(5),
-        3 => 1 << random.below(64),
-        4 => random.below(2048),
-        5 => random.pick(&[33, 34, 35, 255, 256, 257, 1023, 1024, 1025]),
-        _ => random.word(),
-    }
-}
-
-/// Two slot words: mostly an entry or a timestamp, now and then anything.
-fn slot(random: &mut Random, words: usize, clock: u64) -> [u64; 2] {
-    let wrap = random.below(2);
-    match random.below(8) {
-        0 => [0, 0],
-        1 => [random.word(), random.word()],
-        2 => [random.below(40_000), clock.wrapping_add(random.below(3))],
-        3 | 4 => [8 * (4096 + random.below(4)) + wrap, (random.below(clock / 2 + 2) * 2) | wrap],
-        5 => [8 * (4096 + random.below(19)) + wrap, clock.wrapping_add(random.below(6)) & !1 | wrap],
-        _ => [8 * (random.below(words as u64 + 1) + 1) + 2 * random.below(2) + wrap, random.word() & !1 | wrap],
-    }
-}
-
-/// A lane's log of complete sequences with one wrap bit, some of them spoilt.
-fn fill_log(random: &mut Random, log: &mut [u64], words: usize, clock: u64) {
-    let wrap = random.below(2);
-    let mut entries = 0;
-    let mut length = random.below(17);
-    for pair in log.chunks_exact_mut(2) {
-        let words = if random.one_in(60) {
-            slot(random, words, clock)
-        } else if entries < length {
-            entries += 1;
-            [8 * (random.below(words as u64) + 1) + 2 * random.below(2) + wrap, random.word() & !1 | wrap]
-        } else {
-            let closes = entries;
-            entries = 0;
-            length = if random.one_in(3) { random.below(17) } else { random.below(3) };
-            [8 * (4096 + closes) + wrap, (random.below(clock / 2 + 1) * 2 + 2) | wrap]
-        };
-        pair.copy_from_slice(&words);
-    }
-}
-
-fn damage(random: &mut Random, world: &mut World) {
-    let clock = world.record.first().copied().unwrap_or(0);
-    let length = world.cache.len().min(world.nvm.len()).min(world.flags.len());
-    let logs = 1 + world.words;
-    match random.below(9) {
-        0 => {
-            let at = random.index(length);
-            world.cache[at] = odd_word(random, clock);
-        }
-        1 => {
-            let at = random.index(length);
-            world.nvm[at] = odd_word(random, clock);
-        }
-        2 => {
-            for flag in &mut world.flags {
-                *flag = random.word() as u8;
-            }
-        }
-        3 => {
-            for _ in 0..1 + random.below(20) {
-                let at = logs + 2 * random.index(world.lanes * world.slots);
-                let words = slot(random, world.words, clock);
-                let image = if random.one_in(2) { &mut world.cache } else { &mut world.nvm };
-                image[at..at + 2].copy_from_slice(&words);
-            }
-        }
-        4 => {
-            let start = logs + 2 * world.slots * random.index(world.lanes);
-            let image = if random.one_in(2) { &mut world.cache } else { &mut world.nvm };
-            fill_log(random, &mut image[start..start + 2 * world.slots], world.words, clock.min(400));
-        }
-        5 => {
-            let at = random.index(world.record.len());
-            world.record[at] = odd_word(random, clock);
-        }
-        6 => {
-            // a field before the pairs of a lane
-            let at = 2 + 40 * random.index(8) + random.index(8);
-            world.record[at] = odd_word(random, clock);
-        }
-        7 => {
-            world.cache[0] = random.below(clock.clamp(1, 100));
-            world.nvm[0] = random.below(clock.clamp(1, 100)) & !1;
-        }
-        _ => {
-            // a clock near its end
-            world.record[0] = u64::MAX - 1 - 2 * random.below(4);
-        }
-    }
-}
-
-/// A lane that is mostly in use, and a call that mostly suits it.
-fn call(random: &mut Random, world: &World, held: &[Vec<u64>; 8]) -> Call {
-    let lane = if random.one_in(40) { odd_word(random, 8) as usize } else { random.index(world.lanes) };
-    let logged = lane < 8 && world.record.get(2 + 40 * lane).is_some_and(|&phase| phase != 0);
-    let mut words = txn(random, world.words);
-    if random.one_in(30) {
-        let at = random.index(words.len());
-        words[at] = odd_word(random, 10);
-    }
-    if random.one_in(60) {
-        words.resize(random.index(70), 1);
-    }
-    match random.below(16) {
-        0 => Call::WriteBack(if random.one_in(10) { odd_word(random, 0) as usize } else { random.index(world.cache.len().max(1)) }),
-        1 => Call::Drain(lane),
-        2 => Call::Mark(lane),
-        3 => Call::Redo(lane),
-        4 => Call::Log(lane, words),
-        5 => Call::Validate(lane, words),
-        6 if random.one_in(4) => {
-            let stores = 2 * world.lanes * world.slots + 1;
-            Call::Recover(match random.below(4) {
-                0 => random.index(stores + 40),
-                1 => stores,
-                2 => random.index(60),
-                _ => usize::MAX,
-            })
-        }
-        7 if random.one_in(10) => {
-            let length = if random.one_in(5) { random.index(40) } else { world.words };
-            Call::Format((0..length).map(|_| random.word()).collect())
-        }
-        number if logged && number % 3 == 0 => Call::Redo(lane),
-        number if logged && number % 3 == 1 => Call::Validate(lane, if lane < 8 { held[lane].clone() } else { words }),
-        _ if logged && random.one_in(2) => Call::Mark(lane),
-        _ => Call::Log(lane, words),
-    }
-}
-
-/// A slice of a length that no call takes, or sizes out of range.
-fn misfit(random: &mut Random, world: &mut World) {
-    match random.below(8) {
-        0 => world.cache.push(0),
-        1 => world.nvm.truncate(world.nvm.len() - 1),
-        2 => world.flags.clear(),
-        3 => world.record.resize(random.pick(&[0, 1, 2, 321, 323, 400]), 0),
-        4 => world.answer.resize(random.pick(&[0, 1, 2, 4]), 7),
-        5 => world.words = random.pick(&[0, 1025, usize::MAX, usize::MAX / 8]),
-        6 => world.lanes = random.pick(&[0, 9, usize::MAX, usize::MAX / 68]),
-        _ => world.slots = random.pick(&[0, 33, 257, usize::MAX, usize::MAX / 2 + 1]),
-    }
-}
-
-fn walk(seed: u64, steps: u64, damaged: bool, seen: &mut Seen) {
-    let random = &mut Random::new(seed);
-    let Sizes { words, lanes, slots } = sizes(random);
-    let mut world = World::new(words, lanes, slots);
-    let start = (0..words).map(|_| if random.one_in(2) { random.below(5) } else { random.word() }).collect();
-    both(&mut world, &Call::Format(start), seen, "format");
-    let mut held: [Vec<u64>; 8] = Default::default();
-    for step in 0..steps {
-        let place = format!("seed {seed}, step {step}");
-        if damaged && random.one_in(4) {
-            damage(random, &mut world);
-        }
-        let call = call(random, &world, &held);
-        if random.one_in(50) {
-            let mut other = world.clone();
-            misfit(random, &mut other);
-            both(&mut other, &call, seen, &place);
-        }
-        both(&mut world, &call, seen, &place);
-        if let Call::Log(lane, txn) = call {
-            if lane < 8 {
-                held[lane] = txn;
-            }
-        }
-    }
-}
-
-/// All outcomes that a call can have.
-const OUTCOMES: [&str; 45] = [
-    "format",
-    "format refused 1",
-    "write-back",
-    "write-back refused 1",
-    "write-back refused 4",
-    "drain",
-    "drain refused 1",
-    "drain refused 2",
-    "drain refused 3",
-    "log",
-    "log without writes",
-    "log refused 1",
-    "log refused 2",
-    "log refused 3",
-    "log refused 5",
-    "log refused 6",
-    "log refused 8",
-    "log refused 9",
-    "redo",
-    "redo stale",
-    "redo refused 1",
-    "redo refused 2",
-    "redo refused 3",
-    "redo refused 7",
-    "redo refused 8",
-    "validate",
-    "validate changed",
-    "validate refused 1",
-    "validate refused 2",
-    "validate refused 3",
-    "validate refused 5",
-    "validate refused 7",
-    "validate refused 8",
-    "mark",
-    "mark dropped",
-    "mark refused 1",
-    "mark refused 2",
-    "mark refused 3",
-    "mark refused 8",
-    "mark refused 9",
-    "recover",
-    "recover none",
-    "recover cut",
-    "recover refused 1",
-    "recover refused 10",
-];
 
 #[test]
 fn same_on_pseudo_random_calls() {
-    let mut seen = Seen::new();
+    let mut seen = Seen::default();
+    let mut make = |world: &mut World, call: &Call, place: &str| both(world, call, &mut seen, place);
     for seed in 1..=300 {
-        walk(seed, 200, false, &mut seen);
-        walk(1_000_000 + seed, 200, true, &mut seen);
+        walk(seed, 200, false, &mut make);
+        walk(1_000_000 + seed, 200, true, &mut make);
     }
-    let calls: u64 = seen.values().sum();
-    println!("{calls} calls: {seen:#?}");
-    for outcome in OUTCOMES {
-        assert!(seen.get(outcome).is_some_and(|&times| times >= 5), "too few of: {outcome}");
-    }
-    for outcome in seen.keys() {
-        assert!(OUTCOMES.contains(&outcome.as_str()), "not expected: {outcome}");
-    }
+    seen.assert_all(5);
 }
 
 #[test]
 fn same_on_the_recovery_images() {
-    let mut seen = Seen::new();
+    let mut seen = Seen::default();
     for (words, lanes, slots) in [(1, 1, 34), (16, 1, 34), (16, 3, 101), (256, 4, 64), (1024, 8, 256), (7, 8, 255)] {
         for logs in images::ALL {
             let image = images::image(Sizes { words, lanes, slots }, logs);

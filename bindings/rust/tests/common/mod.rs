@@ -1,6 +1,8 @@
 //! What the tests share: both implementations as tables of calls, a store's buffers, and a small generator of pseudo-random numbers.
 #![allow(dead_code)]
 
+pub mod states;
+
 use vandzulge::{plain, raw, ANSWER_WORDS, RECORD_WORDS};
 
 type Step = fn(usize, usize, usize, &mut [u64], &mut [u64], &mut [u8], &mut [u64], &mut [u64], usize) -> u64;
