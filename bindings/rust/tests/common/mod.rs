@@ -2,7 +2,10 @@
 #![allow(dead_code)]
 
 pub mod states;
+#[cfg(all(target_arch = "x86_64", target_os = "linux"))]
+pub mod stores;
 
+use std::mem::take;
 use vandzulge::{plain, raw, ANSWER_WORDS, RECORD_WORDS};
 
 type Step = fn(usize, usize, usize, &mut [u64], &mut [u64], &mut [u8], &mut [u64], &mut [u64], usize) -> u64;
@@ -89,7 +92,15 @@ impl World {
 
     /// Makes the call and returns its number.
     pub fn call(&mut self, calls: &Calls, call: &Call) -> u64 {
-        let World { words, lanes, slots, cache, nvm, flags, record, answer } = self;
+        let (mut cache, mut nvm) = (take(&mut self.cache), take(&mut self.nvm));
+        let number = self.call_on(calls, call, &mut cache, &mut nvm);
+        (self.cache, self.nvm) = (cache, nvm);
+        number
+    }
+
+    /// The same on a cache and a non-volatile memory that stand elsewhere.
+    pub fn call_on(&mut self, calls: &Calls, call: &Call, cache: &mut [u64], nvm: &mut [u64]) -> u64 {
+        let World { words, lanes, slots, flags, record, answer, .. } = self;
         let (w, t, n) = (*words, *lanes, *slots);
         match call {
             Call::Format(start) => (calls.format)(w, t, n, start, cache, nvm, flags, record),
