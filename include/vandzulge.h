@@ -1,7 +1,7 @@
 /* Vandzulge: a transactional store for persistent memory. Link with libabi.a (x86-64; written by `rt staticlib abi`).
  *
  * Every function returns 0 where the call was taken, else the number of its refusal. After a refusal all is as it was, record and answer too.
- * The library has no heap, no threads and no global state; it uses less than 32 KB of stack, and calls nothing but memcpy and memset.
+ * The library has no heap, no threads and no global state; it uses less than 32 KB of stack, and calls nothing but memcpy and memset, to which only Format hands a part of nvm.
  *
  * What each call is lent, with W = words (1 to 1,024), T = lanes (1 to 8), N = slots a lane (34 to 256):
  *   cache, nvm   the cached image and the non-volatile memory, VANDZULGE_IMAGE_WORDS(W, T, N) words each: base word, data words, each lane's log
@@ -14,6 +14,11 @@
  *
  * What the caller owes: no null pointer, also where a length is 0; each pointer has its length in elements, aligned; a buffer that is written overlaps no
  * other one; nobody else touches them during a call, nor writes them between calls. All else is checked: any words are taken as a record, transaction or image.
+ *
+ * What is left to the platform: an aligned 64-bit store to nvm is whole, also where power fails (the memory has the old word or the new one), and such stores reach the
+ * memory in the code's order; the library has no fences and flushes no processor cache. Every store to nvm but Format's is one aligned 64-bit store. The order: a step stores
+ * the words that its lane has flushed before it changes the cache; recovery stores the entries undone, then the base word, then the log words in rising order, each only
+ * where it is not 0 yet, and then changes the cache.
  *
  * Refusals, the lowest number wins:
  *    1 a size out of range, or a slice of another length      6 Log on a lane that holds a transaction

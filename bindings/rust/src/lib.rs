@@ -2,6 +2,9 @@
 //!
 //! [`Store`] holds what a call is lent and answers with enums. [`raw`] has the same calls on words, as in C, and [`plain`] a plain implementation on the same words
 //! that tests and timing compare with.
+//!
+//! The library calls nothing but `memcpy` and `memset`, to which only Format hands a part of `nvm`; every other store to `nvm` is one aligned 64-bit word. What is left to the
+//! platform: such a store is whole, also where power fails, and the stores reach the memory in the code's order. The library has no fences.
 
 pub mod images;
 pub mod plain;
