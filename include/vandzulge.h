@@ -90,7 +90,7 @@ uint64_t vandzulge_mark(size_t words, size_t lanes, size_t slots,
 
 /* Recovery, after a power cut: from nvm alone, with at most `limit` stores to it, the words at one boundary; the record's old words are not read.
  * Answer: 0, 0, 0 where stores remain (cut; the record is untouched and lost: recover again, or format); 1, 0, undone where there was no boundary;
- * 2, boundary, undone. Refusals 1, 10. One pass over the logs, one over the image, a store for each entry undone,
+ * 2, boundary, undone. A log word that is 0 already counts as stored. Refusals 1, 10. One pass over the logs, one over the image, a store for each entry undone,
  * and for each sequence undone, or timestamp that is not complete, at most 8 steps in a tree and a look at each lane: docs/PERFORMANCE.md has the worst images. */
 uint64_t vandzulge_recover(size_t words, size_t lanes, size_t slots,
     uint64_t *cache, size_t cache_len, uint64_t *nvm, size_t nvm_len, uint8_t *flags, size_t flags_len,
