@@ -11,8 +11,9 @@ use lib.Seq.{drop-cons, take-suc-set, take-length}
 use borrow.Author.Tests.{ne-eqb, eqb-true}
 use Rattle.laws.specs.Tests.{and-left, and-right}
 use Rattle.image.specs.Image.{sizesOk, imageLength}
+use Rattle.image.specs.ImageLaws.{sizes-in, length-small}
 use Rattle.image.specs.declared.Sizes.{Sizes}
-use Rattle.report.specs.Report.{littleEndian, wordAt, sizesIn, wordsIn, wellFormed}
+use Rattle.report.specs.Report.{littleEndian, wordAt, sizesIn, wordsIn, wellFormed, longest}
 
 -- ---- bytes
 -- one byte more
@@ -93,6 +94,9 @@ module _ (input : List ℕ) where
   pub well-long : wellFormed input ≡ true → length input ≡ 8 * (3 + imageLength (sizesIn input))
   unfolding wellFormed
   well-long e = eqb-true _ _ (and-right (sizesOk (sizesIn input)) _ e)
+
+  pub well-short : wellFormed input ≡ true → length input ≤ longest
+  well-short e = omega (arith, well-long e, length-small _ (sizes-in _ (well-sized e)))
 
   -- the same of sizes that were read before
   module _ (z : Sizes) (w : wellFormed input ≡ true) (e : z ≡ sizesIn input) where

@@ -136,3 +136,14 @@ pub record Put (at : ℕ) (text buffer : List ℕ) (next : ℕ) (after : List �
   pub fits : at + length text ≤ length buffer
   pub ends : next ≡ at + length text
   pub left : after ≡ putAt at text buffer
+
+-- ---- from standard input to standard output
+-- no well formed input is longer: three sizes, and an image of 5,121 words
+abbrev pub longest : ℕ
+longest = 40992
+
+-- r bytes are the report of an input: all that was read, and that is at most one byte more than the longest
+pub record Reported (r : ℕ) : Type 0 where
+  pub input : List ℕ
+  pub read : length input ≤ longest + 1
+  pub printed : r ≡ length (reportOf input)

@@ -4,9 +4,11 @@ use mathlib.Core.Bool.{true, false}
 use mathlib.Core.List.{List, [], _∷_, _++_}
 use Prim.Native.Nat.{ℕ, zero, suc, _+_, _-_, _≤_, _<_}
 use native.Mathlib.Omega.{arith}
+use lib.Dec.{leb}
 use lib.ListN.{length, take, drop, replicate, length-drop, length-replicate}
-use lib.Seq.{length-take-le}
-use borrow.Author.Tests.{le-leb, lt-leb}
+use lib.Seq.{length-take-le, take-all}
+use borrow.Author.Tests.{le-leb, lt-leb, leb-true, leb-false}
+use Rattle.laws.specs.Tests.{split}
 use Rattle.image.specs.Image.{sizesOk, imageLength, dataOf}
 use Rattle.image.specs.ImageLaws.{sizes-in}
 use Rattle.image.specs.declared.Sizes.{Sizes}
@@ -15,7 +17,8 @@ use Rattle.store.specs.Interface.{blankOf}
 use Rattle.recovery.specs.Recovery.{recoverStep}
 use Rattle.recovery.specs.Interface.{restartedOf}
 use Rattle.recovery.specs.declared.Restart.{Restart}
-use Rattle.report.specs.Report.{sizesIn, wordsIn, imageIn, wellFormed, boundaryLine, refusedLine, wordLines, finishedText, noLimit, blank, recoveredFrom, answerText, restartText, reportOf, room, printedOf, Put}
+use Rattle.report.specs.Report.{sizesIn, wordsIn, imageIn, wellFormed, boundaryLine, refusedLine, wordLines, finishedText, noLimit, blank, recoveredFrom, answerText, restartText, reportOf, longest, room, printedOf, Put, Reported}
+use Rattle.report.specs.ReadingLaws.{well-short}
 use Rattle.report.specs.PrintingLaws.{put-long, take-put, drop-put}
 
 -- ---- which text
@@ -43,6 +46,26 @@ module _ (input : List ℕ) where
   pub printed-all : (size : ℕ) → room ≤ size → reportOf input ≡ printedOf size input
   unfolding printedOf
   printed-all size h = rw (le-leb room size h)
+
+-- ---- an input of which the first bytes were read
+module _ (input : List ℕ) where
+  long-refused : longest < length input → reportOf input ≡ refusedLine 1
+  long-refused h = split (wellFormed input) (λ e. absurd (omega (arith, well-short input e))) (λ e. sym (report-refused input e))
+
+-- one byte more than the longest is enough: the report of these bytes is that of the whole input
+pub taken-same : (input : List ℕ) → reportOf (take (longest + 1) input) ≡ reportOf input
+taken-same input =
+    split (leb (length input) (longest + 1))
+    (λ e. ap reportOf (take-all (longest + 1) input (leb-true _ _ e)))
+    (λ e.
+    let more : longest + 1 < length input = leb-false _ _ e in
+    long-refused (take (longest + 1) input) (omega (arith, length-take-le (longest + 1) input (omega arith))) ∙ sym (long-refused input (omega arith)))
+
+-- the report of what was read, in a buffer with room for any report
+pub reported : (input : List ℕ) (size r : ℕ) (output : List ℕ) → length input ≤ longest + 1 → room ≤ size → r ≡ length (take r output)
+    → take r output ≡ printedOf size input → Reported r
+reported input size r output few big counts shown =
+    record { input = input; read = few; printed = counts ∙ ap length (shown ∙ sym (printed-all input size big)) }
 
 -- ---- blank buffers
 take-replicate : (n m : ℕ) → n ≤ m → take {A = ℕ} n (replicate m 0) ≡ replicate n 0

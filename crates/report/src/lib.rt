@@ -1,18 +1,23 @@
 // The report of program `recover`, from bytes to bytes: W, T, N and an image are read, recovery runs on the image, and the boundary and the data words are printed.
-// Reading is in reading.rt, printing in printing.rt.
+// Reading is in reading.rt, printing in printing.rt. At the end, the same from standard input to standard output.
 ghost use mathlib.Core.Path.{_≡_};
 ghost use mathlib.Core.Bool.{true};
-ghost use Prim.Native.Nat.{_≤_};
+ghost use Prim.Native.Nat.{_+_, _≤_};
 ghost use lib.ListN.{length, take, drop};
 ghost use Rattle.io.specs.Counts.{Counts};
 ghost use Rattle.image.specs.Image.{sizesOk, imageLength};
-ghost use Rattle.report.specs.Report.{sizesIn, wellFormed, blank, finishedText, answerText, reportOf, room, printedOf, Put};
+ghost use Rattle.report.specs.Report.{sizesIn, wellFormed, blank, finishedText, answerText, reportOf, longest, room, printedOf, Put, Reported};
 use image::Sizes;
+use libc::STDIN_FILENO;
+use libc::STDOUT_FILENO;
 use log::Timestamp;
 use recovery::Recovered;
 
 mod printing;
 mod reading;
+
+// One byte more than the longest input that is not refused, which is three sizes and an image of 5,121 words: a longer one is then refused, and not cut to one that is well formed.
+const TAKEN: usize = 40993;
 
 // No report is longer: 30 bytes for the boundary, 42 for each of 1,024 words.
 const ROOM: usize = 43038;
@@ -103,4 +108,29 @@ pub fn report(input: &[u8], output: &mut [u8]) -> usize
         &mut flags[..length],
         output,
     )
+}
+
+fn input_buffer() -> [u8; TAKEN]
+    ensures { λ r. ⌜ longest + 1 ≡ length r ⌝ }
+{
+    [0; TAKEN]
+}
+
+fn output_buffer() -> [u8; ROOM]
+    ensures { λ r. ⌜ room ≡ length r ⌝ }
+{
+    [0; ROOM]
+}
+
+// Reads standard input to its end, but no more than tells whether it is too long, and prints its report on standard output; answers how many bytes the report has.
+// No contract can say which bytes are read and written: this one says that there was an input, and that the report of it is whole.
+pub fn report_input() -> usize
+    ensures { λ r. ⌜ Reported r ⌝ }
+{
+    let mut input = input_buffer();
+    let count = io::read_full(STDIN_FILENO, &mut input);
+    let mut output = output_buffer();
+    let length = report(&input[..count], &mut output);
+    io::write_all(STDOUT_FILENO, &output[..length]);
+    length
 }

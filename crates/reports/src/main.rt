@@ -1,4 +1,4 @@
-// Program `reports`: the reports of odd inputs, and of inputs at the ends of the ranges, one after the other.
+// Program `reports`: the reports of odd inputs, and of inputs at the ends of the ranges, one after the other; then, as program `recover` does it, that of standard input.
 ghost use Prim.Native.Nat.{_*_, _<_, _≤_};
 ghost use lib.ListN.{length};
 ghost use Rattle.io.specs.Counts.{Counts};
@@ -95,4 +95,5 @@ fn main() {
     ranges();
     images();
     greatest();
+    report::report_input();
 }
