@@ -7,7 +7,8 @@
  *   cache, nvm   the cached image and the non-volatile memory, VANDZULGE_IMAGE_WORDS(W, T, N) words each: base word, data words, each lane's log
  *   flags        one byte for each image word; bit L: lane L has flushed this word
  *   record       VANDZULGE_RECORD_WORDS words that Format or a finished recovery makes and the calls keep: clock, last commit, then 40 words a lane:
- *                phase (0 idle), first slot, count, timestamp, next slot, wrap bit, floor (0 none), floor's value, 16 pairs of word number and value
+ *                phase (0 idle), first slot, count, timestamp, next slot, wrap bit, floor (0 none), floor's value, 16 pairs of word number and value.
+ *                A taken call writes them all: a phase or floor word that is set becomes 1, words that say nothing 0, in lanes not in use too
  *   answer       VANDZULGE_ANSWER_WORDS words
  *   txn          a transaction: 4 words an instruction (code, a, b, k), 1 to 16 instructions; unused fields are 0, a and b are data word numbers
  *                1 SET a := k   2 COPY a := [b]   3 ADD a := [b] + k   4 POKE word [b] mod W := k   5 SKIP the next k (1 to 15) if [b] is 0

@@ -56,7 +56,8 @@ pub fn recover_refusal(sizes: Sizes, cache: &[u64], nvm: &[u64], flags: &[u8]) -
     0
 }
 
-// All stores, as far as the limit goes: entries undone, the base timestamp, the log words. The arrays have a place for each slot of each lane.
+// All stores, as far as the limit goes: entries undone, the base timestamp, the log words, by the last three calls below and in their order. The contract says what
+// stands there after the first `limit` of them, not in which order they came. The arrays have a place for each slot of each lane.
 fn make_stores(
     sizes: Sizes,
     nvm: &mut [u64],

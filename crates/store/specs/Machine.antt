@@ -1,4 +1,4 @@
--- The machine that a call works on: the record and the three buffers; a step of it; refusals. 01, "Refused calls". Assumes nothing.
+-- The machine that a call works on: the record and the three buffers; a step of it; refusals; what an answer says. 01, "Refused calls". Assumes nothing.
 use Prim.Native.Nat.{ℕ}
 use mathlib.Core.Bool.{Bool, true, false, cond}
 use mathlib.Core.List.{List, [], _∷_}
