@@ -12,9 +12,14 @@ use crate::words::NVM;
 use crate::words::NVM_LENGTH;
 use crate::words::RECORD;
 use crate::words::ROOM;
+use crate::words::SPOILED;
+use crate::words::SPOILED_WORD;
 use crate::words::START;
 use crate::words::STATE;
 use crate::words::STORED;
+use crate::words::STORED_CACHE;
+use crate::words::STORED_FLAGS;
+use crate::words::STORED_NVM;
 use crate::words::TXN;
 use crate::words::USED;
 use crate::words::get;
@@ -216,34 +221,45 @@ fn load_bytes(bench: &Bench, to: &mut [u8]) {
     }
 }
 
-fn same_words(bench: &Bench, region: u64, words: &[u64]) -> bool {
+fn keep(bench: &mut Bench, region: u64, words: &[u64]) {
     for i in 0..words.len() {
-        if words[i] != get(bench, region, i as u64) {
-            return false;
-        }
+        put(bench, region, i as u64, words[i]);
     }
-    true
 }
 
 fn wide(byte: u8) -> u64 {
     byte as u64
 }
 
-fn same_bytes(bench: &Bench, bytes: &[u8]) -> bool {
+fn keep_bytes(bench: &mut Bench, bytes: &[u8]) {
     for i in 0..bytes.len() {
-        if wide(bytes[i]) != get(bench, FLAGS, i as u64) {
-            return false;
-        }
+        put(bench, STORED_FLAGS, i as u64, wide(bytes[i]));
     }
-    true
 }
 
-// Is what the store left what the second implementation left: record, answer, refusal asked beforehand, cache, non-volatile memory, flags?
-fn same_all(bench: &Bench, cache: &[u64], nvm: &[u64], flags: &[u8]) -> bool {
+// What the store left in the buffers.
+fn keep_all(bench: &mut Bench, cache: &[u64], nvm: &[u64], flags: &[u8]) {
+    keep(bench, STORED_CACHE, cache);
+    keep(bench, STORED_NVM, nvm);
+    keep_bytes(bench, flags);
+}
+
+// Spoils the word that STATE says, if any, of what the store left.
+fn spoil(bench: &mut Bench) {
+    let region = get(bench, STATE, SPOILED);
+    if region != 0 {
+        let i = get(bench, STATE, SPOILED_WORD);
+        let word = get(bench, region, i);
+        put(bench, region, i, word ^ 1);
+    }
+}
+
+// Is what the store left what the second implementation left: record, answer, refusal asked beforehand, and so many words of cache, non-volatile memory and flags?
+fn same_all(bench: &Bench, cache: u64, nvm: u64, flags: u64) -> bool {
     same(bench, RECORD, STORED, second::LENGTH)
-        && same_words(bench, CACHE, cache)
-        && same_words(bench, NVM, nvm)
-        && same_bytes(bench, flags)
+        && same(bench, CACHE, STORED_CACHE, cache)
+        && same(bench, NVM, STORED_NVM, nvm)
+        && same(bench, FLAGS, STORED_FLAGS, flags)
 }
 
 fn load_all(
@@ -269,8 +285,15 @@ fn run_in(
 ) -> bool {
     load_all(bench, cache, nvm, flags, words);
     call(bench, cache, nvm, flags, words);
+    keep_all(bench, cache, nvm, flags);
+    spoil(bench);
     second::call(bench);
-    same_all(bench, cache, nvm, flags)
+    same_all(
+        bench,
+        cache.len() as u64,
+        nvm.len() as u64,
+        flags.len() as u64,
+    )
 }
 
 // A length of STATE, at most that of the room for it.

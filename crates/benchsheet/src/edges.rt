@@ -80,7 +80,7 @@ pub(crate) fn prepare(bench: &mut Bench, lane: u64, held: bool) {
 }
 
 // A start with a lane prepared for a call.
-fn start_for(bench: &mut Bench, code: u64, lane: u64) {
+pub(crate) fn start_for(bench: &mut Bench, code: u64, lane: u64) {
     start(bench);
     prepare(bench, lane, second::commits(code));
 }

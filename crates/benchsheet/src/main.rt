@@ -1,7 +1,8 @@
-// The bench sheet's half that is run: the store's calls against a second implementation. Prints what it ran, and how many calls differed.
+// The bench sheet's half that is run: the store's calls against a second implementation. Prints what it ran, what the store answered, and how many calls differed.
 mod any;
 mod both;
 mod causes;
+mod control;
 mod convert;
 mod edges;
 mod generator;
@@ -36,21 +37,23 @@ const CLOCKS: u64 = 5;
 
 const RECORDS: u64 = 6;
 
-const SETS: u64 = 7;
+const SPOILED: u64 = 7;
 
-const OVERWRITING: u64 = 8;
+const SETS: u64 = 8;
 
-const TWO_LANES: u64 = 9;
+const OVERWRITING: u64 = 9;
 
-const CUTS: u64 = 10;
+const TWO_LANES: u64 = 10;
 
-const SMALL_LISTS: u64 = 11;
+const CUTS: u64 = 11;
 
-const FULL_LISTS: u64 = 12;
+const SMALL_LISTS: u64 = 12;
 
-const SMALL_STATES: u64 = 13;
+const FULL_LISTS: u64 = 13;
 
-const FULL_STATES: u64 = 14;
+const SMALL_STATES: u64 = 14;
+
+const FULL_STATES: u64 = 15;
 
 // Case i of an edge.
 fn edge(bench: &mut Bench, group: u64, i: u64) {
@@ -68,6 +71,7 @@ fn edge(bench: &mut Bench, group: u64, i: u64) {
 // Case i of a group.
 fn case(bench: &mut Bench, group: u64, i: u64) {
     match group {
+        SPOILED => control::spoiled(bench, i),
         SETS => causes::every_set(bench, i),
         OVERWRITING => causes::overwriting(bench, i),
         TWO_LANES => scenario::run(bench),
@@ -114,6 +118,16 @@ fn more_edges(bench: &mut Bench) {
     run(bench, RECORDS, 200, b"records");
 }
 
+// The comparison sees a spoiled word, wherever it is: all of these differ.
+fn spoiled_results(bench: &mut Bench) {
+    run(
+        bench,
+        SPOILED,
+        2056,
+        b"control, one word of the store's result spoiled",
+    );
+}
+
 fn refusals_and_scenario(bench: &mut Bench) {
     run(bench, SETS, 8192, b"sets of causes");
     run(bench, OVERWRITING, 544, b"overwriting");
@@ -139,6 +153,7 @@ fn main() {
     let mut bench = [0u64; ALL];
     first_edges(&mut bench);
     more_edges(&mut bench);
+    spoiled_results(&mut bench);
     refusals_and_scenario(&mut bench);
     random(&mut bench);
 }

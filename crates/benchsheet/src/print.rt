@@ -1,12 +1,12 @@
-// Lines of output.
+// Lines of output. The answers are the store's.
 use crate::second;
 use crate::session;
 use crate::words::Bench;
 use crate::words::CODE;
 use crate::words::LANES;
-use crate::words::RECORD;
 use crate::words::SLOTS;
 use crate::words::STATE;
+use crate::words::STORED;
 use crate::words::TALLY;
 use crate::words::WORDS;
 use crate::words::get;
@@ -29,11 +29,11 @@ fn logged(bench: &Bench) {
 }
 
 fn stamped(bench: &Bench, name: &[u8]) {
-    counted(name, get(bench, RECORD, second::STAMP));
+    counted(name, get(bench, STORED, second::STAMP));
 }
 
 fn answered(bench: &Bench, name: &[u8]) {
-    counted(name, get(bench, RECORD, second::ANSWER));
+    counted(name, get(bench, STORED, second::ANSWER));
 }
 
 fn recovered(bench: &Bench) {

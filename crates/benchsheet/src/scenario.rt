@@ -11,6 +11,7 @@ use crate::words::MOST;
 use crate::words::NVM;
 use crate::words::SEED;
 use crate::words::STATE;
+use crate::words::STORED_NVM;
 use crate::words::TXN;
 use crate::words::copy;
 use crate::words::get;
@@ -76,7 +77,11 @@ pub(crate) fn run(bench: &mut Bench) {
     copy(bench, NVM, IMAGE, 0, 139);
     recover(bench, MOST);
     print::row(b"recovery", bench);
-    print::pair(b"words ", get(bench, NVM, 1), get(bench, NVM, 2));
+    print::pair(
+        b"words ",
+        get(bench, STORED_NVM, 1),
+        get(bench, STORED_NVM, 2),
+    );
 }
 
 // Recovery cut after `limit` stores, and done again: both words are 0. There are 140 stores: three entries, the base timestamp, and 136 log words.
@@ -84,5 +89,8 @@ pub(crate) fn run_cut(bench: &mut Bench, limit: u64) {
     copy(bench, IMAGE, NVM, 0, 139);
     recover(bench, limit);
     recover(bench, MOST);
-    session::expect(bench, get(bench, NVM, 1) == 0 && get(bench, NVM, 2) == 0);
+    session::expect(
+        bench,
+        get(bench, STORED_NVM, 1) == 0 && get(bench, STORED_NVM, 2) == 0,
+    );
 }

@@ -7,9 +7,11 @@ use crate::words::Bench;
 use crate::words::RECORD;
 use crate::words::SAVED;
 use crate::words::STATE;
+use crate::words::STORED;
 use crate::words::TALLY;
 use crate::words::copy;
 use crate::words::get;
+use crate::words::only;
 use crate::words::plus;
 use crate::words::put;
 use crate::words::set_row;
@@ -39,13 +41,16 @@ fn count(bench: &mut Bench, same: bool) {
     add(bench, plus(BY_NUMBER, number), number != 0);
 }
 
-// The kind of the last answer, and the number of its refusal, or 0.
+// The kind of the store's last answer, and the number of its refusal, or 0.
 pub(crate) fn kind(bench: &Bench) -> u64 {
-    get(bench, RECORD, second::KIND)
+    get(bench, STORED, second::KIND)
 }
 
 pub(crate) fn refusal(bench: &Bench) -> u64 {
-    get(bench, RECORD, second::REFUSAL)
+    only(
+        kind(bench) == second::REFUSED,
+        get(bench, STORED, second::ANSWER),
+    )
 }
 
 // Counts a difference where something does not hold.

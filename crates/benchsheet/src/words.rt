@@ -2,8 +2,8 @@
 // it stands: past the end of a region a read gives 0 and a store does nothing, sums and differences wrap, and factors are cut to 13 bits.
 pub(crate) type Bench = [u64; ALL];
 
-// Eighteen regions.
-pub(crate) const ALL: usize = 147456;
+// Twenty-one regions.
+pub(crate) const ALL: usize = 172032;
 
 // ---- regions of the run
 // Numbers of the call that is next.
@@ -12,7 +12,7 @@ pub(crate) const STATE: u64 = 0;
 // How many calls of a group had which answer.
 pub(crate) const TALLY: u64 = 1;
 
-// The record and the answer of the second implementation; the record before the call; what the store left.
+// The record and the answer of the second implementation; the record before the call; the record and the answer of the store.
 pub(crate) const RECORD: u64 = 2;
 
 pub(crate) const SAVED: u64 = 3;
@@ -49,6 +49,13 @@ pub(crate) const PLACES: u64 = 16;
 
 pub(crate) const VALUES: u64 = 17;
 
+// ---- what the store left in the three buffers
+pub(crate) const STORED_CACHE: u64 = 18;
+
+pub(crate) const STORED_NVM: u64 = 19;
+
+pub(crate) const STORED_FLAGS: u64 = 20;
+
 // ---- the numbers in STATE, in rows
 pub(crate) const SEED: u64 = 0;
 
@@ -72,6 +79,11 @@ pub(crate) const CACHE_LENGTH: u64 = 12;
 pub(crate) const NVM_LENGTH: u64 = 13;
 
 pub(crate) const FLAGS_LENGTH: u64 = 14;
+
+// The word of what the store left that is spoiled: its region, or 0 for none, and its number there.
+pub(crate) const SPOILED: u64 = 16;
+
+pub(crate) const SPOILED_WORD: u64 = 17;
 
 // ---- other numbers
 // The words of the longest image, 5,121, and one more for a buffer that is too long.

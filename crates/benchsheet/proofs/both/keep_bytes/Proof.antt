@@ -1,14 +1,14 @@
--- `both::same_bytes` is safe and ends: the loop counts its turns. Assumes nothing.
+-- `both::keep_bytes` is safe and ends: the loop counts its turns. Assumes nothing.
 use borrow.Author.Needs.{needs}
 use Prim.Native.Nat.{_-_}
-use Rattle.benchsheet.proofs.both.same_bytes.Statement.{statement}
-use Rattle.benchsheet.proofs.both.same_bytes.Tie as tie
+use Rattle.benchsheet.proofs.both.keep_bytes.Statement.{statement}
+use Rattle.benchsheet.proofs.both.keep_bytes.Tie as tie
 
 abbrev Inv-loop : tie.InvT-loop
-Inv-loop bench bytes i₀ i-end i = Unit
+Inv-loop bench₀ bytes i₀ i-end bench i = Unit
 
 abbrev μ-loop : tie.MeasureT-loop
-μ-loop bench bytes i₀ i-end i = i-end - i
+μ-loop bench₀ bytes i₀ i-end bench i = i-end - i
 
 loop-holds : tie.Need-loop-holds Inv-loop μ-loop
 loop-holds c = search needs
@@ -19,11 +19,8 @@ shared-slice-read-wide c = search needs
 wide-requires : tie.Need-wide-requires Inv-loop μ-loop
 wide-requires c κs = search needs
 
-get-requires : tie.Need-get-requires Inv-loop μ-loop
-get-requires c κs = search needs
-
-returns : tie.Need-returns Inv-loop μ-loop
-returns c = search needs
+put-requires : tie.Need-put-requires Inv-loop μ-loop
+put-requires c κs = search needs
 
 add-i : tie.Need-add-i Inv-loop μ-loop
 add-i c = search needs
@@ -34,11 +31,11 @@ loop-less c = search needs
 loop-again : tie.Need-loop-again Inv-loop μ-loop
 loop-again c = search needs
 
-returns-2 : tie.Need-returns-2 Inv-loop μ-loop
-returns-2 c = search needs
+returns : tie.Need-returns Inv-loop μ-loop
+returns c = search needs
 
-pub same-bytes-spec : {M : Type 1} → statement M
-same-bytes-spec =
+pub keep-bytes-spec : {M : Type 1} → statement M
+keep-bytes-spec =
     tie.close
     (tie.spec
     Inv-loop
@@ -46,9 +43,8 @@ same-bytes-spec =
     loop-holds
     shared-slice-read-wide
     wide-requires
-    get-requires
-    returns
+    put-requires
     add-i
     loop-less
     loop-again
-    returns-2)
+    returns)
