@@ -25,6 +25,10 @@ use Rattle.crash.specs.Theorem.{CrashTheorem}
 use Rattle.crash.proofs.Worked.{small, junk, set0, copy, writeBacks, twoLanes}
 use Rattle.crash.proofs.Refute.{wrong-words, wrong-clock, wrong-answer, wrong-count, wrong-recovery, refuting}
 
+-- A refutation names the store, the sizes, the start words, the events, then the last event, and two lists: the numbers that the store has at its end, and those that the theorem
+-- gives. `wrong-recovery` looks at the data words after a recovery, `wrong-count` at how many entries it says to have undone, `wrong-words` at the cached data words,
+-- `wrong-clock` at the clock, `wrong-answer` at the number and the timestamp of an answer. `refl` computes the list and sees that they differ.
+
 -- ---- how a store differs from ours
 -- in its calls
 abbrev Calls : Type 0
@@ -147,8 +151,8 @@ never-full : CrashTheorem (calling neverFull) → ⊥
 unfolding made neverFull additions
 never-full = wrong-recovery (calling neverFull) small (0 ∷ 0 ∷ []) (call (mark 1) ∷ threeOnLane0) 1000 junk (16 ∷ 0 ∷ []) (0 ∷ 0 ∷ []) refl
 
--- 3. A second attempt is logged over the first, which was drained. The wrap bits are the same: with its first word alone stored, the first slot
--- passes for an entry of word 1 with the old value of word 0, and word 1 becomes 0
+-- 3. A second attempt is logged over the first, which was drained; 9, which would keep it from that, is never answered. The wrap bits are the same: with its
+-- first word alone stored, the first slot passes for an entry of word 1 with the old value of word 0, and word 1 becomes 0
 unfoldable overFirst : Design
 overFirst =
     calling
