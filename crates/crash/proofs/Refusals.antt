@@ -101,28 +101,28 @@ module _ (z : Sizes) (h : History) (m : Machine) (v : Live z h m) where
 
     module _ (ok : Fine z m) where
       log-refusal : (L : ℕ) (f : List ℕ) → refusalOf z (log L f) m ≡ refusalBy z (log L f) h m
-      unfolding refusalOf logRefusal refusalBy causesBy badBuffers badRecord badLane badTxn book.badLane book.badTxn
+      unfolding refusalOf logRefusal refusalBy causesBy badBuffers badRecord badLane badTxn
       log-refusal L f =
           past-two _ _ (leb z.lanes L) 3 _ _ (ok .buffers) (ok .fields)
           (λ e. let l = leb-false z.lanes L e in rw (same-writes f, same-spent, same-held L l, log-full L f l))
 
       mark-refusal : (L : ℕ) → refusalOf z (mark L) m ≡ refusalBy z (mark L) h m
-      unfolding refusalOf markRefusal refusalBy causesBy badBuffers badRecord badLane clockSpent book.badLane
+      unfolding refusalOf markRefusal refusalBy causesBy badBuffers badRecord badLane clockSpent
       mark-refusal L =
           past-two _ _ (leb z.lanes L) 3 _ _ (ok .buffers) (ok .fields) (λ e. rw (same-spent, mark-full L (leb-false z.lanes L e)))
 
       redo-refusal : (L : ℕ) → refusalOf z (redo L) m ≡ firstCause (causesBy z (redo L) h)
-      unfolding refusalOf redoRefusal causesBy badBuffers badRecord badLane notLogged clockSpent book.badLane book.notHeld
+      unfolding refusalOf redoRefusal causesBy badBuffers badRecord badLane notLogged clockSpent book.notHeld
       redo-refusal L =
           past-two _ _ (leb z.lanes L) 3 _ _ (ok .buffers) (ok .fields) (λ e. rw (same-spent, same-held L (leb-false z.lanes L e)))
 
       validate-refusal : (L : ℕ) (f : List ℕ) → refusalOf z (validate L f) m ≡ firstCause (causesBy z (validate L f) h)
-      unfolding refusalOf validateRefusal causesBy badBuffers badRecord badLane badTxn notLogged clockSpent book.badLane book.badTxn book.notHeld
+      unfolding refusalOf validateRefusal causesBy badBuffers badRecord badLane badTxn notLogged clockSpent book.notHeld
       validate-refusal L f =
           past-two _ _ (leb z.lanes L) 3 _ _ (ok .buffers) (ok .fields) (λ e. rw (same-spent, same-held L (leb-false z.lanes L e)))
 
       drain-refusal : (L : ℕ) → refusalOf z (drain L) m ≡ firstCause (causesBy z (drain L) h)
-      unfolding refusalOf drainRefusal causesBy badBuffers badRecord badLane book.badLane
+      unfolding refusalOf drainRefusal causesBy badBuffers badRecord badLane
       drain-refusal L = past-two _ _ (leb z.lanes L) 3 _ _ (ok .buffers) (ok .fields) (λ e. refl)
 
       pub refusal-by : (c : Call) → refusalOf z c m ≡ refusalBy z c h m

@@ -71,11 +71,11 @@ cut-step z limit m r e = rw (r, e)
 -- the answer is the one that the theorem gives
 answer-finished : (z : Sizes) (limit : ℕ) (nvm : List ℕ) → allMade z limit nvm ≡ true
     → Recovered.Finished (record { boundary = boundary z nvm; undone = length (undoStores z nvm) }) ≡ recoveryAnswer z limit nvm
-unfolding allMade recoveryAnswer
+unfolding recoveryAnswer
 answer-finished z limit nvm e = rw e
 
 answer-cut : (z : Sizes) (limit : ℕ) (nvm : List ℕ) → allMade z limit nvm ≡ false → Cut ≡ recoveryAnswer z limit nvm
-unfolding allMade recoveryAnswer
+unfolding recoveryAnswer
 answer-cut z limit nvm e = rw e
 
 -- ---- any number of recoveries cut short

@@ -5,13 +5,14 @@ use mathlib.Core.List.{List, [], _∷_, _++_, map}
 use mathlib.Core.Option.{Option, none, some}
 use lib.Dec.{leb, ltb, eqb}
 use lib.ListN.{length, getD, set, replicate}
-use Rattle.txn.specs.Txn.{run, after, txnOk}
+use Rattle.txn.specs.Txn.{run, after}
 use Rattle.txn.specs.declared.Write.{Write}
 use Rattle.image.specs.declared.Sizes.{Sizes}
 use Rattle.log.specs.declared.Timestamp.{Timestamp}
 use Rattle.log.specs.declared.Timestamp.the-variants.{None, At}
 use Rattle.record.specs.Record.{lesser}
 use Rattle.store.specs.Machine.{Cause, Said, said}
+use Rattle.store.specs.Calls.{badLane, badTxn}
 use Rattle.store.specs.declared.Answer.{Answer}
 use Rattle.store.specs.declared.Answer.the-variants as answer
 use Rattle.recovery.specs.Recovery.{boundary, newBase, told}
@@ -179,13 +180,7 @@ unfoldable pub commitAbove : Timestamp → List Commit → Bool
 commitAbove b [] = false
 commitAbove b (c ∷ cs) = isAbove b (c .stamp) || commitAbove b cs
 
--- ---- causes 3, 5, 6, 7 and 8
-unfoldable pub badLane : Sizes → ℕ → Cause
-badLane z L = record { number = 3; holds = leb z.lanes L }
-
-unfoldable pub badTxn : Sizes → List ℕ → Cause
-badTxn z f = record { number = 5; holds = not (txnOk 16 z.words f) }
-
+-- ---- causes 6, 7 and 8; 3 and 5 are the calls' own, which look at the arguments alone
 unfoldable pub holdsOne : ℕ → History → Bool
 holdsOne L h = isSome (pageAt h L .held)
 
