@@ -102,8 +102,8 @@ withLaneOf L l s =
       machine = record { state = withLane (s .machine .state) L l; cache = s .machine .cache; nvm = s .machine .nvm; flags = s .machine .flags };
     }
 
-unfoldable laneOf : ℕ → Step → Lane
-laneOf L s = laneAt (s .machine .state) L
+unfoldable laneIn : ℕ → Step → Lane
+laneIn L s = laneAt (s .machine .state) L
 
 -- base and data words of one image, logs of another
 unfoldable joined : Sizes → (low high : List ℕ) → List ℕ
@@ -111,7 +111,7 @@ joined z low high = take (1 + z.words) low ++ drop (1 + z.words) high
 
 -- one name that opens all of this
 unfoldable made : ℕ
-unfolding refuting writeBacks calling logging redoing validating marking recoverBy storing base clearing withCache withLaneOf laneOf joined
+unfolding refuting writeBacks calling logging redoing validating marking recoverBy storing base clearing withCache withLaneOf laneIn joined
 made = 0
 
 -- ---- the traps
@@ -159,7 +159,7 @@ overFirst =
     (validating
     (λ z L f m.
     let s = validateStep z L f m in
-    let l = laneOf L s in
+    let l = laneIn L s in
     withLaneOf L (record { phase = l .phase; next = loggedIn (laneAt (m .state) L .phase) .first; wrap = l .wrap; floor = l .floor; redo = l .redo }) s)
     neverFull)
 
@@ -202,7 +202,7 @@ markOpen =
     (marking
     (λ z L m.
     let s = markStep z L m in
-    let l = laneOf L s in
+    let l = laneIn L s in
     withLaneOf L (record { phase = laneAt (m .state) L .phase; next = l .next; wrap = l .wrap; floor = l .floor; redo = l .redo }) s)
     callStep)
 
@@ -229,7 +229,7 @@ noFirstFloor =
     (logging
     (λ z L f m.
     let s = logStep z L f m in
-    let l = laneOf L s in
+    let l = laneIn L s in
     withLaneOf L (record { phase = l .phase; next = l .next; wrap = l .wrap; floor = laneAt (drained z L m .state) L .floor; redo = l .redo }) s)
     callStep)
 

@@ -84,7 +84,7 @@ callStep z (mark L) m = markStep z L m
 callStep z (drain L) m = drainStep z L m
 
 -- ---- stores
--- what a store does: in its calls, in recovery, and, where power fails inside recovery, with the cells by its first so many stores
+-- a store, as the theorem sees it: its calls, its recovery, and the cells after so many stores of a recovery that power cuts short
 pub record Design : Type 0 where
   pub format : Sizes → (start : List ℕ) → Machine → Step
   pub writeBack : Sizes → (word : ℕ) → Machine → Step
