@@ -16,7 +16,7 @@ use Rattle.store.specs.declared.Answer.{Answer}
 use Rattle.recovery.specs.Recovery.{boundary, told}
 use Rattle.recovery.specs.declared.Recovered.{Recovered}
 use Rattle.recovery.specs.declared.Recovered.the-variants.{Refused, Cut, Finished}
-use Rattle.crash.specs.Events.{Call, Junk, Event, call, recover, System, live, down, nvmOf, Reply, answered, recovered, failed, ignored, Design, happens}
+use Rattle.crash.specs.Events.{Call, Junk, Event, format, call, recover, System, live, down, nvmOf, Reply, answered, recovered, failed, ignored, Design, happens}
 use Rattle.crash.specs.History.{History, opened, fed, present, wordsBelow}
 use Rattle.crash.specs.Theorem.{InStep, answerBy, recoveryAnswer, Finishes, Replied, Agrees, Holds, CrashTheorem}
 use Rattle.crash.proofs.Everything.{everything}
@@ -168,11 +168,8 @@ blank z =
 
 -- ---- refutations: store d, formatted with these start words, after the events es and one more
 module _ (d : Design) (z : Sizes) (start : List ℕ) (es : List Event) where
-  abbrev begun : System
-  begun = live (d .format z start (blank z) .machine)
-
   unfoldable pub was : World
-  was = worldAfter d z begun (opened z start 0) es
+  was = worldAfter d z (live (blank z)) (opened z start 0) (format start ∷ es)
 
   -- Format takes the start words, and the two sides differ
   unfoldable pub differs : Sides → (has due : List ℕ) → Bool
@@ -181,7 +178,8 @@ module _ (d : Design) (z : Sizes) (start : List ℕ) (es : List Event) where
   agrees : (e : Event) (s : Sides) (has due : List ℕ) → differs s has due ≡ true → CrashTheorem d → Agrees d z (was .history) e (was .system)
   unfolding differs CrashTheorem was
   agrees e s has due t c =
-      at-last d z begun (opened z start 0) es e (c z start (blank z) (eqb-true (formatRefusal z start (blank z)) 0 (and-left _ _ t)) (es ++ (e ∷ [])))
+      at-last d z (live (blank z)) (opened z start 0) (format start ∷ es) e
+      (c z start (blank z) (opened z start 0) (eqb-true (formatRefusal z start (blank z)) 0 (and-left _ _ t)) (es ++ (e ∷ [])))
 
   apart : (s : Sides) (has due : List ℕ) → differs s has due ≡ true → s .has ≡ s .due → ⊥
   unfolding differs

@@ -303,9 +303,20 @@ module _ (z : Sizes) (ok : sizesOk z ≡ true) (Inv : Machine → History → Ty
 pub crash-theorem-from : (Inv : Sizes → Machine → History → Type 0) (AtCut : Sizes → List ℕ → History → Type 0)
     → ((z : Sizes) → sizesOk z ≡ true → Laws z (Inv z) (AtCut z))
     → CrashTheorem vandzulge
-unfolding CrashTheorem vandzulge Good
-crash-theorem-from Inv AtCut laws z start m e es =
+unfolding CrashTheorem vandzulge happens afterFormat fed fedAnswer said Good
+crash-theorem-from Inv AtCut laws z start m h e es =
     let f = format-true z start m e in
     let ok = buffers-in z _ _ _ (f .0) .sizes-ok in
-    subst (λ (s : Step). Holds vandzulge z (live (s .machine)) (opened z start 0) es) (sym (formats-at z start m (f .0) (f .1)))
-    (all-events z ok (Inv z) (AtCut z) (laws z ok) (live (started z 0 (startImage z start))) (opened z start 0) es (laws z ok .formats start (f .1)))
+    let v = laws z ok .formats start (f .1) in
+    let at = sym (formats-at z start m (f .0) (f .1)) in (
+      record {
+        reply = ap (λ (s : Step). s .answer) (formats-at z start m (f .0) (f .1)) ∙ rw (eq-eqb (length start) (z .words) (f .1));
+        store = subst (λ (s : Step). InStep z (cond (said (s .answer) .refused) h (opened z start 0)) (cond (said (s .answer) .refused) (live m) (live (s .machine)))) at
+            (laws z ok .lives (started z 0 (startImage z start)) (opened z start 0) v);
+      },
+      subst
+          (λ (s : Step).
+          Holds vandzulge z (cond (said (s .answer) .refused) (live m) (live (s .machine))) (cond (said (s .answer) .refused) h (opened z start 0)) es)
+          at
+          (all-events z ok (Inv z) (AtCut z) (laws z ok) (live (started z 0 (startImage z start))) (opened z start 0) es v),
+    )

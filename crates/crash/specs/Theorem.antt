@@ -19,7 +19,7 @@ use Rattle.recovery.specs.Recovery.{boundary, undoStores, allMade}
 use Rattle.recovery.specs.declared.Recovered.{Recovered}
 use Rattle.recovery.specs.declared.Recovered.the-variants.{Refused, Cut, Finished}
 use Rattle.crash.specs.Events.{Call, Event, format, writeBack, call, recover, fails, failsInDrain, failsAfterDrain, failsInRecovery, System, live, down, nvmOf, Reply, answered, recovered, failed, ignored, Design, happens, laneOf}
-use Rattle.crash.specs.History.{History, opened, fed, pageAt, present, wordsBelow, leastFloorOf, settled, isSome, causesBy, slotsBy, takenAnswer}
+use Rattle.crash.specs.History.{History, fed, pageAt, present, wordsBelow, leastFloorOf, settled, isSome, causesBy, slotsBy, takenAnswer}
 
 -- ---- a running store
 pub record Live (z : Sizes) (h : History) (m : Machine) : Type 0 where
@@ -134,9 +134,9 @@ Holds d z y h [] = Unit {0}
 Holds d z y h (e ∷ es) =
     Agrees d z h e y × Holds d z (happens d z y e .system) (fed z e (happens d z y e .reply) (happens d z y e .found) h) es
 
--- the theorem about a store: for all sizes, buffers and start words that Format is not to refuse, and all lists of events after it.
--- It holds of ours (`CrashTheorem.crash-theorem`), and of none of the wrong ones in `proofs/WrongStores`
+-- the theorem about a store: for all sizes, buffers and start words that Format is not to refuse, and all lists of events that begin with it; the history before it
+-- does not matter. It holds of ours (`CrashTheorem.crash-theorem`), and of none of the wrong ones in `proofs/WrongStores`
 unfoldable pub CrashTheorem : Design → Type 0
 CrashTheorem d =
-    (z : Sizes) (start : List ℕ) (m : Machine) → formatRefusal z start m ≡ 0
-    → (es : List Event) → Holds d z (live (d .format z start m .machine)) (opened z start 0) es
+    (z : Sizes) (start : List ℕ) (m : Machine) (h : History) → formatRefusal z start m ≡ 0
+    → (es : List Event) → Holds d z (live m) h (format start ∷ es)
