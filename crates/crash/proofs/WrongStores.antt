@@ -20,7 +20,7 @@ use Rattle.store.specs.declared.Answer.the-variants.{Refused, Logged, Stale}
 use Rattle.recovery.specs.Recovery.{completeOf, ordered, undone, undoSequences, undoStores, newBase, zeros, recoverStep, recoveredNvm, Restarted}
 use Rattle.recovery.specs.declared.Recovered.{Recovered}
 use Rattle.recovery.specs.declared.Recovered.the-variants as recovereds
-use Rattle.crash.specs.Events.{Call, log, redo, validate, mark, drain, Event, writeBack, call, recover, fails, failsInDrain, Design, callStep}
+use Rattle.crash.specs.Events.{Call, log, redo, validate, mark, drain, Event, format, writeBack, call, recover, fails, failsInDrain, Design, callStep}
 use Rattle.crash.specs.Theorem.{CrashTheorem}
 use Rattle.crash.proofs.Worked.{small, junk, set0, copy, writeBacks, twoLanes}
 use Rattle.crash.proofs.Refute.{wrong-words, wrong-clock, wrong-answer, wrong-count, wrong-recovery, refuting}
@@ -353,3 +353,25 @@ unaltered = calling (λ z c m. record { answer = callStep z c m .answer; machine
 unaltering : CrashTheorem unaltered → ⊥
 unfolding made unaltered
 unaltering = wrong-clock unaltered small (0 ∷ 0 ∷ []) [] (call (log 0 (set0 2))) (0 ∷ []) (2 ∷ []) refl
+
+-- 18. A Format that leaves the logs as they were: a sequence of before it is undone over the new start words
+unfoldable keepsLogs : Design
+keepsLogs =
+    record {
+      format = λ z start m.
+          let s = formatStep z start m .machine in
+          record {
+            answer = formatStep z start m .answer;
+            machine = record { state = s .state; cache = joined z (s .cache) (m .cache); nvm = joined z (s .nvm) (m .nvm); flags = s .flags };
+          };
+      writeBack = writeBackStep;
+      call = callStep;
+      recover = recoverStep;
+      cutShort = recoveredNvm;
+    }
+
+keeps-logs : CrashTheorem keepsLogs → ⊥
+unfolding made keepsLogs
+keeps-logs =
+    wrong-recovery keepsLogs small (0 ∷ 0 ∷ []) (call (log 0 (set0 2)) ∷ call (redo 0) ∷ call (drain 0) ∷ format (5 ∷ 6 ∷ []) ∷ fails junk ∷ [])
+    1000 junk (0 ∷ 6 ∷ []) (5 ∷ 6 ∷ []) refl
