@@ -3,14 +3,13 @@
 
 mod common;
 
-use common::states::{walk, Seen};
+use common::states::every_outcome;
 use common::{Call, World, LIBRARY, PLAIN};
 use vandzulge::images;
 use vandzulge::Sizes;
 
-/// Makes the call on both, compares all, and keeps what they left.
-fn both(world: &mut World, call: &Call, seen: &mut Seen, place: &str) {
-    world.answer.fill(7);
+/// Makes the call on both, compares all, and keeps what they left. Its number.
+fn both(world: &mut World, call: &Call, place: &str) -> u64 {
     let before = world.clone();
     let mut other = world.clone();
     let expected = world.call(&PLAIN, call);
@@ -25,23 +24,16 @@ fn both(world: &mut World, call: &Call, seen: &mut Seen, place: &str) {
     if number != 0 {
         assert!(other == before, "refused {number}, and not left as it was: {}", told());
     }
-    seen.count(call, number, &world.answer);
+    number
 }
 
 #[test]
 fn same_on_pseudo_random_calls() {
-    let mut seen = Seen::default();
-    let mut make = |world: &mut World, call: &Call, place: &str| both(world, call, &mut seen, place);
-    for seed in 1..=300 {
-        walk(seed, 200, false, &mut make);
-        walk(1_000_000 + seed, 200, true, &mut make);
-    }
-    seen.assert_all(5);
+    every_outcome(300, 5, both);
 }
 
 #[test]
 fn same_on_the_recovery_images() {
-    let mut seen = Seen::default();
     for (words, lanes, slots) in [(1, 1, 34), (16, 1, 34), (16, 3, 101), (256, 4, 64), (1024, 8, 256), (7, 8, 255)] {
         for logs in images::ALL {
             let image = images::image(Sizes { words, lanes, slots }, logs);
@@ -51,7 +43,8 @@ fn same_on_the_recovery_images() {
                 world.nvm.clone_from(&image);
                 world.cache.fill(3);
                 world.flags.fill(0xff);
-                both(&mut world, &Call::Recover(limit), &mut seen, &format!("{logs:?}"));
+                world.answer.fill(7);
+                both(&mut world, &Call::Recover(limit), &format!("{logs:?}"));
             }
         }
     }

@@ -4,7 +4,7 @@
 
 mod common;
 
-use common::states::{walk, Seen};
+use common::states::every_outcome;
 use common::stores::{traced, Image, Store};
 use common::{Call, World, LIBRARY};
 use vandzulge::{images, plain, Sizes};
@@ -73,21 +73,11 @@ fn library(world: &mut World, call: &Call, place: &str) -> u64 {
 
 #[test]
 fn every_call_stores_in_order() {
-    let mut seen = Seen::default();
-    let mut make = |world: &mut World, call: &Call, place: &str| {
-        world.answer.fill(7);
-        let number = match call {
-            // Format may store as it likes
-            Call::Format(_) => world.call(&LIBRARY, call),
-            _ => library(world, call, place),
-        };
-        seen.count(call, number, &world.answer);
-    };
-    for seed in 1..=30 {
-        walk(seed, 200, false, &mut make);
-        walk(1_000_000 + seed, 200, true, &mut make);
-    }
-    seen.assert_all(1);
+    every_outcome(30, 1, |world, call, place| match call {
+        // Format may store as it likes
+        Call::Format(_) => world.call(&LIBRARY, call),
+        _ => library(world, call, place),
+    });
 }
 
 #[test]

@@ -4,7 +4,7 @@
 
 mod common;
 
-use common::states::{walk, Seen};
+use common::states::every_outcome;
 use common::{Call, Calls, World, LIBRARY};
 use std::sync::atomic::{AtomicUsize, Ordering::Relaxed};
 use std::sync::Mutex;
@@ -85,20 +85,10 @@ fn clean(world: &mut World, call: &Call, place: &str) -> u64 {
 
 #[test]
 fn no_call_but_format() {
-    let mut seen = Seen::default();
-    let mut make = |world: &mut World, call: &Call, place: &str| {
-        world.answer.fill(7);
-        let number = match call {
-            Call::Format(_) => watched(world, &LIBRARY, call).0,
-            _ => clean(world, call, place),
-        };
-        seen.count(call, number, &world.answer);
-    };
-    for seed in 1..=100 {
-        walk(seed, 200, false, &mut make);
-        walk(1_000_000 + seed, 200, true, &mut make);
-    }
-    seen.assert_all(1);
+    every_outcome(100, 1, |world, call, place| match call {
+        Call::Format(_) => watched(world, &LIBRARY, call).0,
+        _ => clean(world, call, place),
+    });
 }
 
 #[test]

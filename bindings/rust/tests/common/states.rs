@@ -185,7 +185,7 @@ fn misfit(random: &mut Random, world: &mut World) {
 }
 
 /// A store's life from Format on: calls that mostly suit it, where `damaged` on states that no call made. Each call is handed to `make`, which makes it and may look at it.
-pub fn walk(seed: u64, steps: u64, damaged: bool, make: &mut impl FnMut(&mut World, &Call, &str)) {
+fn walk(seed: u64, steps: u64, damaged: bool, make: &mut impl FnMut(&mut World, &Call, &str)) {
     let random = &mut Random::new(seed);
     let Sizes { words, lanes, slots } = sizes(random);
     let mut world = World::new(words, lanes, slots);
@@ -289,15 +289,15 @@ fn outcome(call: &Call, number: u64, answer: &[u64]) -> String {
 
 /// How often each outcome was seen, by call and answer.
 #[derive(Default)]
-pub struct Seen(BTreeMap<String, u64>);
+struct Seen(BTreeMap<String, u64>);
 
 impl Seen {
-    pub fn count(&mut self, call: &Call, number: u64, answer: &[u64]) {
+    fn count(&mut self, call: &Call, number: u64, answer: &[u64]) {
         *self.0.entry(outcome(call, number, answer)).or_default() += 1;
     }
 
     /// Every outcome that a call can have was seen this often, and no other.
-    pub fn assert_all(&self, least: u64) {
+    fn assert_all(&self, least: u64) {
         println!("{} calls: {:#?}", self.0.values().sum::<u64>(), self.0);
         for outcome in OUTCOMES {
             assert!(self.0.get(outcome).is_some_and(|&times| times >= least), "too few of: {outcome}");
@@ -306,4 +306,19 @@ impl Seen {
             assert!(OUTCOMES.contains(&outcome.as_str()), "not expected: {outcome}");
         }
     }
+}
+
+/// Walks from so many seeds, over stores as calls leave them and over damaged ones. `make` makes each call and returns its number; every outcome must come up `least` times.
+pub fn every_outcome(seeds: u64, least: u64, mut make: impl FnMut(&mut World, &Call, &str) -> u64) {
+    let mut seen = Seen::default();
+    let mut counted = |world: &mut World, call: &Call, place: &str| {
+        world.answer.fill(7);
+        let number = make(world, call, place);
+        seen.count(call, number, &world.answer);
+    };
+    for seed in 1..=seeds {
+        walk(seed, 200, false, &mut counted);
+        walk(1_000_000 + seed, 200, true, &mut counted);
+    }
+    seen.assert_all(least);
 }
