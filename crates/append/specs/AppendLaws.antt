@@ -1,21 +1,21 @@
 -- Laws of Log and Mark: a law for each return of their checks, their plans and their steps; what they know where they are not refused. Assumes nothing.
-use Prim.Native.Nat.{ℕ, zero, suc, _+_, _-_, _*_, _^_, _≤_, _<_}
+use Prim.Native.Nat.{ℕ, zero, suc, _+_, _^_, _≤_, _<_}
 use mathlib.Core.Path.{_≡_, refl, sym, _∙_, ap}
 use mathlib.Core.Bool.{Bool, true, false, _&&_}
 use mathlib.Core.List.{List, [], _∷_, _++_}
 use native.Mathlib.Omega.{arith}
 use native.Mathlib.Decide.{ℕ-discrete}
 use lib.Dec.{leb}
-use lib.ListN.{length, take, drop, length-map}
+use lib.ListN.{length, take, length-map}
 use lib.Seq.{length-take-le}
 use borrow.Author.Tests.{ne-eqb, le-leb, not-false}
 use Rattle.laws.specs.Tests.{split}
 use Rattle.laws.specs.Lists.{none, All-map}
-use Rattle.txn.specs.Txn.{txnOk, writesOf}
+use Rattle.txn.specs.Txn.{maxWrites, txnOk, writesOf}
 use Rattle.txn.specs.TxnLaws.{few-writes, run-low}
 use Rattle.txn.specs.declared.Write.{Write}
 use Rattle.txn.specs.declared.Writes.{Writes}
-use Rattle.image.specs.Image.{baseOf, dataOf, logStart}
+use Rattle.image.specs.Image.{maxWords, maxLanes, baseOf, dataOf, logStart, logOf}
 use Rattle.image.specs.ImageLaws.{sizes-in, log-fits}
 use Rattle.image.specs.Flush.{flushAll, drainedNvm, drainedFlags}
 use Rattle.image.specs.Stores.{stored, places}
@@ -23,7 +23,7 @@ use Rattle.image.specs.declared.Sizes.{Sizes}
 use Rattle.log.specs.Log.{latestIn, completeBelow, completeIn, hits}
 use Rattle.log.specs.LogLaws.{hits-in}
 use Rattle.log.specs.Append.{advance, appendStores}
-use Rattle.log.specs.AppendEntries.{WordsBelow}
+use Rattle.log.specs.AppendEntries.{WordsBelow, LogAt}
 use Rattle.log.specs.declared.Cursor.{Cursor}
 use Rattle.log.specs.declared.Latest.{Latest}
 use Rattle.log.specs.declared.Timestamp.{Timestamp}
@@ -36,12 +36,14 @@ use Rattle.record.specs.declared.Phase.the-variants.{Idle, Holds}
 use Rattle.record.specs.declared.Record.{Record}
 use Rattle.store.specs.declared.Answer.the-variants.{NoWrites, Logged, Marked}
 use Rattle.store.specs.Machine.{Machine, Step, Cause, firstCause}
-use Rattle.store.specs.Calls.{badBuffers, badRecord, badLane, badTxn, clockSpent, drainRefusal, drained, changed, wouldHit, writesOn, logRefusal, appended, logged, logStep, markRefusal, markStep}
+use Rattle.store.specs.Calls.{badBuffers, badRecord, badLane, badTxn, clockSpent, drainRefusal, drained, changed, wouldHit, writesOn, logRefusal, appended}
+use Rattle.store.specs.Calls.{logged, logStep, markRefusal, markStep}
 use Rattle.store.specs.Interface.{machineOf, Checked, drainedState}
-use Rattle.store.specs.StoreLaws.{first-holds, first-fails, first-none, first-end, refuses-txn, passes-txn, checked, lane-small, at-lane, after-lane, lane-passed, step-taken, LogPart, drained-by, drained-state, drained-clock, drained-lane, drained-keeps}
+use Rattle.store.specs.StoreLaws.{first-holds, first-fails, first-none, first-end, refuses-txn, passes-txn, checked, lane-small, at-lane, after-lane}
+use Rattle.store.specs.StoreLaws.{lane-passed, step-taken, drained-by, drained-state, drained-clock, drained-lane, drained-keeps}
 use Rattle.store.specs.WritesLaws.{count-of, full-list, writes-of}
 use Rattle.append.specs.declared.Plan.{Plan}
-use Rattle.append.specs.Plans.{roomRefusal, logChecks, Planned, Searchable, Appendable, Ready, loggedStep}
+use Rattle.append.specs.Plans.{roomRefusal, logChecks, Planned, Searchable, Appendable, AfterDrain, loggedStep}
 
 -- ---- refusals 8 and 9
 -- the record that the code drains, by the latest sequence that it has found
@@ -62,12 +64,12 @@ module _ (z : Sizes) (r : Record) (cache : List ℕ) (L n : ℕ) where
 
   module _ (d : Record) (q : Latest) (f : q ≡ latestIn z cache L) (e : d ≡ withLane r L (drainedLane q (laneAt r L))) where
     -- a hit is looked for in the part of the image that is the lane's log
-    module _ (start : ℕ) (bound : Timestamp) (hit : Bool) (p : LogPart z L cache start) (b : bound ≡ boundOf z d)
-        (g : hit ≡ hits (z .slots) (laneAt d L .next) n bound (completeBelow (z .words) (z .slots) (baseOf cache) (take (start + 2 * z .slots - start) (drop start cache)) 0 (z .slots)))
+    module _ (log : List ℕ) (bound : Timestamp) (hit : Bool) (p : log ≡ logOf z L cache) (b : bound ≡ boundOf z d)
+        (g : hit ≡ hits (z .slots) (laneAt d L .next) n bound (completeBelow (z .words) (z .slots) (baseOf cache) log 0 (z .slots)))
         (s : spent r ≡ false) where
       hit-in : hits (z .slots) (laneAt r L .next) n (boundOf z (drainedState z cache L r)) (completeIn z cache L) ≡ hit
       hit-in =
-          rw (g, b, p .is-log, drained-is z r d q cache L f e, drained-keeps z cache L r .next)
+          rw (g, b, p, drained-is z r d q cache L f e, drained-keeps z cache L r .next)
           (hits-in z cache L (laneAt r L .next) n (boundOf z (drainedState z cache L r)))
 
       pub room-hit : hit ≡ true → 9 ≡ roomRefusal z r cache L n
@@ -91,11 +93,11 @@ module _ (z : Sizes) (L : ℕ) (f : List ℕ) (m : Machine) where
   checks-lane number e h = e ∙ sym (at-lane z L m _ (λ d. h (e ∙ d)))
 
   module _ (e : drainRefusal z L m ≡ 0) where
-    pub checks-txn : txnOk 16 (z .words) f ≡ false → 5 ≡ logChecks z L f m
+    pub checks-txn : txnOk maxWrites (z .words) f ≡ false → 5 ≡ logChecks z L f m
     unfolding logChecks
     checks-txn h = sym (after-lane z L m _ e ∙ refuses-txn _ z f h)
 
-    module _ (h : txnOk 16 (z .words) f ≡ true) where
+    module _ (h : txnOk maxWrites (z .words) f ≡ true) where
       pub checks-logged : isLogged (laneAt (m .state) L .phase) ≡ true → 6 ≡ logChecks z L f m
       unfolding logChecks
       checks-logged g = sym (after-lane z L m _ e ∙ passes-txn _ z f h ∙ first-holds _ _ g)
@@ -120,7 +122,8 @@ first-more (c ∷ cs) ds h =
 module _ (z : Sizes) (L : ℕ) (f : List ℕ) (m : Machine) where
   log-unless : (logChecks z L f m ≡ 0 → ⊥) → logRefusal z L f m ≡ logChecks z L f m
   unfolding logRefusal logChecks
-  log-unless h = first-more (badBuffers z m ∷ badRecord z m ∷ badLane z L ∷ badTxn z f ∷ record { number = 6; holds = isLogged (laneAt (m .state) L .phase) } ∷ []) _ h
+  log-unless h =
+      first-more (badBuffers z m ∷ badRecord z m ∷ badLane z L ∷ badTxn z f ∷ record { number = 6; holds = isLogged (laneAt (m .state) L .phase) } ∷ []) _ h
 
   pub log-refused : (number : ℕ) → number ≡ logChecks z L f m → (number ≡ 0 → ⊥) → number ≡ logRefusal z L f m
   log-refused number e h = e ∙ sym (log-unless (λ d. h (e ∙ d)))
@@ -131,7 +134,7 @@ module _ (z : Sizes) (L : ℕ) (f : List ℕ) (m : Machine) where
   -- what the checks say where they find nothing
   pub record Unrefused : Type 0 where
     pub at-lane : drainRefusal z L m ≡ 0
-    pub txn-ok : txnOk 16 (z .words) f ≡ true
+    pub txn-ok : txnOk maxWrites (z .words) f ≡ true
     pub idle : isLogged (laneAt (m .state) L .phase) ≡ false
 
   pub unrefused : logChecks z L f m ≡ 0 → Unrefused
@@ -151,7 +154,7 @@ module _ (z : Sizes) (L : ℕ) (f : List ℕ) (m : Machine) where
   unfolding logRefusal
   log-left u = after-lane z L m _ (u .at-lane) ∙ passes-txn _ z f (u .txn-ok) ∙ first-fails _ _ (u .idle)
 
-  module _ (u : Unrefused) (w : Writes) (v : w ≡ writesOf 16 (writesOn z f m)) where
+  module _ (u : Unrefused) (w : Writes) (v : w ≡ writesOf maxWrites (writesOn z f m)) where
     -- none, where the transaction writes nothing
     pub log-nothing : w .count ≡ 0 → 0 ≡ logRefusal z L f m
     log-nothing e =
@@ -194,14 +197,14 @@ pub planned-refused : (p : Plan) (refusal : ℕ) (ws : List Write) (q : Latest) 
 planned-refused p refusal ws q e h = record { number = e; writes = λ d. absurd (h d); latest = λ d. absurd (h d) }
 
 -- ---- what a call knows that is not refused 1, 2 or 3: its lane is in range
-module _ (z : Sizes) (state : Record) (cache nvm flags : List ℕ) (L : ℕ) (k : Checked z state cache nvm flags L) (eight : length (state .lanes) ≡ 8) where
+module _ (z : Sizes) (state : Record) (cache nvm flags : List ℕ) (L : ℕ) (k : Checked z state cache nvm flags L)
+    (eight : length (state .lanes) ≡ maxLanes) where
   lane-held : LaneIn z (state .clock) (laneAt state L)
-  lane-held = lane-in z _ _ (record-in z state (k .in-range) .lanes L (k .lane-below) (omega (arith, lane-small z L (k .sizes-ok) (k .lane-below))))
+  lane-held = lane-in z _ _ (record-in z state (k .in-range) .lanes L (k .lane-below) (omega (arith, lane-small z L (k .image .sizes-ok) (k .lane-below))))
 
-  pub searchable : (q : Latest) (n : ℕ) → q ≡ latestIn z cache L → 1 ≤ n → n ≤ 17 → Searchable z state q cache L n
+  pub searchable : (q : Latest) (n : ℕ) → q ≡ latestIn z cache L → 1 ≤ n → n ≤ maxWrites + 1 → Searchable z state q cache L n
   searchable q n f h g = record {
-    sizes-ok = k .sizes-ok;
-    in-cache = k .in-cache;
+    image = k .image;
     lane-below = k .lane-below;
     found = f;
     next = lane-held .next;
@@ -212,10 +215,10 @@ module _ (z : Sizes) (state : Record) (cache nvm flags : List ℕ) (L : ℕ) (k 
 -- ---- what a call knows whose plan has no refusal
 pub record Known (z : Sizes) (state : Record) (cache nvm flags : List ℕ) (L : ℕ) (ws : List Write) (plan : Plan) : Type 0 where
   pub checked : Checked z state cache nvm flags L
-  pub small : L < 8
-  pub writes : plan .writes ≡ writesOf 16 ws
-  pub few : length ws ≤ 16
-  pub low : WordsBelow 1024 ws
+  pub small : L < maxLanes
+  pub writes : plan .writes ≡ writesOf maxWrites ws
+  pub few : length ws ≤ maxWrites
+  pub low : WordsBelow maxWords ws
   pub latest : plan .latest ≡ latestIn z cache L
 
 module _ (z : Sizes) (state : Record) (cache nvm flags : List ℕ) (L : ℕ) (plan : Plan) where
@@ -229,10 +232,10 @@ module _ (z : Sizes) (state : Record) (cache nvm flags : List ℕ) (L : ℕ) (pl
       let k = checked z state cache nvm flags L (u .at-lane) in
       record {
         checked = k;
-        small = lane-small z L (k .sizes-ok) (k .lane-below);
+        small = lane-small z L (k .image .sizes-ok) (k .lane-below);
         writes = p .writes e;
-        few = few-writes 16 (z .words) f (dataOf z cache) (u .txn-ok);
-        low = All-map (λ w h. omega (arith, sizes-in z (k .sizes-ok) .words-high)) (run-low 16 (z .words) f (dataOf z cache) (u .txn-ok));
+        few = few-writes maxWrites (z .words) f (dataOf z cache) (u .txn-ok);
+        low = All-map (λ w h. omega (arith, sizes-in z (k .image .sizes-ok) .words-high)) (run-low maxWrites (z .words) f (dataOf z cache) (u .txn-ok));
         latest = p .latest e;
       }
 
@@ -242,7 +245,7 @@ module _ (z : Sizes) (state : Record) (cache nvm flags : List ℕ) (L : ℕ) (pl
       let k = checked z state cache nvm flags L (mark-lane z L (machineOf state cache nvm flags) (sym (p .number) ∙ e)) in
       record {
         checked = k;
-        small = lane-small z L (k .sizes-ok) (k .lane-below);
+        small = lane-small z L (k .image .sizes-ok) (k .lane-below);
         writes = p .writes e;
         few = omega arith;
         low = none;
@@ -254,23 +257,25 @@ module _ (z : Sizes) (state : Record) (cache nvm flags : List ℕ) (L : ℕ) (pl
     clock-free : spent state ≡ false → state .clock + 3 < 2 ^ 64
     clock-free h = clock-room state h (record-in z state (k .checked .in-range) .clock)
 
-    pub ready : length (state .lanes) ≡ 8 → state .clock + 3 < 2 ^ 64 → (flags′ : List ℕ) → flags′ ≡ drainedFlags L flags
-        → Ready z state (plan .latest) cache flags′ L (plan .writes)
-    unfolding drainedFlags
-    ready eight h flags′ e =
+    pub after-drain : length (state .lanes) ≡ maxLanes → state .clock + 3 < 2 ^ 64 → (flags′ : List ℕ) → flags′ ≡ drainedFlags L flags
+        → AfterDrain z state (plan .latest) cache flags′ L (plan .writes)
+    unfolding drainedFlags drainedLane cursorOf
+    after-drain eight h flags′ e =
         let l = lane-held z state cache nvm flags L (k .checked) eight in
         record {
-          sizes-ok = k .checked .sizes-ok;
-          in-cache = k .checked .in-cache;
-          in-flags = ap length e ∙ length-map flags _ ∙ k .checked .in-flags;
-          lane-below = k .checked .lane-below;
           found = k .latest;
-          next = l .next;
-          wrap = l .wrap;
-          clock = h;
-          few = rw (count-of _ ws (k .writes)) (k .few);
-          full = full-list _ ws (k .writes);
-          low = rw (writes-of _ ws (k .writes) (k .few)) (k .low);
+          appendable = record {
+            image = k .checked .image;
+            in-flags = ap length e ∙ length-map flags _ ∙ k .checked .in-flags;
+            lane-below = k .checked .lane-below;
+            place = record { slot = l .next; wrap = l .wrap };
+            room = omega (arith, h);
+            writes = record {
+              few = rw (count-of _ ws (k .writes)) (k .few);
+              full = full-list _ ws (k .writes);
+              low = rw (writes-of _ ws (k .writes) (k .few)) (k .low);
+            };
+          };
         }
 
   pub log-clock : (f : List ℕ)
@@ -285,42 +290,14 @@ module _ (z : Sizes) (state : Record) (cache nvm flags : List ℕ) (L : ℕ) (pl
   mark-clock p e = clock-free _ (mark-known p e) (mark-unspent z L (machineOf state cache nvm flags) (sym (p .number) ∙ e))
 
 -- ---- an append
--- what it needs of the drained lane
-pub appendable : (z : Sizes) (r : Record) (q : Latest) (cache flags : List ℕ) (L : ℕ) (w : Writes) (at : Lane) → Ready z r q cache flags L w
-    → at ≡ drainedLane q (laneAt r L) → Appendable z at cache flags L w (r .clock + 2)
-unfolding drainedLane
-appendable z r q cache flags L w at k e = record {
-  sizes-ok = k .sizes-ok;
-  in-cache = k .in-cache;
-  in-flags = k .in-flags;
-  lane-below = k .lane-below;
-  next = rw e (k .next);
-  wrap = rw e (k .wrap);
-  room = omega (arith, k .clock);
-  few = k .few;
-  full = k .full;
-  low = k .low;
-}
-
--- where it starts: a place of a log that is within the buffers
-pub record Place (z : Sizes) (cache flags : List ℕ) (L start : ℕ) (cursor : Cursor) : Type 0 where
-  pub most : z .slots ≤ 256
-  pub slot : cursor .slot < z .slots
-  pub wrap : cursor .wrap ≤ 1
-  pub in-cache : start + 2 * z .slots ≤ length cache
-  pub in-flags : start + 2 * z .slots ≤ length flags
-  pub small : L < 8
-
-pub append-place : (z : Sizes) (at : Lane) (cache flags : List ℕ) (L : ℕ) (w : Writes) (s start : ℕ) (cursor : Cursor) → Appendable z at cache flags L w s
-    → start ≡ logStart z L → cursor ≡ cursorOf at → Place z cache flags L start cursor
-unfolding cursorOf
-append-place z at cache flags L w s start cursor a e c = record {
-  most = sizes-in z (a .sizes-ok) .slots-high;
-  slot = rw c (a .next);
-  wrap = rw c (a .wrap);
-  in-cache = rw (e, a .in-cache) (log-fits z L (a .lane-below));
+-- where it starts: the lane's log, which is within the buffers
+pub append-at : (z : Sizes) (at : Lane) (cache flags : List ℕ) (L : ℕ) (w : Writes) (s start : ℕ) → Appendable z at cache flags L w s
+    → start ≡ logStart z L → LogAt start (z .slots) L cache flags
+append-at z at cache flags L w s start a e = record {
+  slots-high = sizes-in z (a .image .sizes-ok) .slots-high;
+  in-cache = rw (e, a .image .in-image) (log-fits z L (a .lane-below));
   in-flags = rw (e, a .in-flags) (log-fits z L (a .lane-below));
-  small = lane-small z L (a .sizes-ok) (a .lane-below);
+  lane-high = lane-small z L (a .image .sizes-ok) (a .lane-below);
 }
 
 -- what it leaves, from that place
@@ -353,7 +330,8 @@ module _ (z : Sizes) (L : ℕ) (r : Record) (q : Latest) (cache : List ℕ) (f :
   changed-once : (s : ℕ) (after : Lane) → withLane (withClock r s) L after ≡ withLane (withClock (drainedState z cache L r) s) L after
   unfolding drainedState
   changed-once s after =
-      sym (rw (clock-lane r s L (drainedLane (latestIn z cache L) (laneAt r L))) (lane-twice (withClock r s) L (drainedLane (latestIn z cache L) (laneAt r L)) after))
+      sym (rw (clock-lane r s L (drainedLane (latestIn z cache L) (laneAt r L)))
+      (lane-twice (withClock r s) L (drainedLane (latestIn z cache L) (laneAt r L)) after))
 
   module _ (at : Lane) (e : at ≡ drainedLane q (laneAt r L)) (small : L < length (r .lanes)) where
     lane-drained : at ≡ laneAt (drainedState z cache L r) L
@@ -361,7 +339,8 @@ module _ (z : Sizes) (L : ℕ) (r : Record) (q : Latest) (cache : List ℕ) (f :
 
     pub appended-by : (phase : Phase) (redo : List Pair) (nvm flags : List ℕ) (w : Writes) → w .count ≤ length (w .list)
         → (after : Lane) (r₂ : Record) (cache′ flags′ : List ℕ)
-        → after ≡ appendedLane (r .clock + 2) (advance (z .slots) (w .count + 1) (cursorOf at)) phase redo at → r₂ ≡ withLane (withClock r (r .clock + 2)) L after
+        → after ≡ appendedLane (r .clock + 2) (advance (z .slots) (w .count + 1) (cursorOf at)) phase redo at
+        → r₂ ≡ withLane (withClock r (r .clock + 2)) L after
         → cache′ ≡ stored (appendStores (logStart z L) (z .slots) (r .clock + 2) (cursorOf at) (take (w .count) (w .list))) cache
         → flags′ ≡ flushAll L (places (appendStores (logStart z L) (z .slots) (r .clock + 2) (cursorOf at) (take (w .count) (w .list)))) flags
         → machineOf r₂ cache′ nvm flags′ ≡ appended z L (take (w .count) (w .list)) phase redo (machineOf (drainedState z cache L r) cache nvm flags)
@@ -370,8 +349,10 @@ module _ (z : Sizes) (L : ℕ) (r : Record) (q : Latest) (cache : List ℕ) (f :
         (ap (λ (k : ℕ). k + 2) (sym (drained-clock z cache L r))) lane-drained e₁ (e₂ ∙ changed-once (r .clock + 2) after) e₃ e₄
 
     -- Log of a transaction that writes
-    pub logged-by : (redo : List Pair) (nvm flags : List ℕ) (w : Writes) → w .count ≤ length (w .list) → redo ≡ pairsOf 16 (take (w .count) (w .list)) → (machine : Machine)
-        → machine ≡ appended z L (take (w .count) (w .list)) (Holds (record { first = at .next; count = w .count; stamp = r .clock + 2 })) redo (machineOf (drainedState z cache L r) cache nvm flags)
+    pub logged-by : (redo : List Pair) (nvm flags : List ℕ) (w : Writes) → w .count ≤ length (w .list) → redo ≡ pairsOf maxWrites (take (w .count) (w .list))
+        → (machine : Machine)
+        → machine ≡ appended z L (take (w .count) (w .list)) (Holds (record { first = at .next; count = w .count; stamp = r .clock + 2 })) redo
+        (machineOf (drainedState z cache L r) cache nvm flags)
         → record { answer = Logged (record { count = w .count; stamp = r .clock + 2 }); machine = machine }
         ≡ loggedStep z L (take (w .count) (w .list)) (machineOf (drainedState z cache L r) cache nvm flags)
     unfolding loggedStep logged
@@ -394,25 +375,34 @@ module _ (z : Sizes) (L : ℕ) (state : Record) (cache nvm flags : List ℕ) (pl
         (step-taken _ _ _ _ (p .number) e)
 
     -- a Log of one that writes appends to it
-    pub log-writes : (step : Step) → step ≡ loggedStep z L (take (plan .writes .count) (plan .writes .list)) (machineOf (drainedState z cache L state) cache nvm′ flags′)
+    pub log-writes : (step : Step)
+        → step ≡ loggedStep z L (take (plan .writes .count) (plan .writes .list)) (machineOf (drainedState z cache L state) cache nvm′ flags′)
         → (plan .writes .count ≡ 0 → ⊥) → step ≡ logStep z L f (machineOf state cache nvm flags)
     unfolding logStep loggedStep
     log-writes step a h =
         let k = log-known z state cache nvm flags L plan f p e in
         let n = count-of _ _ (k .writes) in
         a
-        ∙ rw (writes-of _ _ (k .writes) (k .few), now-drained, drained-state z L (machineOf state cache nvm flags), drained-clock z cache L state, ne-eqb (length (writesOn z f (machineOf state cache nvm flags))) 0 (λ d. h (n ∙ d)))
+        ∙ rw (
+          writes-of _ _ (k .writes) (k .few),
+          now-drained,
+          drained-state z L (machineOf state cache nvm flags),
+          drained-clock z cache L state,
+          ne-eqb (length (writesOn z f (machineOf state cache nvm flags))) 0 (λ d. h (n ∙ d)),
+        )
         (step-taken _ _ _ _ (p .number) e)
 
   -- a Mark
   module _ (p : Planned plan (markRefusal z L (machineOf state cache nvm flags)) [] (latestIn z cache L)) (at : Lane) (machine : Machine)
       (l : at ≡ drainedLane (plan .latest) (laneAt state L))
-      (a : machine ≡ appended z L (take (plan .writes .count) (plan .writes .list)) Idle (at .redo) (machineOf (drainedState z cache L state) cache nvm′ flags′)) where
+      (a : machine ≡ appended z L (take (plan .writes .count) (plan .writes .list)) Idle (at .redo)
+      (machineOf (drainedState z cache L state) cache nvm′ flags′)) where
     marked-by : machine ≡ appended z L [] Idle (laneAt state L .redo) (drained z L (machineOf state cache nvm flags))
     unfolding drainedLane
     marked-by = a ∙ rw (writes-of _ [] (p .writes e) (omega arith), l, now-drained)
 
     pub mark-taken : (dropped : Bool) → dropped ≡ isLogged (at .phase)
-        → record { answer = Marked (record { stamp = state .clock + 2; dropped = dropped }); machine = machine } ≡ markStep z L (machineOf state cache nvm flags)
+        → record { answer = Marked (record { stamp = state .clock + 2; dropped = dropped }); machine = machine }
+        ≡ markStep z L (machineOf state cache nvm flags)
     unfolding markStep drainedLane
     mark-taken dropped d = rw (marked-by, d, l) (step-taken _ _ _ _ (p .number) e)

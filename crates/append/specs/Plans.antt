@@ -1,18 +1,17 @@
 -- What Log and Mark find out before they act: refusals 8 and 9, Log's other refusals, a plan. 01, "Refused calls". Assumes nothing.
 use Prim.Native.Nat.{ℕ, _+_, _^_, _≤_, _<_}
 use mathlib.Core.Path.{_≡_}
-use mathlib.Core.Bool.{true}
 use mathlib.Core.List.{List, [], _∷_}
-use lib.ListN.{length, take}
-use Rattle.txn.specs.Txn.{writesOf}
+use lib.ListN.{length}
+use Rattle.txn.specs.Txn.{maxWrites, writesOf}
 use Rattle.txn.specs.declared.Write.{Write}
 use Rattle.txn.specs.declared.Writes.{Writes}
-use Rattle.image.specs.Image.{sizesOk, imageLength}
+use Rattle.image.specs.Image.{imageLength, IsImage}
 use Rattle.image.specs.declared.Sizes.{Sizes}
 use Rattle.log.specs.Log.{latestIn, completeIn, hits}
-use Rattle.log.specs.AppendEntries.{WordsBelow}
+use Rattle.log.specs.AppendEntries.{Loggable, Within}
 use Rattle.log.specs.declared.Latest.{Latest}
-use Rattle.record.specs.Record.{laneAt, isLogged, spent, boundOf}
+use Rattle.record.specs.Record.{laneAt, isLogged, spent, boundOf, cursorOf, drainedLane}
 use Rattle.record.specs.declared.Lane.{Lane}
 use Rattle.record.specs.declared.Record.{Record}
 use Rattle.store.specs.declared.Answer.the-variants.{Logged}
@@ -43,45 +42,31 @@ logChecks z L f m =
 -- a plan: the number of the refusal and, where it is 0, the writes and the lane's latest sequence
 pub record Planned (plan : Plan) (refusal : ℕ) (ws : List Write) (q : Latest) : Type 0 where
   pub number : plan .number ≡ refusal
-  pub writes : plan .number ≡ 0 → plan .writes ≡ writesOf 16 ws
+  pub writes : plan .number ≡ 0 → plan .writes ≡ writesOf maxWrites ws
   pub latest : plan .number ≡ 0 → plan .latest ≡ q
 
 -- what the search for a hit needs: n slots from lane L's next one on, and the lane's latest sequence
 pub record Searchable (z : Sizes) (r : Record) (latest : Latest) (cache : List ℕ) (L n : ℕ) : Type 0 where
-  pub sizes-ok : sizesOk z ≡ true
-  pub in-cache : length cache ≡ imageLength z
+  pub image : IsImage z cache
   pub lane-below : L < z .lanes
   pub found : latest ≡ latestIn z cache L
   pub next : laneAt r L .next < z .slots
   pub least : 1 ≤ n
-  pub most : n ≤ 17
+  pub most : n ≤ maxWrites + 1
 
 -- what an append of these writes to lane L, which is drained, needs at timestamp s
 pub record Appendable (z : Sizes) (drained : Lane) (cache flags : List ℕ) (L : ℕ) (w : Writes) (s : ℕ) : Type 0 where
-  pub sizes-ok : sizesOk z ≡ true
-  pub in-cache : length cache ≡ imageLength z
+  pub image : IsImage z cache
   pub in-flags : length flags ≡ imageLength z
   pub lane-below : L < z .lanes
-  pub next : drained .next < z .slots
-  pub wrap : drained .wrap ≤ 1
+  pub place : Within (z .slots) (cursorOf drained)
   pub room : s + 1 < 2 ^ 64
-  pub few : w .count ≤ 16
-  pub full : length (w .list) ≡ 16
-  pub low : WordsBelow 1024 (take (w .count) (w .list))
+  pub writes : Loggable w
 
--- the same of a call on record r, which knows the lane's latest sequence
-pub record Ready (z : Sizes) (r : Record) (latest : Latest) (cache flags : List ℕ) (L : ℕ) (w : Writes) : Type 0 where
-  pub sizes-ok : sizesOk z ≡ true
-  pub in-cache : length cache ≡ imageLength z
-  pub in-flags : length flags ≡ imageLength z
-  pub lane-below : L < z .lanes
+-- what Log or Mark on record r knows once it has drained the lane: its latest sequence, and that these writes may be appended
+pub record AfterDrain (z : Sizes) (r : Record) (latest : Latest) (cache flags : List ℕ) (L : ℕ) (w : Writes) : Type 0 where
   pub found : latest ≡ latestIn z cache L
-  pub next : laneAt r L .next < z .slots
-  pub wrap : laneAt r L .wrap ≤ 1
-  pub clock : r .clock + 3 < 2 ^ 64
-  pub few : w .count ≤ 16
-  pub full : length (w .list) ≡ 16
-  pub low : WordsBelow 1024 (take (w .count) (w .list))
+  pub appendable : Appendable z (drainedLane latest (laneAt r L)) cache flags L w (r .clock + 2)
 
 -- Log of these writes on a drained machine
 unfoldable pub loggedStep : Sizes → ℕ → List Write → Machine → Step

@@ -3,7 +3,7 @@ ghost use mathlib.Core.Path.{_≡_};
 ghost use mathlib.Core.List.{List, []};
 ghost use Prim.Native.Nat.{ℕ, _+_};
 ghost use lib.ListN.{take};
-ghost use Rattle.txn.specs.Txn.{writesOf};
+ghost use Rattle.txn.specs.Txn.{maxWrites, writesOf};
 ghost use Rattle.image.specs.Image.{logStart};
 ghost use Rattle.image.specs.Flush.{flushAll};
 ghost use Rattle.image.specs.Stores.{stored, places};
@@ -12,7 +12,8 @@ ghost use Rattle.log.specs.Append.{advance, appendStores};
 ghost use Rattle.record.specs.Record.{cursorOf, appendedLane};
 ghost use Rattle.store.specs.Calls.{writesOn, logRefusal, logStep, markRefusal, markStep};
 ghost use Rattle.store.specs.Interface.{machineOf, stepOf, drainedState};
-ghost use Rattle.append.specs.Plans.{roomRefusal, logChecks, Planned, Searchable, Appendable, Ready, loggedStep};
+ghost use Rattle.append.specs.Plans.{roomRefusal, logChecks, Planned, Searchable, Appendable, AfterDrain};
+ghost use Rattle.append.specs.Plans.{loggedStep};
 use image::Sizes;
 use log::Latest;
 use record::Lane;
@@ -25,8 +26,8 @@ use store::Marked;
 use store::Outcome;
 use txn::Writes;
 
-// What Log or Mark would do: the number of its refusal or 0, and, where it is 0, the transaction's writes and the lane's latest sequence, from which its
-// drain takes the floor.
+// What Log or Mark would do: the number of its refusal or 0, and, where it is 0, the transaction's writes and the
+// lane's latest sequence, from which its drain takes the floor.
 struct Plan {
     number: u64,
     writes: Writes,
@@ -35,7 +36,7 @@ struct Plan {
 
 // No writes.
 fn none() -> Writes
-    ensures { λ r. ⌜ r ≡ writesOf 16 [] ⌝ }
+    ensures { λ r. ⌜ r ≡ writesOf maxWrites [] ⌝ }
 {
     Writes {
         count: 0,
@@ -43,12 +44,13 @@ fn none() -> Writes
             word: 0,
             old: 0,
             new: 0,
-        }; 16],
+        }; txn::MAX_WRITES],
     }
 }
 
-// Refusals 8 and 9 of a call that appends `count` slots: the clock is spent, or a slot of a sequence at or above the lower bound would be overwritten,
-// floors as after the lane's drain, which finds this latest sequence. It looks at the slots that the append writes and 16 more.
+// Refusals 8 and 9 of a call that appends `count` slots: the clock is spent, or a slot of a sequence at or above the
+// lower bound would be overwritten, floors as after the lane's drain, which finds this latest sequence. It looks at the
+// slots that the append writes and 16 more.
 fn append_refusal(
     sizes: Sizes,
     state: Record,
@@ -67,10 +69,9 @@ fn append_refusal(
     if record::spent(state) {
         return 8;
     }
-    let start = image::log_start(sizes, lane);
-    let end = start + 2 * sizes.slots;
+    let log = image::log_part(sizes, cache, lane);
     if log::search::would_hit(
-        &cache[start..end],
+        log,
         sizes.words,
         sizes.slots,
         cache[0],
@@ -93,7 +94,8 @@ fn log_checks(
     lane: usize,
     txn: &[u64],
 ) -> u64
-    ensures { λ r. ⌜ r ≡ logChecks sizes lane (now (txn .entry)) (machineOf state (now (cache .entry)) (now (nvm .entry)) (now (flags .entry))) ⌝ }
+    ensures { λ r. ⌜ r ≡ logChecks sizes lane (now (txn .entry))
+        (machineOf state (now (cache .entry)) (now (nvm .entry)) (now (flags .entry))) ⌝ }
 {
     let number = store::drain_refusal(sizes, state, cache, nvm, flags, lane);
     if number != 0 {
@@ -119,7 +121,12 @@ fn plan_log(
     lane: usize,
     txn: &[u64],
 ) -> Plan
-    ensures { λ r. ⌜ Planned r (logRefusal sizes lane (now (txn .entry)) (machineOf state (now (cache .entry)) (now (nvm .entry)) (now (flags .entry)))) (writesOn sizes (now (txn .entry)) (machineOf state (now (cache .entry)) (now (nvm .entry)) (now (flags .entry)))) (latestIn sizes (now (cache .entry)) lane) ⌝ }
+    ensures { λ r. ⌜ Planned r
+        (logRefusal sizes lane (now (txn .entry))
+        (machineOf state (now (cache .entry)) (now (nvm .entry)) (now (flags .entry))))
+        (writesOn sizes (now (txn .entry))
+        (machineOf state (now (cache .entry)) (now (nvm .entry)) (now (flags .entry))))
+        (latestIn sizes (now (cache .entry)) lane) ⌝ }
 {
     let number = log_checks(sizes, state, cache, nvm, flags, lane, txn);
     if number != 0 {
@@ -155,14 +162,15 @@ pub fn log_refusal(
     lane: usize,
     txn: &[u64],
 ) -> u64
-    ensures { λ r. ⌜ r ≡ logRefusal sizes lane (now (txn .entry)) (machineOf state (now (cache .entry)) (now (nvm .entry)) (now (flags .entry))) ⌝ }
+    ensures { λ r. ⌜ r ≡ logRefusal sizes lane (now (txn .entry))
+        (machineOf state (now (cache .entry)) (now (nvm .entry)) (now (flags .entry))) ⌝ }
 {
     let plan = plan_log(sizes, state, cache, nvm, flags, lane, txn);
     plan.number
 }
 
-// A sequence of these writes at this timestamp, appended to a lane that is drained: the lane then, with this phase and redo log. All cached changes of an append
-// are made here, and no non-volatile memory is lent: it stores no cell.
+// A sequence of these writes at this timestamp, appended to a lane that is drained: the lane then, with this phase and
+// redo log. All cached changes of an append are made here, and no non-volatile memory is lent: it stores no cell.
 fn appended(
     sizes: Sizes,
     drained: Lane,
@@ -172,12 +180,17 @@ fn appended(
     writes: Writes,
     stamp: u64,
     phase: Phase,
-    redo: [Pair; 16],
+    redo: [Pair; txn::MAX_WRITES],
 ) -> Lane
     requires { ⌜ Appendable sizes drained (now cache) (now flags) lane writes stamp ⌝ }
-    ensures after { λ r. ⌜ r ≡ appendedLane stamp (advance (sizes .slots) (writes .count + 1) (cursorOf drained)) phase redo drained ⌝ }
-    ensures written { λ r. ⌜ now (cache .exit) ≡ stored (appendStores (logStart sizes lane) (sizes .slots) stamp (cursorOf drained) (take (writes .count) (writes .list))) (now (cache .entry)) ⌝ }
-    ensures flushed { λ r. ⌜ now (flags .exit) ≡ flushAll lane (places (appendStores (logStart sizes lane) (sizes .slots) stamp (cursorOf drained) (take (writes .count) (writes .list)))) (now (flags .entry)) ⌝ }
+    ensures after { λ r. ⌜ r ≡ appendedLane stamp
+        (advance (sizes .slots) (writes .count + 1) (cursorOf drained)) phase redo drained ⌝ }
+    ensures written { λ r. ⌜ now (cache .exit)
+        ≡ stored (appendStores (logStart sizes lane) (sizes .slots) stamp (cursorOf drained)
+        (take (writes .count) (writes .list))) (now (cache .entry)) ⌝ }
+    ensures flushed { λ r. ⌜ now (flags .exit)
+        ≡ flushAll lane (places (appendStores (logStart sizes lane) (sizes .slots) stamp (cursorOf drained)
+        (take (writes .count) (writes .list)))) (now (flags .entry)) ⌝ }
 {
     let start = image::log_start(sizes, lane);
     let cursor = record::cursor_of(drained);
@@ -204,8 +217,12 @@ fn log_writes(
     lane: usize,
     writes: Writes,
 ) -> Outcome
-    requires { ⌜ Ready sizes state latest (now cache) (now flags) lane writes ⌝ }
-    ensures { λ r. ⌜ ((nvm : List ℕ) → stepOf r (now (cache .exit)) nvm (now (flags .exit)) ≡ loggedStep sizes lane (take (writes .count) (writes .list)) (machineOf (drainedState sizes (now (cache .entry)) lane state) (now (cache .entry)) nvm (now (flags .entry)))) ⌝ }
+    requires { ⌜ AfterDrain sizes state latest (now cache) (now flags) lane writes ⌝ }
+    ensures { λ r. ⌜ ((nvm : List ℕ)
+        → stepOf r (now (cache .exit)) nvm (now (flags .exit))
+        ≡ loggedStep sizes lane (take (writes .count) (writes .list))
+        (machineOf (drainedState sizes (now (cache .entry)) lane state) (now (cache .entry)) nvm
+        (now (flags .entry)))) ⌝ }
 {
     let old = state.lanes[lane];
     let at = record::drained_lane(latest, old);
@@ -224,8 +241,9 @@ fn log_writes(
     }
 }
 
-// Logs a transaction: its run on the cached words is left as undo entries in the log and as the redo log in the record. One run, one pass over
-// the flags, one over the lane's log for its latest sequence and, where the transaction writes, a look at up to 33 slots for a hit.
+// Logs a transaction: its run on the cached words is left as undo entries in the log and as the redo log in the record.
+// One run, one pass over the flags, one over the lane's log for its latest sequence and, where the transaction writes,
+// a look at up to 33 slots for a hit.
 pub fn log(
     sizes: Sizes,
     state: Record,
@@ -235,7 +253,9 @@ pub fn log(
     lane: usize,
     txn: &[u64],
 ) -> Outcome
-    ensures { λ r. ⌜ stepOf r (now (cache .exit)) (now (nvm .exit)) (now (flags .exit)) ≡ logStep sizes lane (now (txn .entry)) (machineOf state (now (cache .entry)) (now (nvm .entry)) (now (flags .entry))) ⌝ }
+    ensures { λ r. ⌜ stepOf r (now (cache .exit)) (now (nvm .exit)) (now (flags .exit))
+        ≡ logStep sizes lane (now (txn .entry))
+        (machineOf state (now (cache .entry)) (now (nvm .entry)) (now (flags .entry))) ⌝ }
 {
     let plan = plan_log(sizes, state, cache, nvm, flags, lane, txn);
     let number = plan.number;
@@ -262,7 +282,9 @@ fn plan_mark(
     flags: &[u8],
     lane: usize,
 ) -> Plan
-    ensures { λ r. ⌜ Planned r (markRefusal sizes lane (machineOf state (now (cache .entry)) (now (nvm .entry)) (now (flags .entry)))) [] (latestIn sizes (now (cache .entry)) lane) ⌝ }
+    ensures { λ r. ⌜ Planned r
+        (markRefusal sizes lane (machineOf state (now (cache .entry)) (now (nvm .entry)) (now (flags .entry)))) []
+        (latestIn sizes (now (cache .entry)) lane) ⌝ }
 {
     let number = store::drain_refusal(sizes, state, cache, nvm, flags, lane);
     if number != 0 {
@@ -289,13 +311,15 @@ pub fn mark_refusal(
     flags: &[u8],
     lane: usize,
 ) -> u64
-    ensures { λ r. ⌜ r ≡ markRefusal sizes lane (machineOf state (now (cache .entry)) (now (nvm .entry)) (now (flags .entry))) ⌝ }
+    ensures { λ r. ⌜ r ≡ markRefusal sizes lane
+        (machineOf state (now (cache .entry)) (now (nvm .entry)) (now (flags .entry))) ⌝ }
 {
     let plan = plan_mark(sizes, state, cache, nvm, flags, lane);
     plan.number
 }
 
-// Appends a timestamp over no entries; a logged transaction of the lane is dropped. One pass over the flags, one over the lane's log, and a look at 17 slots.
+// Appends a timestamp over no entries; a logged transaction of the lane is dropped. One pass over the flags, one over
+// the lane's log, and a look at 17 slots.
 pub fn mark(
     sizes: Sizes,
     state: Record,
@@ -304,7 +328,8 @@ pub fn mark(
     flags: &mut [u8],
     lane: usize,
 ) -> Outcome
-    ensures { λ r. ⌜ stepOf r (now (cache .exit)) (now (nvm .exit)) (now (flags .exit)) ≡ markStep sizes lane (machineOf state (now (cache .entry)) (now (nvm .entry)) (now (flags .entry))) ⌝ }
+    ensures { λ r. ⌜ stepOf r (now (cache .exit)) (now (nvm .exit)) (now (flags .exit))
+        ≡ markStep sizes lane (machineOf state (now (cache .entry)) (now (nvm .entry)) (now (flags .entry))) ⌝ }
 {
     let plan = plan_mark(sizes, state, cache, nvm, flags, lane);
     let number = plan.number;

@@ -1,12 +1,13 @@
 -- Redo and Validate from the drain on, and what they know then: what the inner functions' contracts compare. Assumes nothing.
 use Prim.Native.Nat.{ℕ, _+_, _^_, _≤_, _<_}
-use mathlib.Core.Bool.{Bool, true, cond, not, _&&_}
+use mathlib.Core.Bool.{Bool, cond, not, _&&_}
 use mathlib.Core.List.{List, [], _∷_, _++_}
 use mathlib.Core.Path.{_≡_}
 use lib.Dec.{eqb}
 use lib.ListN.{length, getD}
+use Rattle.txn.specs.Txn.{maxWrites}
 use Rattle.txn.specs.declared.Write.{Write}
-use Rattle.image.specs.Image.{sizesOk, imageLength, logStart, logOf}
+use Rattle.image.specs.Image.{imageLength, IsImage, logStart, logOf}
 use Rattle.image.specs.Stores.{Store}
 use Rattle.image.specs.declared.Sizes.{Sizes}
 use Rattle.log.specs.Append.{circular, restampStore}
@@ -42,21 +43,16 @@ PairsInside n count pairs = (i : ℕ) → i < count → 1 + getD pairs i noPair 
 
 -- what a commit at timestamp s of what lane L has logged needs of its buffers
 pub record Restampable (z : Sizes) (cache flags : List ℕ) (L : ℕ) (g : Logged) (s : ℕ) : Type 0 where
-  pub sizes-ok : sizesOk z ≡ true
-  pub in-cache : length cache ≡ imageLength z
+  pub image : IsImage z cache
   pub in-flags : length flags ≡ imageLength z
   pub lane-below : L < z .lanes
   pub first : g .first < z .slots
-  pub most : g .count ≤ 16
+  pub most : g .count ≤ maxWrites
   pub room : s + 1 < 2 ^ 64
 
 -- what a call knows of a drained lane that may commit
-pub record Ready (z : Sizes) (r : Record) (cache flags : List ℕ) (L : ℕ) : Type 0 where
-  pub sizes-ok : sizesOk z ≡ true
-  pub in-cache : length cache ≡ imageLength z
-  pub in-flags : length flags ≡ imageLength z
-  pub lane-below : L < z .lanes
-  pub room : r .clock + 3 < 2 ^ 64
+pub record Committable (z : Sizes) (r : Record) (cache flags : List ℕ) (L : ℕ) : Type 0 where
+  pub restampable : Restampable z cache flags L (loggedIn (laneAt r L .phase)) (r .clock + 2)
   pub logged : LoggedIn z (r .clock) (laneAt r L .redo) (loggedIn (laneAt r L .phase))
 
 -- ---- the calls on a drained lane

@@ -12,9 +12,9 @@ use borrow.Author.Tests.{eq-eqb, ne-eqb, lt-ltb, le-ltb, ltb-true, not-false}
 use Rattle.laws.specs.Tests.{and-left, and-right}
 use Rattle.laws.specs.Lists.{none, more}
 use Rattle.slot.specs.declared.Content.{Content}
-use Rattle.txn.specs.Txn.{txnOk, run, noWrite}
+use Rattle.txn.specs.Txn.{maxWrites, txnOk, run, noWrite}
 use Rattle.txn.specs.declared.Write.{Write}
-use Rattle.image.specs.Image.{imageLength, dataOf, logStart, logOf}
+use Rattle.image.specs.Image.{maxLanes, imageLength, dataOf, logStart, logOf}
 use Rattle.image.specs.ImageLaws.{sizes-in, log-fits}
 use Rattle.image.specs.Flush.{flush, flushAll, drainedNvm, drainedFlags}
 use Rattle.image.specs.FlushLaws.{length-flushAll, flushAll-append, flushAll-snoc, length-drainedFlags}
@@ -37,9 +37,10 @@ use Rattle.store.specs.Machine.{Machine, Step, firstCause}
 use Rattle.store.specs.Calls.{badTxn, notLogged, clockSpent, drainRefusal, drained, changed, writesOn, pairStores, commitStores, committed}
 use Rattle.store.specs.Calls.{redoRefusal, isStale, redoPairs, redoStep, validateRefusal, entryMatches, entriesMatch, matches, released, validateStep}
 use Rattle.store.specs.Interface.{machineOf, Checked, drainedState}
-use Rattle.store.specs.StoreLaws.{first-holds, first-fails, first-end, first-none, refuses-txn, passes-txn, checked, at-lane, after-lane, lane-passed, step-taken}
+use Rattle.store.specs.StoreLaws.{first-holds, first-fails, first-end, first-none, refuses-txn, passes-txn, checked, at-lane, after-lane, lane-passed}
+use Rattle.store.specs.StoreLaws.{step-taken}
 use Rattle.store.specs.StoreLaws.{drained-by, drained-state, drained-clock, drained-last, drained-keeps}
-use Rattle.commit.specs.Commit.{commitRefusal, committedState, commitWords, matchesHeld, Restampable, Ready, redoDrained, validateDrained}
+use Rattle.commit.specs.Commit.{commitRefusal, committedState, commitWords, matchesHeld, Restampable, Committable, redoDrained, validateDrained}
 
 -- ---- refusals 7 and 8
 module _ (phase : Phase) (spent b : Bool) (f : b ≡ isLogged phase) where
@@ -75,17 +76,20 @@ module _ (z : Sizes) (L : ℕ) (m : Machine) (number : ℕ) (e : number ≡ drai
     unfolding validateRefusal
     validate-refused h = e ∙ sym (at-lane z L m _ (λ k. h (e ∙ k)))
 
-    pub validate-bad : number ≡ 0 → txnOk 16 (z .words) t ≡ false → 5 ≡ validateRefusal z L t m
+    pub validate-bad : number ≡ 0 → txnOk maxWrites (z .words) t ≡ false → 5 ≡ validateRefusal z L t m
     unfolding validateRefusal
     validate-bad h f = sym (after-lane z L m _ (sym e ∙ h) ∙ refuses-txn _ z t f)
 
-    pub validate-causes : (k : ℕ) (s : Bool) → number ≡ 0 → txnOk 16 (z .words) t ≡ true → s ≡ spent (m .state) → k ≡ commitRefusal (laneAt (m .state) L .phase) s
+    pub validate-causes : (k : ℕ) (s : Bool) → number ≡ 0 → txnOk maxWrites (z .words) t ≡ true → s ≡ spent (m .state)
+        → k ≡ commitRefusal (laneAt (m .state) L .phase) s
         → k ≡ validateRefusal z L t m
     unfolding validateRefusal
-    validate-causes k s h g d f = f ∙ ap (commitRefusal (laneAt (m .state) L .phase)) d ∙ commit-causes L m ∙ sym (after-lane z L m _ (sym e ∙ h) ∙ passes-txn _ z t g)
+    validate-causes k s h g d f = f ∙ ap (commitRefusal (laneAt (m .state) L .phase)) d ∙ commit-causes L m
+        ∙ sym (after-lane z L m _ (sym e ∙ h) ∙ passes-txn _ z t g)
 
 -- ---- what a call knows that is not refused
-commit-none : (L : ℕ) (m : Machine) → firstCause (notLogged L m ∷ clockSpent m ∷ []) ≡ 0 → (isLogged (laneAt (m .state) L .phase) ≡ true) × (spent (m .state) ≡ false)
+commit-none : (L : ℕ) (m : Machine) → firstCause (notLogged L m ∷ clockSpent m ∷ []) ≡ 0
+    → (isLogged (laneAt (m .state) L .phase) ≡ true) × (spent (m .state) ≡ false)
 unfolding notLogged clockSpent
 commit-none L m e =
     let a = first-none _ _ (λ z. omega arith) e in
@@ -107,7 +111,7 @@ module _ (z : Sizes) (state : Record) (cache nvm flags : List ℕ) (L number : �
       record { known = checked z state cache nvm flags L (a .0); holds = b .0; unspent = b .1 }
 
   pub validate-accepted : (t : List ℕ) → number ≡ validateRefusal z L t (machineOf state cache nvm flags) → number ≡ 0
-      → Accepted z state cache nvm flags L × (txnOk 16 (z .words) t ≡ true)
+      → Accepted z state cache nvm flags L × (txnOk maxWrites (z .words) t ≡ true)
   unfolding validateRefusal badTxn
   validate-accepted t e h =
       let a = lane-passed z L (machineOf state cache nvm flags) _ (sym e ∙ h) in
@@ -116,39 +120,32 @@ module _ (z : Sizes) (state : Record) (cache nvm flags : List ℕ) (L number : �
       (record { known = checked z state cache nvm flags L (a .0); holds = b .0; unspent = b .1 }, not-false _ (c .0))
 
 -- what the range check says of a logged transaction, where clock, redo log and phase are equal
-same-logged : (z : Sizes) (k₁ k₂ : ℕ) (r₁ r₂ : List Pair) (p₁ p₂ : Phase) → k₁ ≡ k₂ → r₁ ≡ r₂ → p₁ ≡ p₂ → LoggedIn z k₂ r₂ (loggedIn p₂) → LoggedIn z k₁ r₁ (loggedIn p₁)
+same-logged : (z : Sizes) (k₁ k₂ : ℕ) (r₁ r₂ : List Pair) (p₁ p₂ : Phase) → k₁ ≡ k₂ → r₁ ≡ r₂ → p₁ ≡ p₂ → LoggedIn z k₂ r₂ (loggedIn p₂)
+    → LoggedIn z k₁ r₁ (loggedIn p₁)
 same-logged z k₁ k₂ r₁ r₂ p₁ p₂ e f h g = rw (e, f, h) g
 
 -- and after it
-pub ready : (z : Sizes) (state : Record) (cache nvm flags : List ℕ) (L : ℕ) (r : Record) (f : List ℕ) → Accepted z state cache nvm flags L → length (state .lanes) ≡ 8
-    → r ≡ drainedState z cache L state → f ≡ drainedFlags L flags → Ready z r cache f L
-ready z state cache nvm flags L r f a n d e =
+pub committable : (z : Sizes) (state : Record) (cache nvm flags : List ℕ) (L : ℕ) (r : Record) (f : List ℕ) → Accepted z state cache nvm flags L
+    → length (state .lanes) ≡ maxLanes → r ≡ drainedState z cache L state → f ≡ drainedFlags L flags → Committable z r cache f L
+committable z state cache nvm flags L r f a n d e =
     let k = a .known in
     let q = record-in z state (k .in-range) in
     let s = drained-keeps z cache L state in
-    let u : L < length (state .lanes) = omega (arith, sizes-in z (k .sizes-ok) .lanes-high, k .lane-below) in
-    let g = phase-in z (state .clock) (laneAt state L .redo) (laneAt state L .phase) (a .holds) (lane-in z (state .clock) (laneAt state L) (q .lanes L (k .lane-below) u) .phase) in
+    let u : L < length (state .lanes) = omega (arith, sizes-in z (k .image .sizes-ok) .lanes-high, k .lane-below) in
+    let g = phase-in z (state .clock) (laneAt state L .redo) (laneAt state L .phase) (a .holds)
+    (lane-in z (state .clock) (laneAt state L) (q .lanes L (k .lane-below) u) .phase) in
+    let h : LoggedIn z (r .clock) (laneAt r L .redo) (loggedIn (laneAt r L .phase)) =
+    rw d (same-logged z _ _ _ _ _ _ (drained-clock z cache L state) (s .redo) (s .phase) g) in
     record {
-      sizes-ok = k .sizes-ok;
-      in-cache = k .in-cache;
-      in-flags = rw e (length-drainedFlags L flags ∙ k .in-flags);
-      lane-below = k .lane-below;
-      room = rw (d, drained-clock z cache L state) (clock-room state (a .unspent) (q .clock));
-      logged = rw d (same-logged z _ _ _ _ _ _ (drained-clock z cache L state) (s .redo) (s .phase) g);
-    }
-
--- and what its commit needs
-pub restampable : (z : Sizes) (r : Record) (cache flags : List ℕ) (L : ℕ) (g : Logged) → Ready z r cache flags L → g ≡ loggedIn (laneAt r L .phase)
-    → Restampable z cache flags L g (r .clock + 2)
-restampable z r cache flags L g k f =
-    record {
-      sizes-ok = k .sizes-ok;
-      in-cache = k .in-cache;
-      in-flags = k .in-flags;
-      lane-below = k .lane-below;
-      first = rw f (k .logged .first);
-      most = rw f (k .logged .most);
-      room = omega (arith, k .room);
+      restampable = record {
+        image = k .image;
+        in-flags = rw e (length-drainedFlags L flags ∙ k .in-flags);
+        lane-below = k .lane-below;
+        first = h .first;
+        most = h .most;
+        room = rw (d, drained-clock z cache L state) (omega (arith, clock-room state (a .unspent) (q .clock)));
+      };
+      logged = h;
     }
 
 -- ---- pairs written
@@ -168,7 +165,8 @@ pub written-none : (L : ℕ) (pairs : List Pair) (cache flags : List ℕ) → Wr
 unfolding pairStores stored places flushAll
 written-none L pairs cache flags = record { long = refl; broad = refl; written = refl; flushed = refl }
 
-module _ (L : ℕ) (pairs : List Pair) (cache₀ flags₀ : List ℕ) (i : ℕ) (cache flags : List ℕ) (w : Written L pairs cache₀ flags₀ i cache flags) (h : i < length pairs) where
+module _ (L : ℕ) (pairs : List Pair) (cache₀ flags₀ : List ℕ) (i : ℕ) (cache flags : List ℕ) (w : Written L pairs cache₀ flags₀ i cache flags)
+    (h : i < length pairs) where
   last : Store
   last = record { at = 1 + getD pairs i noPair .word; value = getD pairs i noPair .value }
 
@@ -184,7 +182,13 @@ module _ (L : ℕ) (pairs : List Pair) (cache₀ flags₀ : List ℕ) (i : ℕ) 
         long = simp length-set (w .long);
         broad = rw f (simp length-set (w .broad));
         written = rw (stores, stored-snoc (pairStores (take i pairs)) last cache₀, ← w .written, e);
-        flushed = f ∙ rw (stores, places-append (pairStores (take i pairs)) (last ∷ []), flushAll-snoc L (places (pairStores (take i pairs))) (last .at) flags₀, ← w .flushed, e);
+        flushed = f ∙ rw (
+          stores,
+          places-append (pairStores (take i pairs)) (last ∷ []),
+          flushAll-snoc L (places (pairStores (take i pairs))) (last .at) flags₀,
+          ← w .flushed,
+          e,
+        );
       }
 
 -- a pair below the count is of a word inside the image
@@ -206,7 +210,7 @@ past-data W (p ∷ ps) image i h k =
 module _ (z : Sizes) (cache flags : List ℕ) (L : ℕ) (g : Logged) (s start slot : ℕ) (k : Restampable z cache flags L g s) (at : start ≡ logStart z L)
     (in-slot : slot ≡ circular (z .slots) (g .first + g .count)) where
   slot-low : slot < z .slots
-  slot-low = rw in-slot (circular-low (z .slots) _ (omega (arith, sizes-in z (k .sizes-ok) .slots-low, k .first, k .most)))
+  slot-low = rw in-slot (circular-low (z .slots) _ (omega (arith, sizes-in z (k .image .sizes-ok) .slots-low, k .first, k .most)))
 
   value-inside : start + 2 * slot + 1 < imageLength z
   value-inside = omega (arith, at, log-fits z L (k .lane-below), slot-low)
@@ -214,7 +218,7 @@ module _ (z : Sizes) (cache flags : List ℕ) (L : ℕ) (g : Logged) (s start sl
   pub restamp-inside : (ps : List Pair) (cache₁ flags₁ : List ℕ) → cache₁ ≡ stored (pairStores ps) cache → flags₁ ≡ flushAll L (places (pairStores ps)) flags
       → (start + 2 * slot + 1 < length cache₁) × (start + 2 * slot + 1 < length flags₁)
   restamp-inside ps cache₁ flags₁ e f = (
-    rw (e, length-stored (pairStores ps) cache, k .in-cache) value-inside,
+    rw (e, length-stored (pairStores ps) cache, k .image .in-image) value-inside,
     rw (f, length-flushAll L (places (pairStores ps)) flags, k .in-flags) value-inside,
   )
 
@@ -243,7 +247,8 @@ module _ (z : Sizes) (L : ℕ) (g : Logged) (s : ℕ) (ps : List Pair) (cache ca
   commit-flushed flags flags₁ flags₂ f e =
       e
       ∙ rw (restamp, f)
-      (sym (ap (λ (l : List ℕ). flushAll L l flags) (places-append (pairStores ps) (last-store ∷ [])) ∙ flushAll-append L (places (pairStores ps)) (places (last-store ∷ [])) flags))
+      (sym (ap (λ (l : List ℕ). flushAll L l flags) (places-append (pairStores ps) (last-store ∷ []))
+      ∙ flushAll-append L (places (pairStores ps)) (places (last-store ∷ [])) flags))
 
 -- the machine then, with its record
 pub commit-done : (z : Sizes) (L : ℕ) (g : Logged) (ps : List Pair) (r : Record) (cache nvm flags : List ℕ) (r₂ : Record) (cache₂ flags₂ : List ℕ)
@@ -262,7 +267,8 @@ pub record Compared (W N : ℕ) (log : List ℕ) (first : ℕ) (ws : List Write)
 pub compared-none : (W N : ℕ) (log : List ℕ) (first : ℕ) (ws : List Write) → first < N → Compared W N log first ws 0 first
 compared-none W N log first ws h = record { within = h; rest = refl }
 
-module _ (W N : ℕ) (log : List ℕ) (first : ℕ) (list : List Write) (n i slot : ℕ) (a : Compared W N log first (take n list) i slot) (h : i < n) (k : n ≤ length list)
+module _ (W N : ℕ) (log : List ℕ) (first : ℕ) (list : List Write) (n i slot : ℕ) (a : Compared W N log first (take n list) i slot) (h : i < n)
+    (k : n ≤ length list)
     (w : Write) (c : Content) (b : Bool) (e : w ≡ getD list i noWrite) (f : c ≡ slotAt W log slot) (g : b ≡ entryMatches w c) where
   next-write : drop i (take n list) ≡ w ∷ drop (i + 1) (take n list)
   next-write =
@@ -283,7 +289,8 @@ module _ (W N : ℕ) (log : List ℕ) (first : ℕ) (list : List Write) (n i slo
         rest = next-match ∙ rw (d, q);
       }
 
-pub compared-all : (W N : ℕ) (log : List ℕ) (first : ℕ) (list : List Write) (n i slot : ℕ) → Compared W N log first (take n list) i slot → i ≡ n → n ≤ length list
+pub compared-all : (W N : ℕ) (log : List ℕ) (first : ℕ) (list : List Write) (n i slot : ℕ) → Compared W N log first (take n list) i slot → i ≡ n
+    → n ≤ length list
     → true ≡ entriesMatch W N log first (take n list)
 unfolding entriesMatch
 compared-all W N log first list n i slot a e k = sym (a .rest ∙ rw (e, ended))
@@ -308,9 +315,9 @@ unfolding matchesHeld matches
 held-matches z L g ws r cache nvm flags f = rw f
 
 -- ---- how Redo ends, on a drained lane
-pub redo-requires : (z : Sizes) (L : ℕ) (r : Record) (cache flags : List ℕ) (g : Logged) → Ready z r cache flags L → g ≡ loggedIn (laneAt r L .phase)
-    → Restampable z cache flags L g (r .clock + 2) × (g .count ≤ 16) × (pairsOk (z .words) (take (g .count) (laneAt r L .redo)) ≡ true)
-redo-requires z L r cache flags g k f = (restampable z r cache flags L g k f, rw f (k .logged .most), rw f (k .logged .pairs))
+pub redo-requires : (z : Sizes) (L : ℕ) (r : Record) (cache flags : List ℕ) (g : Logged) → Committable z r cache flags L → g ≡ loggedIn (laneAt r L .phase)
+    → Restampable z cache flags L g (r .clock + 2) × ((g .count ≤ maxWrites) × (pairsOk (z .words) (take (g .count) (laneAt r L .redo)) ≡ true))
+redo-requires z L r cache flags g k f = (rw f (k .restampable), (rw f (k .logged .most), rw f (k .logged .pairs)))
 
 module _ (z : Sizes) (L : ℕ) (r : Record) (cache nvm flags : List ℕ) (g : Logged) (f : g ≡ loggedIn (laneAt r L .phase)) where
   pub redo-stale : g .stamp < r .last → record { answer = Stale; machine = machineOf r cache nvm flags } ≡ redoDrained z L (machineOf r cache nvm flags)
@@ -328,14 +335,16 @@ unfolding pairsOk pairsOf
 pairs-low W none = refl
 pairs-low W (more {x = w} h a) = rw (lt-ltb (w .word) W h) (pairs-low W a)
 
-module _ (z : Sizes) (list : List Write) (n : ℕ) (k : n ≤ 16) (long : n ≤ length list) (pairs : List Pair) (p : pairs ≡ pairsOf 16 (take n list)) where
+module _ (z : Sizes) (list : List Write) (n : ℕ) (k : n ≤ maxWrites) (long : n ≤ length list) (pairs : List Pair)
+    (p : pairs ≡ pairsOf maxWrites (take n list)) where
   first-pairs : take n pairs ≡ pairsOf (length (take n list)) (take n list)
-  first-pairs = rw (p, length-take-le n list long) (pairs-cut n 16 (take n list) k)
+  first-pairs = rw (p, length-take-le n list long) (pairs-cut n maxWrites (take n list) k)
 
   pub validate-pairs : WordsBelow (z .words) (take n list) → pairsOk (z .words) (take n pairs) ≡ true
   validate-pairs a = rw first-pairs (pairs-low (z .words) a)
 
-  pub validate-commits : (L : ℕ) (r : Record) (cache nvm flags : List ℕ) (b : Bool) (m : Machine) → b ≡ matches z L (take n list) (machineOf r cache nvm flags) → b ≡ true
+  pub validate-commits : (L : ℕ) (r : Record) (cache nvm flags : List ℕ) (b : Bool) (m : Machine) → b ≡ matches z L (take n list) (machineOf r cache nvm flags)
+      → b ≡ true
       → m ≡ committed z L (take n pairs) (machineOf r cache nvm flags)
       → record { answer = Committed (r .clock + 2); machine = m } ≡ validateDrained z L (take n list) (machineOf r cache nvm flags)
   unfolding validateDrained

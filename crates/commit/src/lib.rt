@@ -2,16 +2,19 @@
 ghost use mathlib.Core.Path.{_≡_};
 ghost use mathlib.Core.Bool.{true};
 ghost use mathlib.Core.List.{List};
-ghost use Prim.Native.Nat.{ℕ, _+_, _*_, _^_, _≤_, _<_};
+ghost use Prim.Native.Nat.{ℕ, _+_, _^_, _≤_, _<_};
 ghost use lib.ListN.{length, take};
-ghost use Rattle.image.specs.Image.{sizesOk, imageLength};
+ghost use Rattle.txn.specs.Txn.{maxWrites};
+ghost use Rattle.image.specs.Image.{maxLanes, IsImage, IsLog};
 ghost use Rattle.image.specs.Stores.{stored, places};
 ghost use Rattle.image.specs.Flush.{flushAll};
 ghost use Rattle.log.specs.AppendEntries.{WordsBelow};
 ghost use Rattle.record.specs.Record.{pairsOk};
-ghost use Rattle.store.specs.Calls.{redoRefusal, redoStep, validateRefusal, validateStep, pairStores, entryMatches, entriesMatch};
+ghost use Rattle.store.specs.Calls.{redoRefusal, redoStep, validateRefusal, validateStep, pairStores, entryMatches};
+ghost use Rattle.store.specs.Calls.{entriesMatch};
 ghost use Rattle.store.specs.Interface.{machineOf, stepOf};
-ghost use Rattle.commit.specs.Commit.{commitRefusal, committedState, commitWords, matchesHeld, PairsInside, Restampable, Ready, redoDrained, validateDrained};
+ghost use Rattle.commit.specs.Commit.{commitRefusal, committedState, commitWords, matchesHeld, PairsInside};
+ghost use Rattle.commit.specs.Commit.{Restampable, Committable, redoDrained, validateDrained};
 use image::Sizes;
 use record::Logged;
 use record::Pair;
@@ -45,7 +48,8 @@ pub fn redo_refusal(
     flags: &[u8],
     lane: usize,
 ) -> u64
-    ensures { λ r. ⌜ r ≡ redoRefusal sizes lane (machineOf state (now (cache .entry)) (now (nvm .entry)) (now (flags .entry))) ⌝ }
+    ensures { λ r. ⌜ r ≡ redoRefusal sizes lane
+        (machineOf state (now (cache .entry)) (now (nvm .entry)) (now (flags .entry))) ⌝ }
 {
     let number = store::drain_refusal(sizes, state, cache, nvm, flags, lane);
     if number != 0 {
@@ -57,10 +61,20 @@ pub fn redo_refusal(
 }
 
 // Writes the first `count` pairs to the cached data words, in order, each flushed.
-fn write_pairs(cache: &mut [u64], flags: &mut [u8], lane: usize, pairs: [Pair; 16], count: usize)
-    requires { ⌜ (lane < 8) × (count ≤ 16) × (length (now flags) ≡ length (now cache)) × PairsInside (length (now cache)) count pairs ⌝ }
+fn write_pairs(
+    cache: &mut [u64],
+    flags: &mut [u8],
+    lane: usize,
+    pairs: [Pair; txn::MAX_WRITES],
+    count: usize,
+)
+    requires { ⌜ lane < maxLanes ⌝ }
+    requires { ⌜ count ≤ maxWrites ⌝ }
+    requires { ⌜ length (now flags) ≡ length (now cache) ⌝ }
+    requires { ⌜ PairsInside (length (now cache)) count pairs ⌝ }
     ensures written { λ r. ⌜ now (cache .exit) ≡ stored (pairStores (take count pairs)) (now (cache .entry)) ⌝ }
-    ensures flushed { λ r. ⌜ now (flags .exit) ≡ flushAll lane (places (pairStores (take count pairs))) (now (flags .entry)) ⌝ }
+    ensures flushed { λ r. ⌜ now (flags .exit)
+        ≡ flushAll lane (places (pairStores (take count pairs))) (now (flags .entry)) ⌝ }
 {
     for i in 0..count {
         let pair = pairs[i];
@@ -72,7 +86,8 @@ fn write_pairs(cache: &mut [u64], flags: &mut [u8], lane: usize, pairs: [Pair; 1
 
 // The record after a commit at the clock's next timestamp.
 fn committed_state(mut state: Record, lane: usize) -> Record
-    requires { ⌜ (lane < 8) × (state .clock + 2 < 2 ^ 64) ⌝ }
+    requires { ⌜ lane < maxLanes ⌝ }
+    requires { ⌜ state .clock + 2 < 2 ^ 64 ⌝ }
     ensures { λ r. ⌜ r ≡ committedState lane state ⌝ }
 {
     let stamp = state.clock + 2;
@@ -84,8 +99,9 @@ fn committed_state(mut state: Record, lane: usize) -> Record
     state
 }
 
-// The words of a commit of these pairs at this timestamp, which replaces the one that closes the entries of the lane's logged transaction. All cached changes of
-// a commit are made here, and no non-volatile memory is lent: it stores no cell.
+// The words of a commit of these pairs at this timestamp, which replaces the one that closes the entries of the lane's
+// logged transaction. All cached changes of a commit are made here, and no non-volatile memory is lent: it stores no
+// cell.
 fn commit(
     sizes: Sizes,
     cache: &mut [u64],
@@ -93,12 +109,17 @@ fn commit(
     lane: usize,
     held: Logged,
     stamp: u64,
-    pairs: [Pair; 16],
+    pairs: [Pair; txn::MAX_WRITES],
     count: usize,
 )
-    requires { ⌜ Restampable sizes (now cache) (now flags) lane held stamp × (count ≤ 16) × (pairsOk (sizes .words) (take count pairs) ≡ true) ⌝ }
-    ensures written { λ r. ⌜ now (cache .exit) ≡ stored (commitWords sizes lane held stamp (take count pairs) (now (cache .entry))) (now (cache .entry)) ⌝ }
-    ensures flushed { λ r. ⌜ now (flags .exit) ≡ flushAll lane (places (commitWords sizes lane held stamp (take count pairs) (now (cache .entry)))) (now (flags .entry)) ⌝ }
+    requires { ⌜ Restampable sizes (now cache) (now flags) lane held stamp ⌝ }
+    requires { ⌜ count ≤ maxWrites ⌝ }
+    requires { ⌜ pairsOk (sizes .words) (take count pairs) ≡ true ⌝ }
+    ensures written { λ r. ⌜ now (cache .exit)
+        ≡ stored (commitWords sizes lane held stamp (take count pairs) (now (cache .entry))) (now (cache .entry)) ⌝ }
+    ensures flushed { λ r. ⌜ now (flags .exit)
+        ≡ flushAll lane (places (commitWords sizes lane held stamp (take count pairs) (now (cache .entry))))
+        (now (flags .entry)) ⌝ }
 {
     let start = image::log_start(sizes, lane);
     let slot = log::tail::circular(sizes.slots, held.first + held.count);
@@ -114,8 +135,10 @@ fn redo_drained(
     flags: &mut [u8],
     lane: usize,
 ) -> Outcome
-    requires { ⌜ Ready sizes drained (now cache) (now flags) lane ⌝ }
-    ensures { λ r. ⌜ ((nvm : List ℕ) → stepOf r (now (cache .exit)) nvm (now (flags .exit)) ≡ redoDrained sizes lane (machineOf drained (now (cache .entry)) nvm (now (flags .entry)))) ⌝ }
+    requires { ⌜ Committable sizes drained (now cache) (now flags) lane ⌝ }
+    ensures { λ r. ⌜ ((nvm : List ℕ)
+        → stepOf r (now (cache .exit)) nvm (now (flags .exit))
+        ≡ redoDrained sizes lane (machineOf drained (now (cache .entry)) nvm (now (flags .entry)))) ⌝ }
 {
     let at = drained.lanes[lane];
     let phase = at.phase;
@@ -145,7 +168,8 @@ pub fn redo(
     flags: &mut [u8],
     lane: usize,
 ) -> Outcome
-    ensures { λ r. ⌜ stepOf r (now (cache .exit)) (now (nvm .exit)) (now (flags .exit)) ≡ redoStep sizes lane (machineOf state (now (cache .entry)) (now (nvm .entry)) (now (flags .entry))) ⌝ }
+    ensures { λ r. ⌜ stepOf r (now (cache .exit)) (now (nvm .exit)) (now (flags .exit))
+        ≡ redoStep sizes lane (machineOf state (now (cache .entry)) (now (nvm .entry)) (now (flags .entry))) ⌝ }
 {
     let number = redo_refusal(sizes, state, cache, nvm, flags, lane);
     if number != 0 {
@@ -166,7 +190,8 @@ pub fn validate_refusal(
     lane: usize,
     txn: &[u64],
 ) -> u64
-    ensures { λ r. ⌜ r ≡ validateRefusal sizes lane (now (txn .entry)) (machineOf state (now (cache .entry)) (now (nvm .entry)) (now (flags .entry))) ⌝ }
+    ensures { λ r. ⌜ r ≡ validateRefusal sizes lane (now (txn .entry))
+        (machineOf state (now (cache .entry)) (now (nvm .entry)) (now (flags .entry))) ⌝ }
 {
     let number = store::drain_refusal(sizes, state, cache, nvm, flags, lane);
     if number != 0 {
@@ -198,7 +223,10 @@ fn entry_matches(write: Write, content: Content) -> bool
 
 // Does each write match the next entry, from slot `first` of the lane's log on?
 fn entries_match(log: &[u64], words: usize, slots: usize, first: usize, writes: Writes) -> bool
-    requires { ⌜ (length (now log) ≡ 2 * slots) × (slots ≤ 256) × (first < slots) × (writes .count ≤ 16) × (length (writes .list) ≡ 16) ⌝ }
+    requires { ⌜ IsLog slots (now log) ⌝ }
+    requires { ⌜ first < slots ⌝ }
+    requires { ⌜ writes .count ≤ maxWrites ⌝ }
+    requires { ⌜ length (writes .list) ≡ maxWrites ⌝ }
     ensures { λ r. ⌜ r ≡ entriesMatch words slots (now (log .entry)) first (take (writes .count) (writes .list)) ⌝ }
 {
     let mut slot = first;
@@ -214,21 +242,18 @@ fn entries_match(log: &[u64], words: usize, slots: usize, first: usize, writes: 
 
 // Are the writes those of this logged transaction of the lane?
 fn matches(sizes: Sizes, held: Logged, cache: &[u64], lane: usize, writes: Writes) -> bool
-    requires { ⌜ (sizesOk sizes ≡ true) × (length (now cache) ≡ imageLength sizes) × (lane < sizes .lanes) × (held .first < sizes .slots) × (writes .count ≤ 16) × (length (writes .list) ≡ 16) ⌝ }
+    requires { ⌜ IsImage sizes (now cache) ⌝ }
+    requires { ⌜ lane < sizes .lanes ⌝ }
+    requires { ⌜ held .first < sizes .slots ⌝ }
+    requires { ⌜ writes .count ≤ maxWrites ⌝ }
+    requires { ⌜ length (writes .list) ≡ maxWrites ⌝ }
     ensures { λ r. ⌜ r ≡ matchesHeld sizes lane held (take (writes .count) (writes .list)) (now (cache .entry)) ⌝ }
 {
     if writes.count != held.count {
         return false;
     }
-    let start = image::log_start(sizes, lane);
-    let end = start + 2 * sizes.slots;
-    entries_match(
-        &cache[start..end],
-        sizes.words,
-        sizes.slots,
-        held.first,
-        writes,
-    )
+    let log = image::log_part(sizes, cache, lane);
+    entries_match(log, sizes.words, sizes.slots, held.first, writes)
 }
 
 // Validate on a drained lane, of a transaction that now makes these writes.
@@ -240,8 +265,14 @@ fn validate_drained(
     lane: usize,
     writes: Writes,
 ) -> Outcome
-    requires { ⌜ Ready sizes drained (now cache) (now flags) lane × (writes .count ≤ 16) × (length (writes .list) ≡ 16) × WordsBelow (sizes .words) (take (writes .count) (writes .list)) ⌝ }
-    ensures { λ r. ⌜ ((nvm : List ℕ) → stepOf r (now (cache .exit)) nvm (now (flags .exit)) ≡ validateDrained sizes lane (take (writes .count) (writes .list)) (machineOf drained (now (cache .entry)) nvm (now (flags .entry)))) ⌝ }
+    requires { ⌜ Committable sizes drained (now cache) (now flags) lane ⌝ }
+    requires { ⌜ writes .count ≤ maxWrites ⌝ }
+    requires { ⌜ length (writes .list) ≡ maxWrites ⌝ }
+    requires { ⌜ WordsBelow (sizes .words) (take (writes .count) (writes .list)) ⌝ }
+    ensures { λ r. ⌜ ((nvm : List ℕ)
+        → stepOf r (now (cache .exit)) nvm (now (flags .exit))
+        ≡ validateDrained sizes lane (take (writes .count) (writes .list))
+        (machineOf drained (now (cache .entry)) nvm (now (flags .entry)))) ⌝ }
 {
     let at = drained.lanes[lane];
     let phase = at.phase;
@@ -261,7 +292,8 @@ fn validate_drained(
     }
 }
 
-// Commits a transaction in place of the one that the lane holds, if it now writes the words that were logged, over the values that were logged.
+// Commits a transaction in place of the one that the lane holds, if it now writes the words that were logged, over the
+// values that were logged.
 pub fn validate(
     sizes: Sizes,
     state: Record,
@@ -271,7 +303,9 @@ pub fn validate(
     lane: usize,
     txn: &[u64],
 ) -> Outcome
-    ensures { λ r. ⌜ stepOf r (now (cache .exit)) (now (nvm .exit)) (now (flags .exit)) ≡ validateStep sizes lane (now (txn .entry)) (machineOf state (now (cache .entry)) (now (nvm .entry)) (now (flags .entry))) ⌝ }
+    ensures { λ r. ⌜ stepOf r (now (cache .exit)) (now (nvm .exit)) (now (flags .exit))
+        ≡ validateStep sizes lane (now (txn .entry))
+        (machineOf state (now (cache .entry)) (now (nvm .entry)) (now (flags .entry))) ⌝ }
 {
     let number = validate_refusal(sizes, state, cache, nvm, flags, lane, txn);
     if number != 0 {

@@ -1,4 +1,5 @@
--- A drain in progress: what stands in non-volatile memory and in the flag bytes once the words below i are done, and that the end is the drain. Assumes nothing.
+-- A drain in progress: what stands in non-volatile memory and in the flag bytes once the words below i are done, and that the end is the
+-- drain. Assumes nothing.
 use Prim.Native.Nat.{ℕ, zero, suc, _+_, _<_, _≤_}
 use mathlib.Core.Path.{_≡_, refl, sym, _∙_, ap}
 use mathlib.Core.Bool.{Bool, true, false, cond}
@@ -93,7 +94,9 @@ module _ (L : ℕ) (cache nvm₀ flags₀ : List ℕ) where
           in-nvm = d .in-nvm;
           in-flags = d .in-flags;
           copied = d .copied ∙ rw (add-one i, nvm-more L i flags₀ cache nvm₀ hf hc, ← flag-now, t);
-          cleared = d .cleared ∙ sym (set-getD (clearedBelow L i flags₀) i 0) ∙ rw (add-one i, ← cleared-more L i flags₀, cleared-at L i flags₀, unflush-none L (getD flags₀ i 0) (rw flag-now at t));
+          cleared =
+              d .cleared ∙ sym (set-getD (clearedBelow L i flags₀) i 0)
+              ∙ rw (add-one i, ← cleared-more L i flags₀, cleared-at L i flags₀, unflush-none L (getD flags₀ i 0) (rw flag-now at t));
         }
 
   pub drained-all : (i : ℕ) (nvm flags : List ℕ) → length flags₀ ≤ i → Drained L cache nvm₀ flags₀ i nvm flags

@@ -118,7 +118,8 @@ flushAll-other M L (j ∷ is) flags i d h =
     go false = refl
 
 -- a bit once set stays set
-pub flushAll-keeps : (M L : ℕ) (is flags : List ℕ) (i : ℕ) → i < length flags → flushed M (getD flags i 0) ≡ true → flushed M (getD (flushAll L is flags) i 0) ≡ true
+pub flushAll-keeps : (M L : ℕ) (is flags : List ℕ) (i : ℕ) → i < length flags → flushed M (getD flags i 0) ≡ true
+    → flushed M (getD (flushAll L is flags) i 0) ≡ true
 flushAll-keeps M L is flags i h k =
     elim (ℕ-discrete M L) [ yes e ↦ rw e (flushed-flushAll L is flags i h ∙ rw (← e, k) (or-true (among i is))) | no d ↦ flushAll-other M L is flags i d h ∙ k ]
 
@@ -127,7 +128,8 @@ pub length-writtenBack : (w : ℕ) (cache nvm : List ℕ) → length (writtenBac
 unfolding writtenBack
 length-writtenBack w cache nvm = length-set nvm w (getD cache w 0)
 
-pub getD-writtenBack : (w : ℕ) (cache nvm : List ℕ) (i : ℕ) → i < length nvm → getD (writtenBack w cache nvm) i 0 ≡ cond (eqb w i) (getD cache i 0) (getD nvm i 0)
+pub getD-writtenBack : (w : ℕ) (cache nvm : List ℕ) (i : ℕ) → i < length nvm
+    → getD (writtenBack w cache nvm) i 0 ≡ cond (eqb w i) (getD cache i 0) (getD nvm i 0)
 unfolding writtenBack
 getD-writtenBack w cache nvm i h =
     getD-set nvm w (getD cache w 0) i h ∙ split (eqb w i) (λ e. rw (e, eqb-true w i e)) (λ e. rw e)

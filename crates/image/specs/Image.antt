@@ -1,18 +1,52 @@
 -- Sizes and the image: base timestamp, data words, each lane's log. 01, "Memory and time". Assumes nothing.
-use Prim.Native.Nat.{ℕ, _+_, _*_}
-use mathlib.Core.Bool.{Bool, _&&_}
+use Prim.Native.Nat.{ℕ, _+_, _*_, _≤_}
+use mathlib.Core.Path.{_≡_}
+use mathlib.Core.Bool.{Bool, true, _&&_}
 use mathlib.Core.List.{List}
 use lib.Dec.{leb, eqb}
-use lib.ListN.{getD, take, drop}
+use lib.ListN.{length, getD, take, drop}
 use Rattle.image.specs.declared.Sizes.{Sizes}
 
--- 1 to 1,024 data words, 1 to 8 lanes, 34 to 256 log slots a lane
+-- the most data words
+abbrev pub maxWords : ℕ
+maxWords = 1024
+
+-- the most lanes, one a bit of a flag byte
+abbrev pub maxLanes : ℕ
+maxLanes = 8
+
+-- the fewest log slots a lane: two of the longest sequences, which have 16 entries and a timestamp
+abbrev pub minSlots : ℕ
+minSlots = 34
+
+-- the most log slots a lane
+abbrev pub maxSlots : ℕ
+maxSlots = 256
+
+-- the words of the longest image
+abbrev pub maxImage : ℕ
+maxImage = 1 + maxWords + 2 * maxLanes * maxSlots
+
+-- at least one data word, one lane and minSlots log slots, and none of them more than the most
 unfoldable pub sizesOk : Sizes → Bool
-sizesOk z = leb 1 z.words && (leb z.words 1024 && (leb 1 z.lanes && (leb z.lanes 8 && (leb 34 z.slots && leb z.slots 256))))
+sizesOk z =
+    leb 1 z.words
+    && (leb z.words maxWords && (leb 1 z.lanes && (leb z.lanes maxLanes && (leb minSlots z.slots && leb z.slots maxSlots))))
 
 -- the words of an image: the base timestamp, the data words, two words a log slot
 unfoldable pub imageLength : Sizes → ℕ
 imageLength z = 1 + z.words + 2 * z.lanes * z.slots
+
+-- sizes in range, and words as many as their image has
+pub record IsImage (z : Sizes) (image : List ℕ) : Type 0 where
+  pub sizes-ok : sizesOk z ≡ true
+  pub in-image : length image ≡ imageLength z
+
+-- slots as many as a lane may have, and words as many as its log has
+pub record IsLog (slots : ℕ) (log : List ℕ) : Type 0 where
+  pub in-log : length log ≡ 2 * slots
+  pub slots-low : minSlots ≤ slots
+  pub slots-high : slots ≤ maxSlots
 
 -- refusal 1 is that this is false: sizes in range, and each of the three buffers as long as the image
 unfoldable pub buffersOk : Sizes → (cache nvm flags : ℕ) → Bool

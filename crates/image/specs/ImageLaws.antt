@@ -3,48 +3,49 @@ use mathlib.Core.Path.{_≡_, _∙_}
 use mathlib.Core.Logic.{_≢_, _⊎_, inl, inr}
 use mathlib.Core.Bool.{true}
 use mathlib.Core.List.{List}
-use Prim.Native.Nat.{ℕ, suc, _+_, _*_, _≤_, _<_}
+use Prim.Native.Nat.{ℕ, suc, _+_, _-_, _*_, _≤_, _<_}
 use native.Mathlib.Omega.{arith}
-use native.Mathlib.Nat.{mul-le-mul, mul-le-mul-left}
+use native.Mathlib.Nat.{mul-le-mul, mul-le-mul-left, add-sub-cancel-left}
 use lib.Dec.{leb, eqb, ltb}
-use lib.ListN.{length, getD, set, drop, length-take, length-drop, length-set}
+use lib.ListN.{length, getD, set, take, drop, length-take, length-drop, length-set}
 use lib.Seq.{take-set-lt, drop-set-add, getD-set-other, getD-take, getD-drop}
 use borrow.Author.Tests.{leb-true, eqb-true, ltb-true, ltb-false, eq-eqb}
 use Rattle.laws.specs.Tests.{split, and-left, and-right}
 use Rattle.laws.specs.Lists.{stretch-same}
-use Rattle.image.specs.Image.{sizesOk, imageLength, buffersOk, dataOf, logStart, logOf}
+use Rattle.image.specs.Image.{maxWords, maxLanes, minSlots, maxSlots, maxImage}
+use Rattle.image.specs.Image.{sizesOk, imageLength, IsImage, IsLog, buffersOk, dataOf, logStart, logOf}
 use Rattle.image.specs.declared.Sizes.{Sizes}
 
 -- ---- ranges
 pub record InRange (z : Sizes) : Type 0 where
   pub words-low : 1 ≤ z.words
-  pub words-high : z.words ≤ 1024
+  pub words-high : z.words ≤ maxWords
   pub lanes-low : 1 ≤ z.lanes
-  pub lanes-high : z.lanes ≤ 8
-  pub slots-low : 34 ≤ z.slots
-  pub slots-high : z.slots ≤ 256
+  pub lanes-high : z.lanes ≤ maxLanes
+  pub slots-low : minSlots ≤ z.slots
+  pub slots-high : z.slots ≤ maxSlots
 
 pub sizes-in : (z : Sizes) → sizesOk z ≡ true → InRange z
 unfolding sizesOk
 sizes-in z e =
     let b = and-right (leb 1 z.words) _ e in
-    let c = and-right (leb z.words 1024) _ b in
+    let c = and-right (leb z.words maxWords) _ b in
     let d = and-right (leb 1 z.lanes) _ c in
-    let f = and-right (leb z.lanes 8) _ d in
+    let f = and-right (leb z.lanes maxLanes) _ d in
     record {
       words-low = leb-true _ _ (and-left (leb 1 z.words) _ e);
-      words-high = leb-true _ _ (and-left (leb z.words 1024) _ b);
+      words-high = leb-true _ _ (and-left (leb z.words maxWords) _ b);
       lanes-low = leb-true _ _ (and-left (leb 1 z.lanes) _ c);
-      lanes-high = leb-true _ _ (and-left (leb z.lanes 8) _ d);
-      slots-low = leb-true _ _ (and-left (leb 34 z.slots) (leb z.slots 256) f);
-      slots-high = leb-true _ _ (and-right (leb 34 z.slots) (leb z.slots 256) f);
+      lanes-high = leb-true _ _ (and-left (leb z.lanes maxLanes) _ d);
+      slots-low = leb-true _ _ (and-left (leb minSlots z.slots) (leb z.slots maxSlots) f);
+      slots-high = leb-true _ _ (and-right (leb minSlots z.slots) (leb z.slots maxSlots) f);
     }
 
--- all logs together have at most 2 * 8 * 256 words
-pub logs-small : (z : Sizes) → InRange z → 2 * z.lanes * z.slots ≤ 4096
-logs-small z s = mul-le-mul {n₁ = 2 * z.lanes} {m₁ = z.slots} {n₂ = 16} {m₂ = 256} (omega arith) (s .slots-high)
+-- the words of all logs together
+pub logs-small : (z : Sizes) → InRange z → 2 * z.lanes * z.slots ≤ 2 * maxLanes * maxSlots
+logs-small z s = mul-le-mul {n₁ = 2 * z.lanes} {m₁ = z.slots} {n₂ = 2 * maxLanes} {m₂ = maxSlots} (omega arith) (s .slots-high)
 
-pub length-small : (z : Sizes) → InRange z → imageLength z ≤ 5121
+pub length-small : (z : Sizes) → InRange z → imageLength z ≤ maxImage
 unfolding imageLength
 length-small z s = omega (arith, logs-small z s)
 
@@ -54,7 +55,7 @@ unfolding logStart imageLength
 log-fits z L h = omega (arith, mul-le-mul-left (2 * z.slots) h)
 
 -- the logs before that of a lane have at most as many words as all
-pub logs-before-small : (z : Sizes) (L : ℕ) → InRange z → L < z.lanes → 2 * z.slots * L ≤ 4096
+pub logs-before-small : (z : Sizes) (L : ℕ) → InRange z → L < z.lanes → 2 * z.slots * L ≤ 2 * maxLanes * maxSlots
 unfolding logStart imageLength
 logs-before-small z L s h = omega (arith, log-fits z L h, logs-small z s)
 
@@ -109,6 +110,22 @@ module _ (z : Sizes) where
   length-log L image e h =
       length-take (2 * z.slots) (drop (logStart z L) image) ∙ rw (length-drop (logStart z L) image, e) (omega (arith, log-fits z L h))
 
+  pub log-of : (L : ℕ) (image : List ℕ) → IsImage z image → L < z.lanes → IsLog z.slots (logOf z L image)
+  log-of L image i h =
+      let s = sizes-in z (i .sizes-ok) in
+      record { in-log = length-log L image (i .in-image) h; slots-low = s .slots-low; slots-high = s .slots-high }
+
+  -- where the code finds the log of a lane: a part that ends within an image of few words
+  pub part-fits : (L : ℕ) (image : List ℕ) (start : ℕ) → IsImage z image → L < z.lanes → start ≡ logStart z L
+      → (start + 2 * z.slots ≤ length image) × (length image ≤ maxImage)
+  part-fits L image start i h e =
+      (rw (e, i .in-image) (log-fits z L h), rw (i .in-image) (length-small z (sizes-in z (i .sizes-ok))))
+
+  pub part-log : (L : ℕ) (image : List ℕ) (start : ℕ) → start ≡ logStart z L
+      → take (start + 2 * z.slots - start) (drop start image) ≡ logOf z L image
+  unfolding logOf
+  part-log L image start e = rw (e, add-sub-cancel-left (logStart z L) (2 * z.slots))
+
   -- the logs of different lanes stand apart
   pub logs-apart : (L M j : ℕ) → L ≢ M → j < 2 * z.slots → (logStart z M + j < logStart z L) ⊎ (logStart z L + 2 * z.slots ≤ logStart z M + j)
   unfolding logStart
@@ -140,4 +157,5 @@ module _ (z : Sizes) where
 
   pub dataOf-set-log : (L : ℕ) (image : List ℕ) (j v : ℕ) → dataOf z (set image (logStart z L + j) v) ≡ dataOf z image
   unfolding dataOf logStart
-  dataOf-set-log L image j v = stretch-same 1 z.words (set image _ v) image (length-set image _ v) (λ k h _. getD-set-other image _ (1 + k) v 0 (λ e. omega arith))
+  dataOf-set-log L image j v =
+      stretch-same 1 z.words (set image _ v) image (length-set image _ v) (λ k h _. getD-set-other image _ (1 + k) v 0 (λ e. omega arith))

@@ -9,10 +9,11 @@ use lib.Pow.{pow-pos, pow-mono, shl-exact}
 use lib.Dec.{eqb}
 use borrow.Author.Tests.{ne-eqb, eqb-true, eqb-false}
 use Rattle.laws.specs.Tests.{split}
+use Rattle.image.specs.Image.{maxLanes}
 use Rattle.image.specs.Flush.{flushed, flush, unflush}
 
 -- the mask of a lane, as the machine shifts it
-pub shifted-mask : (L : ℕ) → L < 8 → (1 * 2 ^ L) % 256 ≡ 2 ^ L
+pub shifted-mask : (L : ℕ) → L < maxLanes → (1 * 2 ^ L) % 256 ≡ 2 ^ L
 shifted-mask L h = shl-exact {a = 1} 1 L 8 (omega arith) (omega arith) ∙ omega arith
 
 double : (L : ℕ) → 2 ^ suc L / 2 ≡ 2 ^ L
@@ -30,7 +31,9 @@ or-mask (suc L) f = rw (or-step f (2 ^ suc L), double L, even L, or-mask L (f / 
 -- what the mask leaves of the flag byte
 masked : (L f : ℕ) → bitAnd f (2 ^ L) ≡ cond (flushed L f) (2 ^ L) 0
 unfolding flushed
-masked zero f = rw (and-step f 1, and-zero-r (f / 2)) (split (eqb (f % 2) 1) (λ e. rw e (omega (arith, eqb-true (f % 2) 1 e))) (λ e. rw e (omega (arith, eqb-false (f % 2) 1 e))))
+masked zero f =
+    rw (and-step f 1, and-zero-r (f / 2))
+    (split (eqb (f % 2) 1) (λ e. rw e (omega (arith, eqb-true (f % 2) 1 e))) (λ e. rw e (omega (arith, eqb-false (f % 2) 1 e))))
 masked (suc L) f = rw (and-step f (2 ^ suc L), double L, even L, masked L (f / 2)) (go (flushed L (f / 2)))
   where
     go : (b : Bool) → cond b (2 ^ L) 0 * 2 + min (f % 2) 0 ≡ cond b (2 ^ suc L) 0

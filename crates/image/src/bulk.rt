@@ -1,4 +1,5 @@
-// Whole stretches of words and of flag bytes: copied, set to 0. One plain loop each, so that it compiles to vector moves or to memset, but for the one that stores words whole.
+// Whole stretches of words and of flag bytes: copied, set to 0. One plain loop each, so that it compiles to vector
+// moves or to memset, but for the one that stores words whole.
 ghost use mathlib.Core.Path.{_≡_};
 ghost use lib.ListN.{length, replicate};
 
@@ -21,8 +22,9 @@ pub fn clear_words(words: &mut [u64])
     }
 }
 
-// A stretch of words set to 0 in rising order, each by a store of its own, and none where the word is 0 already: with that test the compiler cannot make a memset of
-// the loop, which may store single bytes. For non-volatile memory, where power may fail in between: a word of which some bytes are 0 is neither the old one nor 0.
+// A stretch of words set to 0 in rising order, each by a store of its own, and none where the word is 0 already: with
+// that test the compiler cannot make a memset of the loop, which may store single bytes. For non-volatile memory, where
+// power may fail in between: a word of which some bytes are 0 is neither the old one nor 0.
 pub fn clear_whole_words(words: &mut [u64])
     ensures { λ r. ⌜ now (words .exit) ≡ replicate (length (now (words .entry))) 0 ⌝ }
 {

@@ -1,11 +1,27 @@
-// Sizes and the image: where its words stand, and which buffers are as long as it. The flush masks and the copying of words are in flush.rt, whole stretches of words in bulk.rt.
+// Sizes and the image: where its words stand, and which buffers are as long as it. The flush masks and the copying of
+// words are in flush.rt, whole stretches of words in bulk.rt.
 ghost use mathlib.Core.Path.{_≡_};
 ghost use mathlib.Core.Bool.{true};
 ghost use Prim.Native.Nat.{_<_};
-ghost use Rattle.image.specs.Image.{sizesOk, imageLength, buffersOk, logStart};
+ghost use Rattle.image.specs.Image.{sizesOk, imageLength, IsImage, IsLog, buffersOk, logStart, logOf};
 
 pub mod bulk;
 pub mod flush;
+
+// The most data words.
+pub const MAX_WORDS: usize = 1024;
+
+// The most lanes, one a bit of a flag byte.
+pub const MAX_LANES: usize = 8;
+
+// The fewest log slots a lane: two of the longest sequences, which have 16 entries and a timestamp.
+pub const MIN_SLOTS: usize = 34;
+
+// The most log slots a lane.
+pub const MAX_SLOTS: usize = 256;
+
+// The words of the longest image.
+pub const MAX_IMAGE: usize = 1 + MAX_WORDS + 2 * MAX_LANES * MAX_SLOTS;
 
 // 01's W data words, T lanes and N log slots a lane.
 pub struct Sizes {
@@ -21,19 +37,19 @@ pub fn sizes_ok(sizes: Sizes) -> bool
     if sizes.words < 1 {
         return false;
     }
-    if 1024 < sizes.words {
+    if MAX_WORDS < sizes.words {
         return false;
     }
     if sizes.lanes < 1 {
         return false;
     }
-    if 8 < sizes.lanes {
+    if MAX_LANES < sizes.lanes {
         return false;
     }
-    if sizes.slots < 34 {
+    if sizes.slots < MIN_SLOTS {
         return false;
     }
-    sizes.slots <= 256
+    sizes.slots <= MAX_SLOTS
 }
 
 // The words of an image: the base timestamp, the data words, two words a log slot.
@@ -46,13 +62,27 @@ pub fn image_length(sizes: Sizes) -> usize
 
 // The image word at which the log of a lane starts.
 pub fn log_start(sizes: Sizes, lane: usize) -> usize
-    requires { ⌜ (sizesOk sizes ≡ true) × (lane < sizes .lanes) ⌝ }
+    requires { ⌜ sizesOk sizes ≡ true ⌝ }
+    requires { ⌜ lane < sizes .lanes ⌝ }
     ensures { λ r. ⌜ r ≡ logStart sizes lane ⌝ }
 {
     1 + sizes.words + 2 * sizes.slots * lane
 }
 
-// Are the sizes in range, and the three buffers, whose lengths are given, as long as the image? Refusal 1 of every call is that they are not.
+// The log of a lane, the part of the image that it is.
+pub fn log_part(sizes: Sizes, image: &[u64], lane: usize) -> &[u64]
+    requires { ⌜ IsImage sizes (now image) ⌝ }
+    requires { ⌜ lane < sizes .lanes ⌝ }
+    ensures words { λ r. ⌜ now r ≡ logOf sizes lane (now (image .entry)) ⌝ }
+    ensures whole { λ r. ⌜ IsLog (sizes .slots) (now r) ⌝ }
+{
+    let start = log_start(sizes, lane);
+    let end = start + 2 * sizes.slots;
+    &image[start..end]
+}
+
+// Are the sizes in range, and the three buffers, whose lengths are given, as long as the image? Refusal 1 of every call
+// is that they are not.
 pub fn buffers_ok(sizes: Sizes, cache: usize, nvm: usize, flags: usize) -> bool
     ensures { λ r. ⌜ r ≡ buffersOk sizes cache nvm flags ⌝ }
 {

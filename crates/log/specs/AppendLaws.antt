@@ -20,14 +20,9 @@ use Rattle.image.specs.Flush.{flush, flushAll}
 use Rattle.image.specs.FlushLaws.{length-flushAll, flushAll-append}
 use Rattle.log.specs.declared.Cursor.{Cursor}
 use Rattle.log.specs.Append.{onward, advance, slotStores, appendFrom, appendStores, restampStore}
-use Rattle.log.specs.AppendEntries.{WordsBelow, entryStores}
+use Rattle.log.specs.AppendEntries.{WordsBelow, Within, entryStores}
 
 -- ---- the place after n slots
--- a place of a log of N slots
-pub record Within (N : ℕ) (c : Cursor) : Type 0 where
-  pub slot : c .slot < N
-  pub wrap : c .wrap ≤ 1
-
 pub onward-within : (N : ℕ) (c : Cursor) → Within N c → Within N (onward N c)
 unfolding onward
 onward-within N c h =
@@ -40,8 +35,8 @@ unfolding advance
 advance-within N zero c h = h
 advance-within N (suc n) c h = advance-within N n (onward N c) (onward-within N c h)
 
-pub end-within : (N n : ℕ) (c d : Cursor) → d ≡ advance N n c → c .slot < N → c .wrap ≤ 1 → Within N d
-end-within N n c d e h g = rw e (advance-within N n c (record { slot = h; wrap = g }))
+pub end-within : (N n : ℕ) (c d : Cursor) → d ≡ advance N n c → Within N c → Within N d
+end-within N n c d e h = rw e (advance-within N n c h)
 
 -- one slot more
 pub advance-suc : (N n : ℕ) (c : Cursor) → advance N (suc n) c ≡ onward N (advance N n c)
@@ -76,7 +71,8 @@ entries-snoc start N c (v ∷ ws) w =
 
 -- ---- what the code does
 -- a slot's two words stored and flushed
-pub slot-stored : (start j : ℕ) (s : Slot) (cache : List ℕ) → set (set cache (start + 2 * j) (s .address)) (start + 2 * j + 1) (s .value) ≡ stored (slotStores start j s []) cache
+pub slot-stored : (start j : ℕ) (s : Slot) (cache : List ℕ)
+    → set (set cache (start + 2 * j) (s .address)) (start + 2 * j + 1) (s .value) ≡ stored (slotStores start j s []) cache
 unfolding stored slotStores
 slot-stored start j s cache = refl
 
@@ -132,7 +128,8 @@ module _ (start N L : ℕ) (ws : List Write) (c₀ : Cursor) (cache₀ flags₀ 
           rw (add-one i, take-suc ws i noWrite h, entries-snoc start N c₀ (take i ws) (getD ws i noWrite), length-take-le i ws (omega arith), ← a .place, ← e)
 
 -- and the timestamp that closes them
-module _ (start N stamp n : ℕ) (ws : List Write) (h : n ≤ length ws) (c₀ c : Cursor) (s : Slot) (e : c ≡ advance N n c₀) (f : s ≡ stampOf n stamp (c .wrap)) where
+module _ (start N stamp n : ℕ) (ws : List Write) (h : n ≤ length ws) (c₀ c : Cursor) (s : Slot) (e : c ≡ advance N n c₀)
+    (f : s ≡ stampOf n stamp (c .wrap)) where
   stores : appendStores start N stamp c₀ (take n ws) ≡ entryStores start N c₀ (take n ws) ++ slotStores start (c .slot) s []
   stores = rw (append-split start N stamp c₀ (take n ws), length-take-le n ws h, ← e, ← f)
 

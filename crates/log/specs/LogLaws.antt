@@ -21,7 +21,8 @@ use Rattle.log.specs.declared.Timestamp.the-variants.{None, At}
 use Rattle.log.specs.declared.Sequence.{Sequence}
 use Rattle.log.specs.declared.Latest.{Latest}
 use Rattle.log.specs.declared.Latest.the-variants.{Nothing, Is}
-use Rattle.log.specs.Log.{slotAt, Old, Complete, back, backWrap, entryIn, entriesBack, closes, completeBelow, completeIn, sequenceOf, later, latest, latestIn, ahead, overlaps, hitsFrom, hits}
+use Rattle.log.specs.Log.{slotAt, Old, Complete, back, backWrap, entryIn, entriesBack, closes, completeBelow, completeIn}
+use Rattle.log.specs.Log.{sequenceOf, later, latest, latestIn, ahead, overlaps, hitsFrom, hits}
 use Rattle.log.specs.Search.{isEntry, entryBack}
 
 -- ---- slots

@@ -1,19 +1,22 @@
--- How the search for complete sequences goes: one slot, the order in which timestamps are tried, one slot's hit. 01, "Log slots" and "Recovery" 1. Assumes nothing.
+-- How the search for complete sequences goes: one slot, the order in which timestamps are tried, one slot's hit. 01, "Log slots" and
+-- "Recovery" 1. Assumes nothing.
 use Prim.Native.Nat.{ℕ, zero, suc, _+_, _*_}
 use mathlib.Core.Bool.{Bool, false, cond, _&&_}
 use mathlib.Core.List.{List}
 use lib.Dec.{leb, ltb, eqb}
 use lib.ListN.{length, getD}
+use Rattle.slot.specs.Slot.{tag}
 use Rattle.slot.specs.declared.Content.{Content}
 use Rattle.slot.specs.declared.Content.the-variants.{Empty, Torn, Entry, Stamp}
+use Rattle.image.specs.Image.{maxSlots}
 use Rattle.log.specs.declared.Latest.{Latest}
 use Rattle.log.specs.declared.search.Candidate.{Candidate}
 use Rattle.log.specs.Log.{slotAt, back, backWrap, entriesBack, closes, latest, hitsFrom}
 
 -- ---- one slot
--- is the address word of slot j as high as a timestamp's, 8 × 4096
+-- is the address word of slot j as high as a timestamp's
 unfoldable pub stampHigh : List ℕ → (j : ℕ) → Bool
-stampHigh log j = leb 32768 (getD log (2 * j) 0)
+stampHigh log j = leb (8 * tag) (getD log (2 * j) 0)
 
 -- a whole entry with wrap bit q
 unfoldable pub isEntry : (q : ℕ) → Content → Bool
@@ -38,16 +41,18 @@ closedAt W N base log j = latest (closes W N base log 0 j (slotAt W log j))
 unfoldable pub hitAt : (W N base : ℕ) → List ℕ → (k m b j : ℕ) → Bool
 hitAt W N base log k m b j = hitsFrom N k m b (closes W N base log 0 j (slotAt W log j))
 
--- ---- the order of trying: the greatest timestamp first, of equal ones the higher slot; a slot is below 256
+-- ---- the order of trying: the greatest timestamp first, of equal ones the higher slot
 abbrev pub rank : (s j : ℕ) → ℕ
-rank s j = s * 256 + j
+rank s j = s * maxSlots + j
 
--- the higher of a candidate and slot j, where those from timestamp t at slot k up have been tried: a whole timestamp above the base, of equal ones the second
+-- the higher of a candidate and slot j, where those from timestamp t at slot k up have been tried: a whole timestamp above the base, of equal
+-- ones the second
 unfoldable pub higher : (base t k j : ℕ) → Content → Candidate → Candidate
 higher base t k j Empty a = a
 higher base t k j Torn a = a
 higher base t k j (Entry i v p) a = a
-higher base t k j (Stamp n s p) a = cond (ltb base s && leb (a .stamp) s && ltb (rank s j) (rank t k)) (record { stamp = s; count = n; slot = j; wrap = p }) a
+higher base t k j (Stamp n s p) a =
+    cond (ltb base s && leb (a .stamp) s && ltb (rank s j) (rank t k)) (record { stamp = s; count = n; slot = j; wrap = p }) a
 
 -- the highest candidate in the slots below i of a log of N; where there is none, slot N at the base
 unfoldable pub candidateBelow : (W N base : ℕ) → List ℕ → (t k i : ℕ) → Candidate

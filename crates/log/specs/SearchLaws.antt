@@ -14,9 +14,10 @@ use Rattle.laws.specs.Tests.{split, and-left, and-right}
 use denote.Enum.Declared.{tagOf}
 use types.Run.{OneOf, miss}
 use Rattle.slot.proofs.Content.{the-type}
-use Rattle.slot.specs.Slot.{stampOf}
+use Rattle.slot.specs.Slot.{tag, maxEntries, stampOf}
 use Rattle.slot.specs.declared.Content.{Content}
 use Rattle.slot.specs.declared.Content.the-variants.{Empty, Torn, Entry, Stamp}
+use Rattle.image.specs.Image.{maxSlots}
 use Rattle.log.specs.declared.Timestamp.{Timestamp}
 use Rattle.log.specs.declared.Timestamp.the-variants.{None, At}
 use Rattle.log.specs.declared.Sequence.{Sequence}
@@ -53,7 +54,7 @@ not-high W log j h = by (slotAt W log j) refl
     by Empty e = refl
     by Torn e = refl
     by (Entry i v p) e = refl
-    by (Stamp n s p) e = let f = stamp-in W log j n s p e .address in absurd (omega (arith, leb-false 32768 (getD log (2 * j) 0) h))
+    by (Stamp n s p) e = let f = stamp-in W log j n s p e .address in absurd (omega (arith, leb-false (8 * tag) (getD log (2 * j) 0) h))
 
 -- the entries before it, by the first bad one
 module _ (W N : ℕ) (log : List ℕ) (j p : ℕ) where
@@ -100,7 +101,7 @@ module _ (W N base : ℕ) (log : List ℕ) (j : ℕ) where
 pub record Closed (W N base : ℕ) (log : List ℕ) (j : ℕ) (q : Sequence) : Type 0 where
   pub slot : q .slot ≡ j
   pub above : base < q .stamp
-  pub few : q .count ≤ 16
+  pub few : q .count ≤ maxEntries
   pub wrap : ℕ
   pub reads : slotAt W log j ≡ Stamp (q .count) (q .stamp) wrap
   pub whole : length (entriesBack W N log j wrap (q .count)) ≡ q .count
@@ -274,7 +275,8 @@ module _ (W N base : ℕ) (log : List ℕ) where
       (λ (b : Best W base log limit n c). inr (best-keeps limit n c b (λ l. omega (arith, h l))))
       g
 
-  module _ (t k n : ℕ) (low : n < 256) (c : Candidate) (g : Good W N base log (rank t k) n c) {m s p : ℕ} (e : slotAt W log n ≡ Stamp m s p) (above : base < s) where
+  module _ (t k n : ℕ) (low : n < maxSlots) (c : Candidate) (g : Good W N base log (rank t k) n c) {m s p : ℕ}
+      (e : slotAt W log n ≡ Stamp m s p) (above : base < s) where
     -- slot n comes before the candidate
     good-less : s < c .stamp → Good W N base log (rank t k) (suc n) c
     unfolding Good
@@ -294,7 +296,9 @@ module _ (W N base : ℕ) (log : List ℕ) where
           reads = e;
           above = above;
           within = l;
-          most = λ i q r. ⊎-elim (λ (d : i ≡ n). rw d (omega (arith, place-stamp base n e above))) (λ (d : i < n). under i d r) (eq-or-lt-of-le {n = i} {m = n} (omega arith));
+          most = λ i q r.
+              ⊎-elim (λ (d : i ≡ n). rw d (omega (arith, place-stamp base n e above))) (λ (d : i < n). under i d r)
+              (eq-or-lt-of-le {n = i} {m = n} (omega arith));
         })
       where
         under : (i : ℕ) → i < n → place base i (slotAt W log i) ≤ rank t k → place base i (slotAt W log i) ≤ rank s n + 1
@@ -304,7 +308,7 @@ module _ (W N base : ℕ) (log : List ℕ) where
             (λ (b : Best W base log (rank t k) n c). omega (arith, b .most i d r, b .low))
             g
 
-  good-step : (t k n : ℕ) → n < 256 → (a : Candidate) → Good W N base log (rank t k) n a → (c : Content) → slotAt W log n ≡ c
+  good-step : (t k n : ℕ) → n < maxSlots → (a : Candidate) → Good W N base log (rank t k) n a → (c : Content) → slotAt W log n ≡ c
       → Good W N base log (rank t k) (suc n) (higher base t k n c a)
   unfolding higher place
   good-step t k n low a g Empty e = good-keeps (rank t k) n a g (λ _. ap (place base n) e)
@@ -320,17 +324,17 @@ module _ (W N base : ℕ) (log : List ℕ) where
       (λ h. rw (d, h) (good-less t k n low a g e above (leb-false (a .stamp) s h))))
       (λ d. rw d (good-keeps (rank t k) n a g (λ _. ap (place base n) e ∙ rw d)))
 
-  pub good-all : (t k n : ℕ) → n ≤ 256 → Good W N base log (rank t k) n (candidateBelow W N base log t k n)
+  pub good-all : (t k n : ℕ) → n ≤ maxSlots → Good W N base log (rank t k) n (candidateBelow W N base log t k n)
   unfolding candidateBelow Good
   good-all t k zero h = inl (record { slot = refl; stamp = refl; least = λ i l g. absurd (omega arith) })
   good-all t k (suc n) h =
       good-step t k n (omega arith) (candidateBelow W N base log t k n) (good-all t k n (omega arith)) (slotAt W log n) refl
 
 -- ---- one slot of the search
-pub rank-less : (s t j k : ℕ) → j < 256 → s < t → true ≡ ltb (rank s j) (rank t k)
+pub rank-less : (s t j k : ℕ) → j < maxSlots → s < t → true ≡ ltb (rank s j) (rank t k)
 rank-less s t j k l h = sym (lt-ltb (rank s j) (rank t k) (omega arith))
 
-pub rank-more : (s t j k : ℕ) → k ≤ 256 → t < s → false ≡ ltb (rank s j) (rank t k)
+pub rank-more : (s t j k : ℕ) → k ≤ maxSlots → t < s → false ≡ ltb (rank s j) (rank t k)
 rank-more s t j k l h = sym (le-ltb (rank s j) (rank t k) (omega arith))
 
 -- equal timestamps go by their slots
@@ -361,7 +365,8 @@ module _ (W base : ℕ) (log : List ℕ) (t k j : ℕ) (a : Candidate) where
     unfolding higher
     higher-tried h = rw (sym r ∙ e, h, and-false (ltb base s && leb (a .stamp) s))
 
-    pub higher-is : base < s → a .stamp ≤ s → ltb (rank s j) (rank t k) ≡ true → record { stamp = s; count = n; slot = j; wrap = p } ≡ higher base t k j (slotAt W log j) a
+    pub higher-is : base < s → a .stamp ≤ s → ltb (rank s j) (rank t k) ≡ true
+        → record { stamp = s; count = n; slot = j; wrap = p } ≡ higher base t k j (slotAt W log j) a
     unfolding higher
     higher-is h g f = rw (sym r ∙ e, lt-ltb base s h, le-leb (a .stamp) s g, f)
 
@@ -384,8 +389,8 @@ known : (x : Latest) → (x ≡ Nothing) ⊎ ((q : Sequence) × (x ≡ Is q))
 known Nothing = inl refl
 known (Is q) = inr (q, refl)
 
-module _ (W N base : ℕ) (log : List ℕ) (small : N ≤ 256) where
-  pub under-start : ((i : ℕ) → getD log i 0 < 2 ^ 64) → AllUnder W N base log (rank 18446744073709551615 256)
+module _ (W N base : ℕ) (log : List ℕ) (small : N ≤ maxSlots) where
+  pub under-start : ((i : ℕ) → getD log i 0 < 2 ^ 64) → AllUnder W N base log (rank (2 ^ 64 - 1) maxSlots)
   unfolding AllUnder stampOf
   under-start fits i l q e =
       let c = closed-from W N base log i q e in
@@ -406,7 +411,8 @@ module _ (W N base : ℕ) (log : List ℕ) (small : N ≤ 256) where
         (λ (b : Best W base log (rank t k) N c). absurd (omega (arith, b .low)))
         good
       where
-        each : ((i : ℕ) → i < N → place base i (slotAt W log i) ≤ rank t k → place base i (slotAt W log i) ≡ 0) → (i : ℕ) → i < N → closedAt W N base log i ≡ Nothing
+        each : ((i : ℕ) → i < N → place base i (slotAt W log i) ≤ rank t k → place base i (slotAt W log i) ≡ 0)
+            → (i : ℕ) → i < N → closedAt W N base log i ≡ Nothing
         each least i l =
             ⊎-elim (λ (h : closedAt W N base log i ≡ Nothing). h)
             (λ h.
@@ -500,7 +506,7 @@ module _ (W N base : ℕ) (log : List ℕ) (k m b : ℕ) where
       hit-stamp j n s p e h g l ∙ rw (le-ltb (ahead N k j) (m + n) f, and-false (leb b s)) (and-false (ltb base s && wholeBack W N log j p n))
 
   -- no slot closes a sequence that is hit from farther ahead than this
-  hit-within : (j : ℕ) → k < N → j < N → 1 ≤ m → m + 16 ≤ ahead N k j → hitAt W N base log k m b j ≡ false
+  hit-within : (j : ℕ) → k < N → j < N → 1 ≤ m → m + maxEntries ≤ ahead N k j → hitAt W N base log k m b j ≡ false
   unfolding isStamp
   hit-within j h g l f = by (slotAt W log j) refl
     where
@@ -534,7 +540,9 @@ module _ (W N base : ℕ) (log : List ℕ) (k m b : ℕ) where
       pub hit-near : base < s → b ≤ s → d < m + n → wholeBack W N log j p n ≡ hitAt W N base log k m b (circular N (k + d))
       hit-near h g f = sym (hit-tests ∙ rw (lt-ltb base s h, le-leb b s g, lt-ltb d (m + n) f) (and-true (wholeBack W N log j p n)))
 
-  hits-suc : (j : ℕ) → hitsFrom N k m b (completeBelow W N base log 0 (suc j)) ≡ (hitsFrom N k m b (completeBelow W N base log 0 j) || hitAt W N base log k m b j)
+  hits-suc : (j : ℕ)
+      → hitsFrom N k m b (completeBelow W N base log 0 (suc j))
+      ≡ (hitsFrom N k m b (completeBelow W N base log 0 j) || hitAt W N base log k m b j)
   unfolding completeBelow hitAt
   hits-suc j = hits-append N k m b (completeBelow W N base log 0 j) (closes W N base log 0 j (slotAt W log j))
 
@@ -565,15 +573,15 @@ module _ (W N base : ℕ) (log : List ℕ) (k m b : ℕ) where
   unfolding NoneHit
   hits-more i h g d l = ⊎-elim (λ (e : d ≡ i). rw e g) (λ (e : d < i). h d e) (eq-or-lt-of-le {n = d} {m = i} (omega arith))
 
-  pub hits-all : k < N → 1 ≤ m → NoneHit W N base log k m b (m + 16) → hitsFrom N k m b (completeBelow W N base log 0 N) ≡ false
+  pub hits-all : k < N → 1 ≤ m → NoneHit W N base log k m b (m + maxEntries) → hitsFrom N k m b (completeBelow W N base log 0 N) ≡ false
   unfolding NoneHit
   hits-all h l none = hits-no W N base log k m b N each
     where
       each : (j : ℕ) → j < N → hitAt W N base log k m b j ≡ false
       each j g =
-          split (ltb (ahead N k j) (m + 16))
-          (λ e. rw (circular-ahead N k j h g) at (none (ahead N k j) (ltb-true (ahead N k j) (m + 16) e)))
-          (λ e. hit-within W N base log k m b j h g l (ltb-false (ahead N k j) (m + 16) e))
+          split (ltb (ahead N k j) (m + maxEntries))
+          (λ e. rw (circular-ahead N k j h g) at (none (ahead N k j) (ltb-true (ahead N k j) (m + maxEntries) e)))
+          (λ e. hit-within W N base log k m b j h g l (ltb-false (ahead N k j) (m + maxEntries) e))
 
   pub hits-found : (d : ℕ) → k < N → d < N → hitAt W N base log k m b (circular N (k + d)) ≡ true → hitsFrom N k m b (completeBelow W N base log 0 N) ≡ true
   hits-found d h l e = hits-yes W N base log k m b (circular N (k + d)) N (circular-low N (k + d) (omega arith)) e

@@ -1,7 +1,9 @@
-// One lane's log, the part of the image from the lane's first slot on: its slots and the sequences that they close. Searching is in search.rt, appending in tail.rt.
+// One lane's log, the part of the image from the lane's first slot on: its slots and the sequences that they close.
+// Searching is in search.rt, appending in tail.rt.
 ghost use mathlib.Core.Path.{_≡_};
 ghost use Prim.Native.Nat.{_+_, _*_, _≤_, _<_};
 ghost use lib.ListN.{length};
+ghost use Rattle.image.specs.Image.{maxSlots, IsLog};
 ghost use Rattle.log.specs.Log.{slotAt, back as backOf};
 ghost use Rattle.log.specs.Search.{stampHigh, isEntry, entryBack, wholeBack, closedAt};
 use slot::Content;
@@ -47,7 +49,8 @@ pub fn slot_at(log: &[u64], words: usize, j: usize) -> Content
     slot.read(words)
 }
 
-// Can slot j hold a timestamp? The address words of empty slots and entries are below every timestamp's, so one comparison passes over most slots.
+// Can slot j hold a timestamp? The address words of empty slots and entries are below every timestamp's, so one
+// comparison passes over most slots.
 fn stamp_high(log: &[u64], j: usize) -> bool
     requires { ⌜ 2 * j + 1 < length (now log) ⌝ }
     ensures { λ r. ⌜ r ≡ stampHigh (now (log .entry)) j ⌝ }
@@ -57,7 +60,9 @@ fn stamp_high(log: &[u64], j: usize) -> bool
 
 // The slot i places before slot j, circularly.
 pub fn back(slots: usize, j: usize, i: usize) -> usize
-    requires { ⌜ (slots ≤ 256) × (j < slots) × (i ≤ slots) ⌝ }
+    requires { ⌜ slots ≤ maxSlots ⌝ }
+    requires { ⌜ j < slots ⌝ }
+    requires { ⌜ i ≤ slots ⌝ }
     ensures { λ r. ⌜ r ≡ backOf slots j i ⌝ }
 {
     if i <= j {
@@ -88,7 +93,10 @@ fn is_entry(content: Content, wrap: u64) -> bool
 
 // Is the slot i places before slot j a whole entry, with the wrap bit of slot j, the opposite one before the wrap?
 pub fn entry_back(log: &[u64], words: usize, slots: usize, j: usize, wrap: u64, i: usize) -> bool
-    requires { ⌜ (length (now log) ≡ 2 * slots) × (slots ≤ 256) × (j < slots) × (i ≤ slots) × (wrap ≤ 1) ⌝ }
+    requires { ⌜ IsLog slots (now log) ⌝ }
+    requires { ⌜ j < slots ⌝ }
+    requires { ⌜ i ≤ slots ⌝ }
+    requires { ⌜ wrap ≤ 1 ⌝ }
     ensures { λ r. ⌜ r ≡ entryBack words slots (now (log .entry)) j wrap i ⌝ }
 {
     let content = slot_at(log, words, back(slots, j, i));
@@ -100,7 +108,10 @@ pub fn entry_back(log: &[u64], words: usize, slots: usize, j: usize, wrap: u64, 
 
 // Are the `count` slots before slot j all such entries?
 fn entries_whole(log: &[u64], words: usize, slots: usize, j: usize, wrap: u64, count: usize) -> bool
-    requires { ⌜ (length (now log) ≡ 2 * slots) × (slots ≤ 256) × (j < slots) × (count ≤ slots) × (wrap ≤ 1) ⌝ }
+    requires { ⌜ IsLog slots (now log) ⌝ }
+    requires { ⌜ j < slots ⌝ }
+    requires { ⌜ count ≤ slots ⌝ }
+    requires { ⌜ wrap ≤ 1 ⌝ }
     ensures { λ r. ⌜ r ≡ wholeBack words slots (now (log .entry)) j wrap count ⌝ }
 {
     for i in 0..count {
@@ -113,7 +124,8 @@ fn entries_whole(log: &[u64], words: usize, slots: usize, j: usize, wrap: u64, c
 
 // The sequence that slot j closes, if it is complete: a whole timestamp above the base over whole entries.
 pub fn closed_at(log: &[u64], words: usize, slots: usize, base: u64, j: usize) -> Latest
-    requires { ⌜ (length (now log) ≡ 2 * slots) × (34 ≤ slots) × (slots ≤ 256) × (j < slots) ⌝ }
+    requires { ⌜ IsLog slots (now log) ⌝ }
+    requires { ⌜ j < slots ⌝ }
     ensures { λ r. ⌜ r ≡ closedAt words slots base (now (log .entry)) j ⌝ }
 {
     let content = slot_at(log, words, j);

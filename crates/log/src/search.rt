@@ -3,6 +3,8 @@ ghost use mathlib.Core.Path.{_≡_};
 ghost use Prim.Native.Nat.{_+_, _*_, _≤_, _<_};
 ghost use lib.Dec.{ltb};
 ghost use lib.ListN.{length};
+ghost use Rattle.txn.specs.Txn.{maxWrites};
+ghost use Rattle.image.specs.Image.{maxSlots, IsLog};
 ghost use Rattle.log.specs.Log.{slotAt, completeBelow, latest as latestOf, hits};
 ghost use Rattle.log.specs.Append.{circular as circularOf};
 ghost use Rattle.log.specs.Search.{rank, higher as higherOf, candidateBelow, hitAt};
@@ -15,6 +17,13 @@ use crate::slot_at;
 use crate::stamp_high;
 use crate::tail::circular;
 use slot::Content;
+use slot::Slot;
+
+// The most entries of a sequence.
+const MAX_ENTRIES: usize = Slot::MAX_ENTRIES as usize;
+
+// Every timestamp comes after this one: they are even.
+const ABOVE_ALL: u64 = u64::MAX;
 
 // A whole timestamp above the base, complete or not; none if its slot is not one of the log's.
 struct Candidate {
@@ -24,9 +33,11 @@ struct Candidate {
     wrap: u64,
 }
 
-// Does timestamp s at slot j come after timestamp t at slot k, where timestamps are tried from the greatest down, equal ones by the higher slot?
+// Does timestamp s at slot j come after timestamp t at slot k, where timestamps are tried from the greatest down, equal
+// ones by the higher slot?
 fn ranks_below(s: u64, j: usize, t: u64, k: usize) -> bool
-    requires { ⌜ (j < 256) × (k ≤ 256) ⌝ }
+    requires { ⌜ j < maxSlots ⌝ }
+    requires { ⌜ k ≤ maxSlots ⌝ }
     ensures { λ r. ⌜ r ≡ ltb (rank s j) (rank t k) ⌝ }
 {
     if s < t {
@@ -48,7 +59,9 @@ fn higher(
     j: usize,
     best: Candidate,
 ) -> Candidate
-    requires { ⌜ (2 * j + 1 < length (now log)) × (j < 256) × (k ≤ 256) ⌝ }
+    requires { ⌜ 2 * j + 1 < length (now log) ⌝ }
+    requires { ⌜ j < maxSlots ⌝ }
+    requires { ⌜ k ≤ maxSlots ⌝ }
     ensures { λ r. ⌜ r ≡ higherOf base t k j (slotAt words (now (log .entry)) j) best ⌝ }
 {
     if !stamp_high(log, j) {
@@ -77,7 +90,8 @@ fn higher(
 
 // The candidate that is tried next after timestamp t at slot k.
 fn next_candidate(log: &[u64], words: usize, slots: usize, base: u64, t: u64, k: usize) -> Candidate
-    requires { ⌜ (length (now log) ≡ 2 * slots) × (slots ≤ 256) × (k ≤ 256) ⌝ }
+    requires { ⌜ IsLog slots (now log) ⌝ }
+    requires { ⌜ k ≤ maxSlots ⌝ }
     ensures { λ r. ⌜ r ≡ candidateBelow words slots base (now (log .entry)) t k slots ⌝ }
 {
     let mut best = Candidate {
@@ -92,14 +106,14 @@ fn next_candidate(log: &[u64], words: usize, slots: usize, base: u64, t: u64, k:
     best
 }
 
-// The latest complete sequence. Timestamps are tried from the greatest down, each over its entries, up to the first complete one.
+// The latest complete sequence. Timestamps are tried from the greatest down, each over its entries, up to the first
+// complete one.
 pub fn latest(log: &[u64], words: usize, slots: usize, base: u64) -> Latest
-    requires { ⌜ (length (now log) ≡ 2 * slots) × (34 ≤ slots) × (slots ≤ 256) ⌝ }
+    requires { ⌜ IsLog slots (now log) ⌝ }
     ensures { λ r. ⌜ r ≡ latestOf (completeBelow words slots base (now (log .entry)) 0 slots) ⌝ }
 {
-    // every timestamp comes after this one: they are even, and slots are below 256
-    let mut stamp: u64 = 18446744073709551615;
-    let mut slot: usize = 256;
+    let mut stamp = ABOVE_ALL;
+    let mut slot = image::MAX_SLOTS;
     'stamps: loop {
         let next = next_candidate(log, words, slots, base, stamp, slot);
         stamp = next.stamp;
@@ -118,7 +132,8 @@ pub fn latest(log: &[u64], words: usize, slots: usize, base: u64) -> Latest
     }
 }
 
-// Does the slot `distance` places after slot `next` close a sequence, stamped at or above `least`, with a slot among the `count` slots from slot `next` on?
+// Does the slot `distance` places after slot `next` close a sequence, stamped at or above `least`, with a slot among
+// the `count` slots from slot `next` on?
 fn hit_at(
     log: &[u64],
     words: usize,
@@ -129,8 +144,13 @@ fn hit_at(
     least: u64,
     distance: usize,
 ) -> bool
-    requires { ⌜ (length (now log) ≡ 2 * slots) × (34 ≤ slots) × (slots ≤ 256) × (next < slots) × (1 ≤ count) × (count ≤ 17) × (distance < slots) ⌝ }
-    ensures { λ r. ⌜ r ≡ hitAt words slots base (now (log .entry)) next count least (circularOf slots (next + distance)) ⌝ }
+    requires { ⌜ IsLog slots (now log) ⌝ }
+    requires { ⌜ next < slots ⌝ }
+    requires { ⌜ 1 ≤ count ⌝ }
+    requires { ⌜ count ≤ maxWrites + 1 ⌝ }
+    requires { ⌜ distance < slots ⌝ }
+    ensures { λ r. ⌜ r
+        ≡ hitAt words slots base (now (log .entry)) next count least (circularOf slots (next + distance)) ⌝ }
 {
     let j = circular(slots, next + distance);
     if !stamp_high(log, j) {
@@ -157,8 +177,8 @@ fn hit_at(
     entries_whole(log, words, slots, j, wrap, entries)
 }
 
-// Would writing `count` slots from slot `next` on hit a slot of a sequence stamped at or above the bound? A sequence has at most 16 entries and
-// its timestamp follows them, so one pass over `count` and 16 slots tells.
+// Would writing `count` slots from slot `next` on hit a slot of a sequence stamped at or above the bound? A sequence
+// has at most MAX_ENTRIES entries and its timestamp follows them, so one pass over `count` and MAX_ENTRIES slots tells.
 pub fn would_hit(
     log: &[u64],
     words: usize,
@@ -168,13 +188,16 @@ pub fn would_hit(
     count: usize,
     bound: Timestamp,
 ) -> bool
-    requires { ⌜ (length (now log) ≡ 2 * slots) × (34 ≤ slots) × (slots ≤ 256) × (next < slots) × (1 ≤ count) × (count ≤ 17) ⌝ }
+    requires { ⌜ IsLog slots (now log) ⌝ }
+    requires { ⌜ next < slots ⌝ }
+    requires { ⌜ 1 ≤ count ⌝ }
+    requires { ⌜ count ≤ maxWrites + 1 ⌝ }
     ensures { λ r. ⌜ r ≡ hits slots next count bound (completeBelow words slots base (now (log .entry)) 0 slots) ⌝ }
 {
     let Timestamp::At(least) = bound else {
         return false;
     };
-    for distance in 0..count + 16 {
+    for distance in 0..count + MAX_ENTRIES {
         if hit_at(log, words, slots, base, next, count, least, distance) {
             return true;
         }

@@ -3,10 +3,12 @@ ghost use mathlib.Core.Path.{_≡_};
 ghost use mathlib.Core.List.{[], _∷_};
 ghost use Prim.Native.Nat.{_+_, _*_, _^_, _≤_, _<_};
 ghost use lib.ListN.{length, take};
+ghost use Rattle.image.specs.Image.{maxLanes};
 ghost use Rattle.image.specs.Stores.{stored, places};
 ghost use Rattle.image.specs.Flush.{flushAll};
-ghost use Rattle.log.specs.Append.{onward as onwardOf, advance, slotStores, appendStores, circular as circularOf, restampStore};
-ghost use Rattle.log.specs.AppendEntries.{WordsBelow, entryStores};
+ghost use Rattle.log.specs.Append.{onward as onwardOf, advance, slotStores, appendStores};
+ghost use Rattle.log.specs.Append.{circular as circularOf, restampStore};
+ghost use Rattle.log.specs.AppendEntries.{Loggable, Within, LogAt, entryStores};
 use crate::Cursor;
 use image::flush;
 use slot::Slot;
@@ -14,7 +16,7 @@ use txn::Writes;
 
 // The place after a slot: the next slot, or slot 0 with the wrap bit flipped.
 pub fn onward(slots: usize, cursor: Cursor) -> Cursor
-    requires { ⌜ (cursor .slot < slots) × (cursor .wrap ≤ 1) ⌝ }
+    requires { ⌜ Within slots cursor ⌝ }
     ensures { λ r. ⌜ r ≡ onwardOf slots cursor ⌝ }
 {
     if cursor.slot + 1 == slots {
@@ -41,9 +43,12 @@ pub fn circular(slots: usize, k: usize) -> usize
 
 // Stores the two words of slot j of the log that starts at image word `start`, and flushes them.
 fn store_slot(cache: &mut [u64], flags: &mut [u8], start: usize, j: usize, lane: usize, slot: Slot)
-    requires { ⌜ (start + 2 * j + 1 < length (now cache)) × (start + 2 * j + 1 < length (now flags)) × (lane < 8) ⌝ }
+    requires { ⌜ start + 2 * j + 1 < length (now cache) ⌝ }
+    requires { ⌜ start + 2 * j + 1 < length (now flags) ⌝ }
+    requires { ⌜ lane < maxLanes ⌝ }
     ensures written { λ r. ⌜ now (cache .exit) ≡ stored (slotStores start j slot []) (now (cache .entry)) ⌝ }
-    ensures flushed { λ r. ⌜ now (flags .exit) ≡ flushAll lane (places (slotStores start j slot [])) (now (flags .entry)) ⌝ }
+    ensures flushed { λ r. ⌜ now (flags .exit)
+        ≡ flushAll lane (places (slotStores start j slot [])) (now (flags .entry)) ⌝ }
 {
     let at = start + 2 * j;
     cache[at] = slot.address;
@@ -62,10 +67,15 @@ fn append_entries(
     writes: Writes,
     cursor: Cursor,
 ) -> Cursor
-    requires { ⌜ (writes .count ≤ 16) × (length (writes .list) ≡ 16) × WordsBelow 1024 (take (writes .count) (writes .list)) × (slots ≤ 256) × (cursor .slot < slots) × (cursor .wrap ≤ 1) × (start + 2 * slots ≤ length (now cache)) × (start + 2 * slots ≤ length (now flags)) × (lane < 8) ⌝ }
+    requires { ⌜ Loggable writes ⌝ }
+    requires { ⌜ Within slots cursor ⌝ }
+    requires { ⌜ LogAt start slots lane (now cache) (now flags) ⌝ }
     ensures last { λ r. ⌜ r ≡ advance slots (writes .count) cursor ⌝ }
-    ensures written { λ r. ⌜ now (cache .exit) ≡ stored (entryStores start slots cursor (take (writes .count) (writes .list))) (now (cache .entry)) ⌝ }
-    ensures flushed { λ r. ⌜ now (flags .exit) ≡ flushAll lane (places (entryStores start slots cursor (take (writes .count) (writes .list)))) (now (flags .entry)) ⌝ }
+    ensures written { λ r. ⌜ now (cache .exit)
+        ≡ stored (entryStores start slots cursor (take (writes .count) (writes .list))) (now (cache .entry)) ⌝ }
+    ensures flushed { λ r. ⌜ now (flags .exit)
+        ≡ flushAll lane (places (entryStores start slots cursor (take (writes .count) (writes .list))))
+        (now (flags .entry)) ⌝ }
 {
     let mut end = cursor;
     for i in 0..writes.count {
@@ -88,10 +98,16 @@ pub fn append(
     stamp: u64,
     cursor: Cursor,
 ) -> Cursor
-    requires { ⌜ (writes .count ≤ 16) × (length (writes .list) ≡ 16) × WordsBelow 1024 (take (writes .count) (writes .list)) × (slots ≤ 256) × (cursor .slot < slots) × (cursor .wrap ≤ 1) × (start + 2 * slots ≤ length (now cache)) × (start + 2 * slots ≤ length (now flags)) × (lane < 8) × (stamp + 1 < 2 ^ 64) ⌝ }
+    requires { ⌜ Loggable writes ⌝ }
+    requires { ⌜ Within slots cursor ⌝ }
+    requires { ⌜ LogAt start slots lane (now cache) (now flags) ⌝ }
+    requires { ⌜ stamp + 1 < 2 ^ 64 ⌝ }
     ensures last { λ r. ⌜ r ≡ advance slots (writes .count + 1) cursor ⌝ }
-    ensures written { λ r. ⌜ now (cache .exit) ≡ stored (appendStores start slots stamp cursor (take (writes .count) (writes .list))) (now (cache .entry)) ⌝ }
-    ensures flushed { λ r. ⌜ now (flags .exit) ≡ flushAll lane (places (appendStores start slots stamp cursor (take (writes .count) (writes .list)))) (now (flags .entry)) ⌝ }
+    ensures written { λ r. ⌜ now (cache .exit)
+        ≡ stored (appendStores start slots stamp cursor (take (writes .count) (writes .list))) (now (cache .entry)) ⌝ }
+    ensures flushed { λ r. ⌜ now (flags .exit)
+        ≡ flushAll lane (places (appendStores start slots stamp cursor (take (writes .count) (writes .list))))
+        (now (flags .entry)) ⌝ }
 {
     let end = append_entries(cache, flags, start, slots, lane, writes, cursor);
     let slot = Slot::stamp(writes.count, stamp, end.wrap);
@@ -101,9 +117,14 @@ pub fn append(
 
 // Replaces the timestamp in slot j, of which only the value word changes, and flushes that word.
 pub fn restamp(cache: &mut [u64], flags: &mut [u8], start: usize, j: usize, lane: usize, stamp: u64)
-    requires { ⌜ (start + 2 * j + 1 < length (now cache)) × (start + 2 * j + 1 < length (now flags)) × (lane < 8) × (stamp + 1 < 2 ^ 64) ⌝ }
-    ensures written { λ r. ⌜ now (cache .exit) ≡ stored (restampStore start j stamp (now (cache .entry)) ∷ []) (now (cache .entry)) ⌝ }
-    ensures flushed { λ r. ⌜ now (flags .exit) ≡ flushAll lane (places (restampStore start j stamp (now (cache .entry)) ∷ [])) (now (flags .entry)) ⌝ }
+    requires { ⌜ start + 2 * j + 1 < length (now cache) ⌝ }
+    requires { ⌜ start + 2 * j + 1 < length (now flags) ⌝ }
+    requires { ⌜ lane < maxLanes ⌝ }
+    requires { ⌜ stamp + 1 < 2 ^ 64 ⌝ }
+    ensures written { λ r. ⌜ now (cache .exit)
+        ≡ stored (restampStore start j stamp (now (cache .entry)) ∷ []) (now (cache .entry)) ⌝ }
+    ensures flushed { λ r. ⌜ now (flags .exit)
+        ≡ flushAll lane (places (restampStore start j stamp (now (cache .entry)) ∷ [])) (now (flags .entry)) ⌝ }
 {
     let at = start + 2 * j;
     let wrap = cache[at] & Slot::WRAP;

@@ -4,6 +4,8 @@ use mathlib.Core.Path.{_≡_, sym, _∙_}
 use lib.ListN.{length, length-map}
 use denote.Laws.{Is}
 use denote.Struct.Laws.{vals}
+use Rattle.txn.specs.Txn.{maxWrites}
+use Rattle.image.specs.Image.{maxLanes}
 use Rattle.record.specs.declared.Lane.{Lane}
 use Rattle.record.specs.declared.Record.{Record}
 use Rattle.record.proofs.Pair as pairType
@@ -12,8 +14,8 @@ use Rattle.record.proofs.Lane.Laws as laneLaws
 use Rattle.record.proofs.Record as recordType
 use Rattle.record.proofs.Record.Laws as recordLaws
 
-pub lanes-eight : (r : Record) → Is recordType.the-row r (vals recordType.the-type recordLaws.the-laws r) → length (r .lanes) ≡ 8
+pub lanes-eight : (r : Record) → Is recordType.the-row r (vals recordType.the-type recordLaws.the-laws r) → length (r .lanes) ≡ maxLanes
 lanes-eight r g = sym (length-map (r .lanes) (laneType.the-field .into)) ∙ g .1 .1 .1 .1 .0 .1 .0 .1
 
-pub redo-sixteen : (l : Lane) → Is laneType.the-row l (vals laneType.the-type laneLaws.the-laws l) → length (l .redo) ≡ 16
+pub redo-sixteen : (l : Lane) → Is laneType.the-row l (vals laneType.the-type laneLaws.the-laws l) → length (l .redo) ≡ maxWrites
 redo-sixteen l g = sym (length-map (l .redo) (pairType.the-field .into)) ∙ g .1 .1 .1 .1 .1 .1 .0 .1 .0 .1

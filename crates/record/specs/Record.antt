@@ -4,7 +4,9 @@ use mathlib.Core.Bool.{Bool, true, false, _&&_}
 use mathlib.Core.List.{List, [], _∷_}
 use lib.Dec.{leb, ltb, eqb}
 use lib.ListN.{getD, set, take, replicate}
+use Rattle.txn.specs.Txn.{maxWrites}
 use Rattle.txn.specs.declared.Write.{Write}
+use Rattle.image.specs.Image.{maxLanes}
 use Rattle.image.specs.declared.Sizes.{Sizes}
 use Rattle.log.specs.declared.Timestamp.{Timestamp}
 use Rattle.log.specs.declared.Timestamp.the-variants.{None, At}
@@ -24,11 +26,11 @@ noPair = record { word = 0; value = 0 }
 
 -- a lane at a start: idle without floor, at slot 0 with wrap bit 1
 unfoldable pub startLane : Lane
-startLane = record { phase = Idle; next = 0; wrap = 1; floor = None; redo = replicate 16 noPair }
+startLane = record { phase = Idle; next = 0; wrap = 1; floor = None; redo = replicate maxWrites noPair }
 
 -- the record at a start: clock and last commit are the base timestamp
 unfoldable pub startRecord : ℕ → Record
-startRecord base = record { clock = base; last = base; lanes = replicate 8 startLane }
+startRecord base = record { clock = base; last = base; lanes = replicate maxLanes startLane }
 
 -- ---- lanes
 -- what stands past the end of the lanes
@@ -67,7 +69,7 @@ pairsOk W (p ∷ ps) = ltb p.word W && pairsOk W ps
 unfoldable pub phaseOk : Sizes → (clock : ℕ) → List Pair → Phase → Bool
 phaseOk z clock redo Idle = true
 phaseOk z clock redo (Holds g) =
-    ltb g.first z.slots && (leb 1 g.count && (leb g.count 16 && (stampOk clock g.stamp && pairsOk z.words (take g.count redo))))
+    ltb g.first z.slots && (leb 1 g.count && (leb g.count maxWrites && (stampOk clock g.stamp && pairsOk z.words (take g.count redo))))
 
 unfoldable pub laneOk : Sizes → (clock : ℕ) → Lane → Bool
 laneOk z clock l = ltb l.next z.slots && (leb l.wrap 1 && (floorOk clock l.floor && phaseOk z clock l.redo l.phase))

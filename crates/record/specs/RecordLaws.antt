@@ -10,6 +10,7 @@ use lib.ListN.{length, getD, take}
 use lib.Seq.{set-set}
 use borrow.Author.Tests.{eqb-true, leb-true, leb-false, ltb-true}
 use Rattle.laws.specs.Tests.{and-left, and-right}
+use Rattle.txn.specs.Txn.{maxWrites}
 use Rattle.txn.specs.declared.Write.{Write}
 use Rattle.image.specs.declared.Sizes.{Sizes}
 use Rattle.log.specs.declared.Timestamp.{Timestamp}
@@ -54,7 +55,7 @@ pair-below W redo count i h k b =
 pub record LoggedIn (z : Sizes) (clock : ℕ) (redo : List Pair) (g : Logged) : Type 0 where
   pub first : g .first < z .slots
   pub least : 1 ≤ g .count
-  pub most : g .count ≤ 16
+  pub most : g .count ≤ maxWrites
   pub stamp : StampIn clock (g .stamp)
   pub pairs : pairsOk (z .words) (take (g .count) redo) ≡ true
 
@@ -63,7 +64,7 @@ unfolding phaseOk
 logged-in z clock redo g h =
     let a = ltb (g .first) (z .slots) in
     let b = leb 1 (g .count) in
-    let c = leb (g .count) 16 in
+    let c = leb (g .count) maxWrites in
     let s = stampOk clock (g .stamp) in
     let p = pairsOk (z .words) (take (g .count) redo) in
     let h₁ = and-right a (b && (c && (s && p))) h in
@@ -72,7 +73,7 @@ logged-in z clock redo g h =
     record {
       first = ltb-true (g .first) (z .slots) (and-left a (b && (c && (s && p))) h);
       least = leb-true 1 (g .count) (and-left b (c && (s && p)) h₁);
-      most = leb-true (g .count) 16 (and-left c (s && p) h₂);
+      most = leb-true (g .count) maxWrites (and-left c (s && p) h₂);
       stamp = stamp-in clock (g .stamp) (and-left s p h₃);
       pairs = and-right s p h₃;
     }

@@ -1,12 +1,16 @@
 // The record: clock, last commit and the lanes' state, which live outside the image and are lost with the power.
+use image::MAX_LANES;
 use image::Sizes;
 use log::Cursor;
 use log::Latest;
 use log::Timestamp;
+use txn::MAX_WRITES;
 use txn::Writes;
 ghost use mathlib.Core.Path.{_≡_};
 ghost use Prim.Native.Nat.{_≤_, _<_};
 ghost use lib.ListN.{take};
+ghost use Rattle.txn.specs.Txn.{maxWrites};
+ghost use Rattle.image.specs.Image.{maxLanes};
 ghost use Rattle.record.specs.Record.{startLane, startRecord, laneAt, cursorOf, isLogged, loggedIn};
 ghost use Rattle.record.specs.Record.{stampOk, floorOk, pairsOk, phaseOk, laneOk, recordOk, spent};
 ghost use Rattle.record.specs.Record.{lesser, boundOf, floorAfterDrain, floorAfterAppend};
@@ -38,16 +42,16 @@ pub struct Lane {
     // the low-water mark: the timestamp that the last drained sequence had, or the first's while none is drained
     pub floor: Timestamp,
     // the redo log: a logged transaction's writes, in order
-    pub redo: [Pair; 16],
+    pub redo: [Pair; MAX_WRITES],
 }
 
-// 2,576 bytes, and a function that takes a record and indexes its lanes copies it: so the calls' inner functions take a lane or numbers where these do, and a
-// call changes its record once, at its end.
+// 2,576 bytes, and a function that takes a record and indexes its lanes copies it: so the calls' inner functions take a
+// lane or numbers where these do, and a call changes its record once, at its end.
 pub struct Record {
     pub clock: u64,
     // the timestamp of the last commit
     pub last: u64,
-    pub lanes: [Lane; 8],
+    pub lanes: [Lane; MAX_LANES],
 }
 
 // A lane at a start: idle without floor, at slot 0 with wrap bit 1.
@@ -59,7 +63,7 @@ pub fn start_lane() -> Lane
         next: 0,
         wrap: 1,
         floor: Timestamp::None,
-        redo: [Pair { word: 0, value: 0 }; 16],
+        redo: [Pair { word: 0, value: 0 }; MAX_WRITES],
     }
 }
 
@@ -70,7 +74,7 @@ pub fn start_record(base: u64) -> Record
     Record {
         clock: base,
         last: base,
-        lanes: [start_lane(); 8],
+        lanes: [start_lane(); MAX_LANES],
     }
 }
 
@@ -125,8 +129,8 @@ fn floor_ok(clock: u64, floor: Timestamp) -> bool
 }
 
 // Do the first `count` pairs name data words?
-fn pairs_ok(words: usize, count: usize, redo: [Pair; 16]) -> bool
-    requires { ⌜ count ≤ 16 ⌝ }
+fn pairs_ok(words: usize, count: usize, redo: [Pair; MAX_WRITES]) -> bool
+    requires { ⌜ count ≤ maxWrites ⌝ }
     ensures { λ r. ⌜ r ≡ pairsOk words (take count redo) ⌝ }
 {
     for i in 0..count {
@@ -138,7 +142,7 @@ fn pairs_ok(words: usize, count: usize, redo: [Pair; 16]) -> bool
     true
 }
 
-fn phase_ok(sizes: Sizes, clock: u64, redo: [Pair; 16], phase: Phase) -> bool
+fn phase_ok(sizes: Sizes, clock: u64, redo: [Pair; MAX_WRITES], phase: Phase) -> bool
     ensures { λ r. ⌜ r ≡ phaseOk sizes clock redo phase ⌝ }
 {
     match phase {
@@ -151,7 +155,7 @@ fn phase_ok(sizes: Sizes, clock: u64, redo: [Pair; 16], phase: Phase) -> bool
             if count < 1 {
                 return false;
             }
-            if 16 < count {
+            if MAX_WRITES < count {
                 return false;
             }
             if !stamp_ok(clock, logged.stamp) {
@@ -180,9 +184,10 @@ fn lane_ok(sizes: Sizes, clock: u64, lane: Lane) -> bool
     phase_ok(sizes, clock, redo, phase)
 }
 
-// The range check, false where refusal 2 is due. The lanes that are not in use, and the pairs from the count on, may hold anything.
+// The range check, false where refusal 2 is due. The lanes that are not in use, and the pairs from the count on, may
+// hold anything.
 pub fn record_ok(sizes: Sizes, state: Record) -> bool
-    requires { ⌜ sizes .lanes ≤ 8 ⌝ }
+    requires { ⌜ sizes .lanes ≤ maxLanes ⌝ }
     ensures { λ r. ⌜ r ≡ recordOk sizes state ⌝ }
 {
     let clock = state.clock;
@@ -203,7 +208,7 @@ pub fn record_ok(sizes: Sizes, state: Record) -> bool
 }
 
 // 2^64 - 2, the last even number.
-const CLOCK_END: u64 = 18446744073709551614;
+const CLOCK_END: u64 = u64::MAX - 1;
 
 // Can the clock give no new timestamp?
 pub fn spent(state: Record) -> bool
@@ -227,7 +232,7 @@ pub fn lesser(a: Timestamp, b: Timestamp) -> Timestamp
 
 // The lower bound: the least floor of the lanes in use.
 pub fn bound_of(sizes: Sizes, state: Record) -> Timestamp
-    requires { ⌜ sizes .lanes ≤ 8 ⌝ }
+    requires { ⌜ sizes .lanes ≤ maxLanes ⌝ }
     ensures { λ r. ⌜ r ≡ boundOf sizes state ⌝ }
 {
     let mut bound = Timestamp::None;
@@ -261,7 +266,7 @@ pub fn floor_after_append(stamp: u64, floor: Timestamp) -> Timestamp
 
 // The record with a lane's state replaced.
 pub fn with_lane(mut state: Record, lane: usize, after: Lane) -> Record
-    requires { ⌜ lane < 8 ⌝ }
+    requires { ⌜ lane < maxLanes ⌝ }
     ensures { λ r. ⌜ r ≡ withLane state lane after ⌝ }
 {
     state.lanes[lane] = after;
@@ -270,7 +275,7 @@ pub fn with_lane(mut state: Record, lane: usize, after: Lane) -> Record
 
 // The record with its clock moved to a new timestamp and a lane's state replaced.
 pub fn stamped(mut state: Record, stamp: u64, lane: usize, after: Lane) -> Record
-    requires { ⌜ lane < 8 ⌝ }
+    requires { ⌜ lane < maxLanes ⌝ }
     ensures { λ r. ⌜ r ≡ withLane (withClock state stamp) lane after ⌝ }
 {
     state.clock = stamp;
@@ -291,7 +296,7 @@ pub fn drained_lane(latest: Latest, lane: Lane) -> Lane
 
 // The record after a drain of the lane that found this latest sequence.
 pub fn drained(mut state: Record, lane: usize, latest: Latest) -> Record
-    requires { ⌜ lane < 8 ⌝ }
+    requires { ⌜ lane < maxLanes ⌝ }
     ensures { λ r. ⌜ r ≡ withLane state lane (drainedLane latest (laneAt state lane)) ⌝ }
 {
     let at = state.lanes[lane];
@@ -301,7 +306,13 @@ pub fn drained(mut state: Record, lane: usize, latest: Latest) -> Record
 }
 
 // A lane after an append that ended at a cursor, with the phase and the redo log that it then has.
-pub fn appended_lane(stamp: u64, cursor: Cursor, phase: Phase, redo: [Pair; 16], lane: Lane) -> Lane
+pub fn appended_lane(
+    stamp: u64,
+    cursor: Cursor,
+    phase: Phase,
+    redo: [Pair; MAX_WRITES],
+    lane: Lane,
+) -> Lane
     ensures { λ r. ⌜ r ≡ appendedLane stamp cursor phase redo lane ⌝ }
 {
     let floor = lane.floor;
@@ -325,11 +336,11 @@ pub fn idle_lane(lane: Lane) -> Lane
 }
 
 // The redo log of a run's writes: 0s from the count on.
-pub fn pairs_of(writes: Writes) -> [Pair; 16]
-    requires { ⌜ writes .count ≤ 16 ⌝ }
-    ensures { λ r. ⌜ r ≡ pairsOf 16 (take (writes .count) (writes .list)) ⌝ }
+pub fn pairs_of(writes: Writes) -> [Pair; MAX_WRITES]
+    requires { ⌜ writes .count ≤ maxWrites ⌝ }
+    ensures { λ r. ⌜ r ≡ pairsOf maxWrites (take (writes .count) (writes .list)) ⌝ }
 {
-    let mut pairs = [Pair { word: 0, value: 0 }; 16];
+    let mut pairs = [Pair { word: 0, value: 0 }; MAX_WRITES];
     for i in 0..writes.count {
         let write = writes.list[i];
         pairs[i] = Pair {

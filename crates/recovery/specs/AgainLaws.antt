@@ -24,7 +24,8 @@ use Rattle.image.specs.declared.Sizes.{Sizes}
 use Rattle.log.specs.Log.{slotAt, closes, completeBelow, completeIn, latest, latestIn, contribution}
 use Rattle.log.specs.declared.Timestamp.the-variants.{None}
 use Rattle.record.specs.Record.{lesser}
-use Rattle.recovery.specs.Recovery.{boundaryBelow, boundary, completeOf, undoneFrom, undone, undoSequences, undoStores, wholeStamp, greatestBelow, greatestOf, newBase, zeros, recoveryStores, recoveredNvm}
+use Rattle.recovery.specs.Recovery.{boundaryBelow, boundary, completeOf, undoneFrom, undone, undoSequences, undoStores, wholeStamp, greatestBelow}
+use Rattle.recovery.specs.Recovery.{greatestOf, newBase, zeros, recoveryStores, recoveredNvm}
 use Rattle.recovery.specs.Clearing.{clearing, partlyCleared}
 use Rattle.recovery.specs.UndoStoreLaws.{OnData, data-undo, off-data}
 
@@ -198,7 +199,8 @@ unfolding zeros lastAt
 zeros-at at zero i x h g = absurd (omega arith)
 zeros-at at (suc n) i x h g =
     split (eqb at i)
-    (λ e. ap (λ t. lastAt (zeros (suc at) n) i (cond t 0 x)) e ∙ go (zeroing-at (suc at) (suc at + n) (all-zeroing (suc at) (suc at) n (suc at + n) (omega arith) (omega arith)) i 0))
+    (λ e. ap (λ t. lastAt (zeros (suc at) n) i (cond t 0 x)) e
+    ∙ go (zeroing-at (suc at) (suc at + n) (all-zeroing (suc at) (suc at) n (suc at + n) (omega arith) (omega arith)) i 0))
     (λ e. ap (λ t. lastAt (zeros (suc at) n) i (cond t 0 x)) e ∙ zeros-at (suc at) n i x (omega (arith, eqb-false at i e)) (omega arith))
   where
     go : Same0 (lastAt (zeros (suc at) n) i 0) 0 → lastAt (zeros (suc at) n) i 0 ≡ 0

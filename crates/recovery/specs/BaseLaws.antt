@@ -86,7 +86,11 @@ module _ (z : Sizes) (image : List ℕ) where
   of-one (suc k) s e h =
       let g = greatestBelow z.words (logOf z k image) z.slots in
       split (ltb (greatestOf z image k) g)
-      (λ t. record { lane = k; low = omega arith; whole = below-one z.words (logOf z k image) z.slots s (omega (arith, ltb-true (greatestOf z image k) g t)) h })
+      (λ t. record {
+        lane = k;
+        low = omega arith;
+        whole = below-one z.words (logOf z k image) z.slots s (omega (arith, ltb-true (greatestOf z image k) g t)) h;
+      })
       (λ t. let w = of-one k s (omega (arith, ltb-false (greatestOf z image k) g t)) h in
       record { lane = w .lane; low = omega (arith, w .low); whole = w .whole })
 

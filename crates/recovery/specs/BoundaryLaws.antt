@@ -1,4 +1,5 @@
--- The boundary against the sequences found: it is the timestamp of one lane's latest, at most that of each, and none where nothing is complete. Assumes nothing.
+-- The boundary against the sequences found: it is the timestamp of one lane's latest, at most that of each, and none where nothing is complete. Assumes
+-- nothing.
 use mathlib.Core.Path.{_≡_, refl, ap, _∙_}
 use mathlib.Core.List.{List, [], _∷_}
 use Prim.Native.Nat.{ℕ, zero, suc, _≤_, _<_, min}

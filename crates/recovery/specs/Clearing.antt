@@ -1,4 +1,5 @@
--- Recovery cut short while it clears the logs: whatever the order in which they are cleared, any of the log words may be 0 by then. 01, "Recovery" 3. Assumes nothing.
+-- Recovery cut short while it clears the logs: whatever the order in which they are cleared, any of the log words may be 0 by then. 01, "Recovery" 3. Assumes
+-- nothing.
 use Prim.Native.Nat.{ℕ, _+_}
 use mathlib.Core.Bool.{cond, _&&_}
 use mathlib.Core.List.{List, [], _∷_, _++_}

@@ -7,6 +7,7 @@ use native.Mathlib.Numerals.{add-one}
 use lib.ListN.{length, length-append}
 use Rattle.laws.specs.Lists.{All, none, more}
 use Rattle.slot.specs.declared.Content.{Content}
+use Rattle.slot.specs.Slot.{maxEntries}
 use Rattle.image.specs.Image.{baseOf, logOf}
 use Rattle.image.specs.Stores.{Store}
 use Rattle.image.specs.declared.Sizes.{Sizes}
@@ -32,7 +33,8 @@ module _ (z : Sizes) (image : List ℕ) (L j : ℕ) where
   nothing-closed e = closes-none (z .words) (z .slots) (baseOf image) (logOf z L image) L j e
 
   module _ (q : Sequence) (c : Closed (z .words) (z .slots) (baseOf image) (logOf z L image) j q) where
-    one-closed : closesIn z image L j ≡ record { stamp = q .stamp; lane = L; slot = j; entries = entriesBack (z .words) (z .slots) (logOf z L image) j (c .wrap) (q .count) } ∷ []
+    one-closed : closesIn z image L j
+        ≡ record { stamp = q .stamp; lane = L; slot = j; entries = entriesBack (z .words) (z .slots) (logOf z L image) j (c .wrap) (q .count) } ∷ []
     unfolding closesIn
     one-closed = closes-one (z .words) (z .slots) (baseOf image) (logOf z L image) L j q c
 
@@ -101,7 +103,8 @@ module _ (z : Sizes) (image : List ℕ) (some : 0 < length image) (L j limit due
       unfolding entryStores
       undone-log =
           ap (logOf z L) (u .memory)
-          ∙ limited-alike z limit due image some (data-entries (z .words) (back-words (z .words) (z .slots) (logOf z L image) j (wrapOf (slotAt (z .words) (logOf z L image) j)) i)) .logs L
+          ∙ limited-alike z limit due image some
+          (data-entries (z .words) (back-words (z .words) (z .slots) (logOf z L image) j (wrapOf (slotAt (z .words) (logOf z L image) j)) i)) .logs L
 
       module _ (h : i < q .count) (o : Before) (b : ℕ) (c : Content)
           (e : b ≡ back (z .slots) j (i + 1)) (r : c ≡ slotAt (z .words) (logOf z L nvm) b) (d : o ≡ oldOf c) where
@@ -112,7 +115,8 @@ module _ (z : Sizes) (image : List ℕ) (some : 0 < length image) (L j limit due
 
         read : o ≡ record { word = entry .word; old = entry .old }
         unfolding oldOf
-        read = d ∙ ap oldOf (r ∙ ap (λ (l : List ℕ). slotAt (z .words) l b) undone-log ∙ ap (slotAt (z .words) (logOf z L image)) (e ∙ ap (back (z .slots) j) (add-one i)) ∙ entry .reads)
+        read = d ∙ ap oldOf (r ∙ ap (λ (l : List ℕ). slotAt (z .words) l b) undone-log
+            ∙ ap (slotAt (z .words) (logOf z L image)) (e ∙ ap (back (z .slots) j) (add-one i)) ∙ entry .reads)
 
         -- the entry names a data word
         pub undone-word : o .word < z .words
@@ -125,7 +129,8 @@ module _ (z : Sizes) (image : List ℕ) (some : 0 < length image) (L j limit due
             ∙ ap undoEntries
             (ap (entriesBack (z .words) (z .slots) (logOf z L image) j (s .wrap)) (add-one i)
             ∙ back-cons (z .words) (z .slots) (logOf z L image) j (s .wrap) i entry)
-            ∙ ap (λ (x : Before). undoEntries (entriesBack (z .words) (z .slots) (logOf z L image) j (s .wrap) i) ++ (record { at = 1 + x .word; value = x .old } ∷ [])) (sym read)
+            ∙ ap (λ (x : Before). undoEntries (entriesBack (z .words) (z .slots) (logOf z L image) j (s .wrap) i)
+            ++ (record { at = 1 + x .word; value = x .old } ∷ [])) (sym read)
             ∙ ap (λ l. l ++ (record { at = 1 + o .word; value = o .old } ∷ [])) (sym (stores-are i))
 
         -- with it
@@ -144,11 +149,11 @@ module _ (z : Sizes) (image : List ℕ) (some : 0 < length image) (L j limit due
               small = omega (arith, u .small);
             }
 
-pub closed-few : (z : Sizes) (image : List ℕ) (L j : ℕ) → length (undoSequences (closesIn z image L j)) ≤ 16
+pub closed-few : (z : Sizes) (image : List ℕ) (L j : ℕ) → length (undoSequences (closesIn z image L j)) ≤ maxEntries
 unfolding undoSequences
 closed-few z image L j = by (closedAt (z .words) (z .slots) (baseOf image) (logOf z L image) j) refl
   where
-    by : (x : Latest) → closedAt (z .words) (z .slots) (baseOf image) (logOf z L image) j ≡ x → length (undoSequences (closesIn z image L j)) ≤ 16
+    by : (x : Latest) → closedAt (z .words) (z .slots) (baseOf image) (logOf z L image) j ≡ x → length (undoSequences (closesIn z image L j)) ≤ maxEntries
     by Nothing e = rw (nothing-closed z image L j e) (omega arith)
     by (Is q) e =
         let c = closed-from (z .words) (z .slots) (baseOf image) (logOf z L image) j q e in

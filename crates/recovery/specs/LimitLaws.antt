@@ -1,4 +1,5 @@
--- Laws of stores up to a limit: none, one, a list after another, zeros; and stores to data words, which leave the base and the logs as they are. Assumes nothing.
+-- Laws of stores up to a limit: none, one, a list after another, zeros; and stores to data words, which leave the base and the logs as they are. Assumes
+-- nothing.
 use mathlib.Core.Path.{_≡_, refl, sym, ap, _∙_}
 use mathlib.Core.List.{List, [], _∷_, _++_, append-assoc}
 use Prim.Native.Nat.{ℕ, zero, suc, _+_, _-_, _≤_, _<_, min}
@@ -22,14 +23,16 @@ take-append : (n : ℕ) (xs ys : List Store) → take n (xs ++ ys) ≡ take n xs
 take-append zero [] ys = refl
 take-append zero (x ∷ xs) ys = ap (λ m. take m ys) (let e : 0 ≡ 0 - length (x ∷ xs) = omega arith in e)
 take-append (suc n) [] ys = ap (λ m. take m ys) (let e : suc n ≡ suc n - 0 = omega arith in e)
-take-append (suc n) (x ∷ xs) ys = ap (λ l. x ∷ l) (take-append n xs ys ∙ ap (λ m. take n xs ++ take m ys) (let e : n - length xs ≡ suc n - suc (length xs) = omega arith in e))
+take-append (suc n) (x ∷ xs) ys =
+    ap (λ l. x ∷ l) (take-append n xs ys ∙ ap (λ m. take n xs ++ take m ys) (let e : n - length xs ≡ suc n - suc (length xs) = omega arith in e))
 
 module _ (limit due : ℕ) where
   pub limited-none : (image : List ℕ) → limited limit due [] image ≡ image
   unfolding limited stored
   limited-none image = ap (λ l. stored l image) (take-nil (limit - due))
 
-  pub limited-append : (xs ys : List Store) (image : List ℕ) → limited limit due (xs ++ ys) image ≡ limited limit (due + length xs) ys (limited limit due xs image)
+  pub limited-append : (xs ys : List Store) (image : List ℕ)
+      → limited limit due (xs ++ ys) image ≡ limited limit (due + length xs) ys (limited limit due xs image)
   unfolding limited
   limited-append xs ys image =
       ap (λ l. stored l image) (take-append (limit - due) xs ys)
@@ -69,7 +72,8 @@ stored-zeros zero at image = refl
 stored-zeros (suc k) at image = stored-zeros k (suc at) (set image at 0)
 
 -- a part of k zeros put back is what the limit makes of n zeros, where it lets k through
-pub limited-zeros : (limit due at n k : ℕ) (image ys : List ℕ) → k ≡ min (limit - due) n → at + k ≤ length image → ys ≡ replicate (length (midOf at (at + k - at) image)) 0
+pub limited-zeros : (limit due at n k : ℕ) (image ys : List ℕ) → k ≡ min (limit - due) n → at + k ≤ length image
+    → ys ≡ replicate (length (midOf at (at + k - at) image)) 0
     → putMid at (at + k - at) image ys ≡ limited limit due (zeros at n) image
 unfolding limited
 limited-zeros limit due at n k image ys e h d =
@@ -100,6 +104,7 @@ length-undo [] = refl
 length-undo (e ∷ es) = length-append (undoEntries es) _ ∙ rw (length-undo es) (omega arith)
 
 -- stores to data words leave the base and the logs as they are
-pub limited-alike : (z : Sizes) (limit due : ℕ) {xs : List Store} (image : List ℕ) → 0 < length image → All (OnData (z .words)) xs → Alike z (limited limit due xs image) image
+pub limited-alike : (z : Sizes) (limit due : ℕ) {xs : List Store} (image : List ℕ) → 0 < length image → All (OnData (z .words)) xs
+    → Alike z (limited limit due xs image) image
 unfolding limited
 limited-alike z limit due image pos h = alike-data z image pos (All-take (limit - due) h)

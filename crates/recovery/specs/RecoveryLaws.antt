@@ -40,7 +40,9 @@ module _ (z : Sizes) (image : List ℕ) (limit : ℕ) where
       let b : Store = record { at = 0; value = newBase z image } in
       let zs = zeros (1 + z .words) (2 * z .lanes * z .slots) in (
         (let n : length (undoStores z image ++ (b ∷ zs)) ≡ length (undoStores z image) + (1 + 2 * z .lanes * z .slots) =
-            length-append us (b ∷ zs) ∙ ap (λ k. length us + k) (ap suc (length-zeros (1 + z .words) (2 * z .lanes * z .slots)) ∙ (let s : suc (2 * z .lanes * z .slots) ≡ 1 + 2 * z .lanes * z .slots = omega arith in s)) in
+            length-append us (b ∷ zs) ∙ ap (λ k. length us + k)
+            (ap suc (length-zeros (1 + z .words) (2 * z .lanes * z .slots))
+            ∙ (let s : suc (2 * z .lanes * z .slots) ≡ 1 + 2 * z .lanes * z .slots = omega arith in s)) in
             omega arith),
         e₇
             ∙ ap (limited limit due zs) (e₅ ∙ ap (λ v. limited limit undone (record { at = 0; value = v } ∷ []) first) e₃)

@@ -1,8 +1,8 @@
--- Laws of reading the logs: what a slot offers, a lane's timestamps tried from the greatest down, and the lanes one after another: the boundary and the new base.
--- Assumes nothing.
+-- Laws of reading the logs: what a slot offers, a lane's timestamps tried from the greatest down, and the lanes one after another: the boundary and the new
+-- base. Assumes nothing.
 use mathlib.Core.Path.{_≡_, refl, sym, ap, subst, _∙_}
 use mathlib.Core.Logic.{_≢_}
-use mathlib.Core.Bool.{true, false}
+use mathlib.Core.Bool.{false}
 use mathlib.Core.List.{List}
 use Prim.Native.Nat.{ℕ, _+_, _-_, _*_, max, _≤_, _<_}
 use native.Mathlib.Omega.{arith}
@@ -19,7 +19,8 @@ use Rattle.winners.specs.Winners.{AtMost, greatestAt, Tournament}
 use Rattle.winners.specs.GreatestLaws.{greatest-low, greatest-most}
 use Rattle.slot.specs.declared.Content.{Content}
 use Rattle.slot.specs.declared.Content.the-variants.{Empty, Torn, Entry, Stamp}
-use Rattle.image.specs.Image.{sizesOk, baseOf, logOf}
+use Rattle.slot.specs.Slot.{maxEntries}
+use Rattle.image.specs.Image.{baseOf, logOf}
 use Rattle.image.specs.declared.Sizes.{Sizes}
 use Rattle.log.specs.Log.{slotAt, entriesBack, latestIn, contribution}
 use Rattle.log.specs.LogLaws.{stamp-in, latest-in}
@@ -72,7 +73,11 @@ module _ (z : Sizes) (image : List ℕ) (L greatest : ℕ) where
   pub offered-start : (s : List ℕ) → length s ≡ z .slots → OfferedTo z image L greatest 0 s greatest
   unfolding greatestBelow
   offered-start s e =
-      record { long = e; stamps = below-none (λ i. getD s i 0 ≡ offered (baseOf image) (wholeStamp (slotAt (z .words) (logOf z L image) i))); whole = omega arith }
+      record {
+        long = e;
+        stamps = below-none (λ i. getD s i 0 ≡ offered (baseOf image) (wholeStamp (slotAt (z .words) (logOf z L image) i)));
+        whole = omega arith;
+      }
 
   pub offered-more : (j : ℕ) (s : List ℕ) (most : ℕ) → OfferedTo z image L greatest j s most → j < z .slots
       → (c : Content) (w v m : ℕ) → c ≡ slotAt (z .words) (logOf z L image) j → w ≡ wholeStamp c → v ≡ offered (baseOf image) w → m ≡ max most w
@@ -124,7 +129,7 @@ module _ (z : Sizes) (image : List ℕ) (L : ℕ) (pos : 0 < z .slots) (s : List
         let f : getD s m 0 ≡ offered (baseOf image) (wholeStamp c) = o .some m search-low h ∙ ap (λ x. offered (baseOf image) (wholeStamp x)) (sym r) in
         rw f (offered-by (baseOf image) c (λ d. h (f ∙ d)))
 
-    pub search-few : (countOf c ≤ 16) × (wrapOf c ≤ 1)
+    pub search-few : (countOf c ≤ maxEntries) × (wrapOf c ≤ 1)
     search-few = let f = stamp-in (z .words) (logOf z L image) m _ _ _ (sym r ∙ says .0) in (f .count, f .wrap)
 
     -- it is incomplete, and offered no more
@@ -145,7 +150,9 @@ module _ (z : Sizes) (image : List ℕ) (L : ℕ) (pos : 0 < z .slots) (s : List
     module _ (w : length (entriesBack (z .words) (z .slots) (logOf z L image) m (wrapOf c) (countOf c)) ≡ countOf c) where
       closed-stamp : (i : ℕ) → i < z .slots → (q : Sequence) → closedAt (z .words) (z .slots) (baseOf image) (logOf z L image) i ≡ Is q → q .stamp ≡ getD s i 0
       closed-stamp i k q x =
-          sym (o .some i k (λ d. never (sym (o .every i k d) ∙ x)) ∙ closed-offered (z .words) (z .slots) (baseOf image) (logOf z L image) i q (closed-from (z .words) (z .slots) (baseOf image) (logOf z L image) i q x))
+          sym (o .some i k (λ d. never (sym (o .every i k d) ∙ x))
+          ∙ closed-offered (z .words) (z .slots) (baseOf image) (logOf z L image) i q
+          (closed-from (z .words) (z .slots) (baseOf image) (logOf z L image) i q x))
 
       below : (i : ℕ) → i < m → NotAbove (getD s m 0) (closedAt (z .words) (z .slots) (baseOf image) (logOf z L image) i)
       unfolding NotAbove
@@ -191,7 +198,8 @@ module _ (z : Sizes) (image : List ℕ) (room : ℕ) where
         most = omega arith;
       }
 
-  module _ (i : z .lanes * z .slots ≤ room) (k : ℕ) (a t : List ℕ) (b : Timestamp) (base : ℕ) (r : Scanned z image room k a t b base) (l : k < z .lanes) (s u : List ℕ)
+  module _ (i : z .lanes * z .slots ≤ room) (k : ℕ) (a t : List ℕ) (b : Timestamp) (base : ℕ) (r : Scanned z image room k a t b base) (l : k < z .lanes)
+      (s u : List ℕ)
       (o : Offers z image k s) (w : Tournament s u) where
     fits : k * z .slots + z .slots ≤ length a
     fits = rw (r .trees .long) (lane-inside z k room i l)
@@ -204,7 +212,8 @@ module _ (z : Sizes) (image : List ℕ) (room : ℕ) where
 
     pub scanned-more : (b′ : Timestamp) (base′ : ℕ)
         → b′ ≡ lesser b (contribution (latestIn z image k)) → base′ ≡ max base (greatestBelow (z .words) (logOf z k image) (z .slots))
-        → Scanned z image room (k + 1) (putMid (k * z .slots) (k * z .slots + z .slots - k * z .slots) a s) (putMid (k * z .slots) (k * z .slots + z .slots - k * z .slots) t u) b′ base′
+        → Scanned z image room (k + 1) (putMid (k * z .slots) (k * z .slots + z .slots - k * z .slots) a s)
+        (putMid (k * z .slots) (k * z .slots + z .slots - k * z .slots) t u) b′ base′
     unfolding boundaryBelow greatestOf
     scanned-more b′ base′ g h =
         rw (add-sub-cancel-left (k * z .slots) (z .slots))

@@ -74,7 +74,8 @@ firstsOf-none (q ∷ qs) w x h =
 module _ (w y : ℕ) where
   pub data Ends : List Complete → Type 0 where
     done : Ends []
-    ends : {q : Complete} {qs : List Complete} → (anyWrites qs w ≡ false → writes (q .entries) w ≡ true → (x : ℕ) → firstOld (q .entries) w x ≡ y) → Ends qs → Ends (q ∷ qs)
+    ends : {q : Complete} {qs : List Complete} → (anyWrites qs w ≡ false → writes (q .entries) w ≡ true → (x : ℕ) → firstOld (q .entries) w x ≡ y) → Ends qs
+        → Ends (q ∷ qs)
 
   pub firstsOf-ends : {qs : List Complete} (x : ℕ) → Ends qs → anyWrites qs w ≡ true → firstsOf qs w x ≡ y
   unfolding firstsOf anyWrites

@@ -1,12 +1,13 @@
-// Recovery: from the non-volatile memory alone, the words at one boundary. The logs are read in scan.rt, undoing is in undo.rt, stores up to the limit in stores.rt.
+// Recovery: from the non-volatile memory alone, the words at one boundary. The logs are read in scan.rt, undoing is in
+// undo.rt, stores up to the limit in stores.rt.
 ghost use mathlib.Core.Path.{_≡_};
-ghost use mathlib.Core.Bool.{true};
-ghost use Prim.Native.Nat.{_*_, _≤_};
 ghost use lib.ListN.{length, replicate};
-ghost use Rattle.image.specs.Image.{sizesOk, imageLength};
+ghost use Rattle.image.specs.Image.{IsImage};
 ghost use Rattle.store.specs.Interface.{blankOf};
-ghost use Rattle.recovery.specs.Recovery.{boundary as boundaryOf, undoStores, recoveryStores, recoveredNvm, recoverRefusal, recoverStep};
+ghost use Rattle.recovery.specs.Recovery.{boundary as boundaryOf, undoStores, recoveryStores, recoveredNvm};
+ghost use Rattle.recovery.specs.Recovery.{recoverRefusal, recoverStep};
 ghost use Rattle.recovery.specs.Interface.{restartedOf};
+ghost use Rattle.recovery.specs.Picking.{LaneRoom};
 use image::Sizes;
 use log::Timestamp;
 use record::Record;
@@ -14,6 +15,12 @@ use record::Record;
 mod scan;
 mod stores;
 mod undo;
+
+// The slots of all lanes together, at most.
+const ALL_SLOTS: usize = image::MAX_LANES * image::MAX_SLOTS;
+
+// No more are few.
+const FEW_SLOTS: usize = 256;
 
 // What a finished recovery answers: the boundary, and how many entries it undid.
 pub struct Finished {
@@ -30,7 +37,8 @@ pub enum Recovered {
     Finished(Finished),
 }
 
-// The answer with the record: that of the new start where recovery finished, and otherwise a blank one that stands for none.
+// The answer with the record: that of the new start where recovery finished, and otherwise a blank one that stands for
+// none.
 pub struct Restart {
     pub answer: Recovered,
     pub state: Record,
@@ -56,8 +64,9 @@ pub fn recover_refusal(sizes: Sizes, cache: &[u64], nvm: &[u64], flags: &[u8]) -
     0
 }
 
-// All stores, as far as the limit goes: entries undone, the base timestamp, the log words, by the last three calls below and in their order. The contract says what
-// stands there after the first `limit` of them, not in which order they came. The arrays have a place for each slot of each lane.
+// All stores, as far as the limit goes: entries undone, the base timestamp, the log words, by the last three calls
+// below and in their order. The contract says what stands there after the first `limit` of them, not in which order
+// they came. The arrays have a place for each slot of each lane.
 fn make_stores(
     sizes: Sizes,
     nvm: &mut [u64],
@@ -65,7 +74,8 @@ fn make_stores(
     tree: &mut [u16],
     limit: usize,
 ) -> Due
-    requires { ⌜ (sizesOk sizes ≡ true) × (length (now nvm) ≡ imageLength sizes) × (sizes .lanes * sizes .slots ≤ length (now stamps)) × (length (now tree) ≡ length (now stamps)) ⌝ }
+    requires { ⌜ IsImage sizes (now nvm) ⌝ }
+    requires { ⌜ LaneRoom sizes (now stamps) (now tree) ⌝ }
     ensures boundary { λ r. ⌜ r .boundary ≡ boundaryOf sizes (now (nvm .entry)) ⌝ }
     ensures undo { λ r. ⌜ r .undone ≡ length (undoStores sizes (now (nvm .entry))) ⌝ }
     ensures counted { λ r. ⌜ r .all ≡ length (recoveryStores sizes (now (nvm .entry))) ⌝ }
@@ -83,28 +93,29 @@ fn make_stores(
     }
 }
 
-// The same in arrays of its own. Small logs have small ones: setting the great ones to 0 costs as much as recovering a small image.
+// The same in arrays of its own. Small logs have small ones: setting the great ones to 0 costs as much as recovering a
+// small image.
 fn recover_nvm(sizes: Sizes, nvm: &mut [u64], limit: usize) -> Due
-    requires { ⌜ (sizesOk sizes ≡ true) × (length (now nvm) ≡ imageLength sizes) ⌝ }
+    requires { ⌜ IsImage sizes (now nvm) ⌝ }
     ensures boundary { λ r. ⌜ r .boundary ≡ boundaryOf sizes (now (nvm .entry)) ⌝ }
     ensures undo { λ r. ⌜ r .undone ≡ length (undoStores sizes (now (nvm .entry))) ⌝ }
     ensures counted { λ r. ⌜ r .all ≡ length (recoveryStores sizes (now (nvm .entry))) ⌝ }
     ensures written { λ r. ⌜ now (nvm .exit) ≡ recoveredNvm sizes limit (now (nvm .entry)) ⌝ }
 {
-    if sizes.lanes * sizes.slots <= 256 {
-        let mut stamps = [0u64; 256];
-        let mut tree = [0u16; 256];
+    if sizes.lanes * sizes.slots <= FEW_SLOTS {
+        let mut stamps = [0u64; FEW_SLOTS];
+        let mut tree = [0u16; FEW_SLOTS];
         return make_stores(sizes, nvm, &mut stamps, &mut tree, limit);
     }
-    // 8 lanes of 256 slots
-    let mut stamps = [0u64; 2048];
-    let mut tree = [0u16; 2048];
+    let mut stamps = [0u64; ALL_SLOTS];
+    let mut tree = [0u16; ALL_SLOTS];
     make_stores(sizes, nvm, &mut stamps, &mut tree, limit)
 }
 
 // The cache equals non-volatile memory, and nothing is flushed.
 fn refill(cache: &mut [u64], nvm: &[u64], flags: &mut [u8])
-    requires { ⌜ (length (now nvm) ≡ length (now cache)) × (length (now flags) ≡ length (now cache)) ⌝ }
+    requires { ⌜ length (now nvm) ≡ length (now cache) ⌝ }
+    requires { ⌜ length (now flags) ≡ length (now cache) ⌝ }
     ensures cached { λ r. ⌜ now (cache .exit) ≡ now (nvm .entry) ⌝ }
     ensures unflushed { λ r. ⌜ now (flags .exit) ≡ replicate (length (now (cache .entry))) 0 ⌝ }
 {
@@ -113,10 +124,12 @@ fn refill(cache: &mut [u64], nvm: &[u64], flags: &mut [u8])
 }
 
 // Recovers from non-volatile memory alone, making at most `limit` stores to it; cache and flags are not read.
-// One pass over all slots makes an array of timestamps with a winner tree for each lane (up to 23 KB of stack). Each lane's are tried from the greatest down, up to its
-// latest sequence; then all from the boundary on are taken from the greatest down. Each one tried or taken costs the reading of its sequence, a step for each level
-// of its tree, at most 8, and where it is taken a look at each lane. A store is made for each entry undone, one for the base and one for each log word that is not 0
-// already, all of them whole words in this order, and where it finishes the image is passed over once.
+// One pass over all slots makes an array of timestamps with a winner tree for each lane (up to 23 KB of stack). Each
+// lane's are tried from the greatest down, up to its latest sequence; then all from the boundary on are taken from the
+// greatest down. Each one tried or taken costs the reading of its sequence, a step for each level of its tree, at most
+// 8, and where it is taken a look at each lane. A store is made for each entry undone, one for the base and one for
+// each log word that is not 0 already, all of them whole words in this order, and where it finishes the image is passed
+// over once.
 pub fn recover(
     sizes: Sizes,
     cache: &mut [u64],
@@ -124,7 +137,8 @@ pub fn recover(
     flags: &mut [u8],
     limit: usize,
 ) -> Restart
-    ensures { λ r. ⌜ restartedOf r (now (cache .exit)) (now (nvm .exit)) (now (flags .exit)) ≡ recoverStep sizes limit (blankOf (now (cache .entry)) (now (nvm .entry)) (now (flags .entry))) ⌝ }
+    ensures { λ r. ⌜ restartedOf r (now (cache .exit)) (now (nvm .exit)) (now (flags .exit))
+        ≡ recoverStep sizes limit (blankOf (now (cache .entry)) (now (nvm .entry)) (now (flags .entry))) ⌝ }
 {
     let blank = record::start_record(0);
     let number = recover_refusal(sizes, cache, nvm, flags);

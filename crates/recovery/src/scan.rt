@@ -1,15 +1,15 @@
-// What recovery finds in the logs: each lane's timestamps, offered to a winner tree, the boundary, and the new base timestamp.
+// What recovery finds in the logs: each lane's timestamps, offered to a winner tree, the boundary, and the new base
+// timestamp.
 ghost use mathlib.Core.Path.{_≡_};
-ghost use mathlib.Core.Bool.{true};
-ghost use Prim.Native.Nat.{_*_, _≤_, _<_, max};
+ghost use Prim.Native.Nat.{_<_, max};
 ghost use lib.ListN.{length};
 ghost use Rattle.winners.specs.Winners.{Tournament};
-ghost use Rattle.image.specs.Image.{sizesOk, imageLength, logOf};
-ghost use Rattle.log.specs.Log.{slotAt, latestIn, contribution};
-ghost use Rattle.log.specs.Search.{entryBack};
+ghost use Rattle.image.specs.Image.{IsImage, logOf};
+ghost use Rattle.log.specs.Log.{latestIn, contribution};
 ghost use Rattle.record.specs.Record.{lesser};
 ghost use Rattle.recovery.specs.Recovery.{boundary as boundaryOf, wholeStamp, greatestBelow, newBase};
-ghost use Rattle.recovery.specs.Picking.{countOf, wrapOf, offered as offeredOf, Offers, Offering, Tournaments};
+ghost use Rattle.recovery.specs.Picking.{countOf, wrapOf, offered as offeredOf, Offers, LaneRoom, Offering};
+ghost use Rattle.recovery.specs.Picking.{Tournaments};
 use image::Sizes;
 use log::Timestamp;
 use slot::Content;
@@ -18,26 +18,6 @@ use slot::Content;
 pub struct Found {
     pub boundary: Timestamp,
     pub base: u64,
-}
-
-// What slot j of a lane's log says.
-pub fn slot_in(sizes: Sizes, nvm: &[u64], lane: usize, j: usize) -> Content
-    requires { ⌜ (sizesOk sizes ≡ true) × (length (now nvm) ≡ imageLength sizes) × (lane < sizes .lanes) × (j < sizes .slots) ⌝ }
-    ensures { λ r. ⌜ r ≡ slotAt (sizes .words) (logOf sizes lane (now (nvm .entry))) j ⌝ }
-{
-    let start = image::log_start(sizes, lane);
-    let end = start + 2 * sizes.slots;
-    log::slot_at(&nvm[start..end], sizes.words, j)
-}
-
-// Is the slot i places before slot j of a lane's log a whole entry with the wrap bit that it should have, where slot j has this one?
-fn entry_in(sizes: Sizes, nvm: &[u64], lane: usize, j: usize, wrap: u64, i: usize) -> bool
-    requires { ⌜ (sizesOk sizes ≡ true) × (length (now nvm) ≡ imageLength sizes) × (lane < sizes .lanes) × (j < sizes .slots) × (i ≤ sizes .slots) × (wrap ≤ 1) ⌝ }
-    ensures { λ r. ⌜ r ≡ entryBack (sizes .words) (sizes .slots) (logOf sizes lane (now (nvm .entry))) j wrap i ⌝ }
-{
-    let start = image::log_start(sizes, lane);
-    let end = start + 2 * sizes.slots;
-    log::entry_back(&nvm[start..end], sizes.words, sizes.slots, j, wrap, i)
 }
 
 // The timestamp of a slot, complete or not, 0 where it has none.
@@ -91,39 +71,47 @@ fn offered(base: u64, stamp: u64) -> u64
 
 // One pass over a lane's slots: what each offers, and the greatest of all whole timestamps and the one given.
 fn offer(sizes: Sizes, nvm: &[u64], lane: usize, stamps: &mut [u64], greatest: u64) -> u64
-    requires { ⌜ (sizesOk sizes ≡ true) × (length (now nvm) ≡ imageLength sizes) × (lane < sizes .lanes) × (length (now stamps) ≡ sizes .slots) ⌝ }
+    requires { ⌜ IsImage sizes (now nvm) ⌝ }
+    requires { ⌜ lane < sizes .lanes ⌝ }
+    requires { ⌜ length (now stamps) ≡ sizes .slots ⌝ }
     ensures offers { λ r. ⌜ Offers sizes (now (nvm .entry)) lane (now (stamps .exit)) ⌝ }
-    ensures most { λ r. ⌜ r ≡ max greatest (greatestBelow (sizes .words) (logOf sizes lane (now (nvm .entry))) (sizes .slots)) ⌝ }
+    ensures most { λ r. ⌜ r ≡ max greatest
+        (greatestBelow (sizes .words) (logOf sizes lane (now (nvm .entry))) (sizes .slots)) ⌝ }
 {
     let base = nvm[0];
+    let log = image::log_part(sizes, nvm, lane);
     let mut most = greatest;
     for j in 0..sizes.slots {
-        let stamp = whole_stamp(slot_in(sizes, nvm, lane, j));
+        let stamp = whole_stamp(log::slot_at(log, sizes.words, j));
         stamps[j] = offered(base, stamp);
         most = greater(most, stamp);
     }
     most
 }
 
-// The timestamp of a lane's latest sequence. Those offered are tried from the greatest down, each over its entries, up to the first complete one; those found
-// incomplete are offered no more.
+// The timestamp of a lane's latest sequence. Those offered are tried from the greatest down, each over its entries, up
+// to the first complete one; those found incomplete are offered no more.
 fn latest(sizes: Sizes, nvm: &[u64], lane: usize, stamps: &mut [u64], tree: &mut [u16]) -> Timestamp
-    requires { ⌜ (sizesOk sizes ≡ true) × (length (now nvm) ≡ imageLength sizes) × (lane < sizes .lanes) × Offers sizes (now nvm) lane (now stamps) × Tournament (now stamps) (now tree) ⌝ }
+    requires { ⌜ IsImage sizes (now nvm) ⌝ }
+    requires { ⌜ lane < sizes .lanes ⌝ }
+    requires { ⌜ Offers sizes (now nvm) lane (now stamps) ⌝ }
+    requires { ⌜ Tournament (now stamps) (now tree) ⌝ }
     ensures found { λ r. ⌜ r ≡ contribution (latestIn sizes (now (nvm .entry)) lane) ⌝ }
     ensures offers { λ r. ⌜ Offers sizes (now (nvm .entry)) lane (now (stamps .exit)) ⌝ }
     ensures again { λ r. ⌜ Tournament (now (stamps .exit)) (now (tree .exit)) ⌝ }
 {
+    let log = image::log_part(sizes, nvm, lane);
     'stamps: loop {
         let j = winners::winner(stamps, tree);
         let stamp = stamps[j];
         if stamp == 0 {
             return Timestamp::None;
         }
-        let content = slot_in(sizes, nvm, lane, j);
+        let content = log::slot_at(log, sizes.words, j);
         let count = count_of(content);
         let wrap = wrap_of(content);
         for i in 0..count {
-            if !entry_in(sizes, nvm, lane, j, wrap, i + 1) {
+            if !log::entry_back(log, sizes.words, sizes.slots, j, wrap, i + 1) {
                 winners::drop_at(stamps, tree, j);
                 continue 'stamps;
             }
@@ -141,9 +129,14 @@ fn read_lane(
     tree: &mut [u16],
     found: Found,
 ) -> Found
-    requires { ⌜ (sizesOk sizes ≡ true) × (length (now nvm) ≡ imageLength sizes) × (lane < sizes .lanes) × (length (now stamps) ≡ sizes .slots) × (length (now tree) ≡ sizes .slots) ⌝ }
-    ensures boundary { λ r. ⌜ r .boundary ≡ lesser (found .boundary) (contribution (latestIn sizes (now (nvm .entry)) lane)) ⌝ }
-    ensures base { λ r. ⌜ r .base ≡ max (found .base) (greatestBelow (sizes .words) (logOf sizes lane (now (nvm .entry))) (sizes .slots)) ⌝ }
+    requires { ⌜ IsImage sizes (now nvm) ⌝ }
+    requires { ⌜ lane < sizes .lanes ⌝ }
+    requires { ⌜ length (now stamps) ≡ sizes .slots ⌝ }
+    requires { ⌜ length (now tree) ≡ sizes .slots ⌝ }
+    ensures boundary { λ r. ⌜ r .boundary ≡ lesser (found .boundary)
+        (contribution (latestIn sizes (now (nvm .entry)) lane)) ⌝ }
+    ensures base { λ r. ⌜ r .base ≡ max (found .base)
+        (greatestBelow (sizes .words) (logOf sizes lane (now (nvm .entry))) (sizes .slots)) ⌝ }
     ensures offers { λ r. ⌜ Offers sizes (now (nvm .entry)) lane (now (stamps .exit)) ⌝ }
     ensures tree { λ r. ⌜ Tournament (now (stamps .exit)) (now (tree .exit)) ⌝ }
 {
@@ -157,14 +150,16 @@ fn read_lane(
     }
 }
 
-// Reads all logs, each lane's timestamps into its part of the array: the boundary, which is the least of the lanes' latest timestamps, and the new base, which
-// is the greatest of the base and all whole timestamps.
+// Reads all logs, each lane's timestamps into its part of the array: the boundary, which is the least of the lanes'
+// latest timestamps, and the new base, which is the greatest of the base and all whole timestamps.
 pub fn scan(sizes: Sizes, nvm: &[u64], stamps: &mut [u64], tree: &mut [u16]) -> Found
-    requires { ⌜ (sizesOk sizes ≡ true) × (length (now nvm) ≡ imageLength sizes) × (sizes .lanes * sizes .slots ≤ length (now stamps)) × (length (now tree) ≡ length (now stamps)) ⌝ }
+    requires { ⌜ IsImage sizes (now nvm) ⌝ }
+    requires { ⌜ LaneRoom sizes (now stamps) (now tree) ⌝ }
     ensures boundary { λ r. ⌜ r .boundary ≡ boundaryOf sizes (now (nvm .entry)) ⌝ }
     ensures base { λ r. ⌜ r .base ≡ newBase sizes (now (nvm .entry)) ⌝ }
     ensures offering { λ r. ⌜ Offering sizes (now (nvm .entry)) (sizes .lanes) (now (stamps .exit)) ⌝ }
-    ensures trees { λ r. ⌜ Tournaments (length (now (stamps .entry))) (sizes .slots) (sizes .lanes) (now (stamps .exit)) (now (tree .exit)) ⌝ }
+    ensures trees { λ r. ⌜ Tournaments (length (now (stamps .entry))) (sizes .slots) (sizes .lanes) (now (stamps .exit))
+        (now (tree .exit)) ⌝ }
 {
     let slots = sizes.slots;
     let mut found = Found {

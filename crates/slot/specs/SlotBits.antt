@@ -1,4 +1,5 @@
--- The slot format by bit operators, as the code has it: the wrap bit and the low bit taken by `&`, the shapes tested on the two bits above the wrap bit. Assumes nothing.
+-- The slot format by bit operators, as the code has it: the wrap bit and the low bit taken by `&`, the shapes tested on the two bits above the
+-- wrap bit. Assumes nothing.
 use Prim.Native.Nat.{ℕ, _+_, _-_, _*_, _/_, _%_, _≤_, _<_}
 use mathlib.Core.Path.{_≡_, refl, sym, _∙_}
 use mathlib.Core.Bool.{Bool, true, false, _&&_}
@@ -6,7 +7,7 @@ use native.Mathlib.Omega.{arith}
 use lib.Dec.{leb, ltb, eqb}
 use lib.Bits.{bitAnd, and-mask}
 use borrow.Author.Tests.{le-ltb, lt-ltb, eqb-true, eqb-false, ltb-true, ltb-false}
-use Rattle.slot.specs.Slot.{entryOf, entryShape, stampShape, readOf}
+use Rattle.slot.specs.Slot.{tag, maxEntries, entryOf, entryShape, stampShape, readOf}
 use Rattle.slot.specs.SlotLaws.{torn-read, shape-entry, shape-stamp, shape-torn}
 use Rattle.slot.specs.declared.Slot.{Slot}
 use Rattle.slot.specs.declared.Content.the-variants.{Torn, Entry, Stamp}
@@ -37,7 +38,7 @@ entry-tests W a = rw (low-two a, same (ltb (a / 2 % 4) 2) refl)
     same false h = le-ltb (a % 8) 4 (omega (arith, ltb-false (a / 2 % 4) 2 h))
 
 -- a timestamp's shape: bits 1 and 2 are 0
-pub stamp-tests : (a : ℕ) → stampShape a ≡ (leb 4096 (a / 8) && leb (a / 8) 4112 && eqb (bitAnd (a / 2) 3) 0)
+pub stamp-tests : (a : ℕ) → stampShape a ≡ (leb tag (a / 8) && leb (a / 8) (tag + maxEntries) && eqb (bitAnd (a / 2) 3) 0)
 unfolding stampShape
 stamp-tests a = rw (low-two a, same (eqb (a / 2 % 4) 0) refl)
   where
@@ -61,7 +62,7 @@ module _ (W a v : ℕ) (nonzero : a ≡ 0 → ⊥) (agree : bitAnd a 1 ≡ bitAn
       let e : v - bitAnd a 1 + bitAnd (a / 2) 3 ≡ 2 * (v / 2) + a / 2 % 2 = omega (arith, low-bit a, bits, low-two a) in
       rw (e, low-bit a) (sym (shape-entry W a v nonzero bits h))
 
-  pub found-stamp : entryShape W a ≡ false → stampShape a ≡ true → Stamp (a / 8 - 4096) (v - bitAnd a 1) (bitAnd a 1) ≡ readOf W a v
+  pub found-stamp : entryShape W a ≡ false → stampShape a ≡ true → Stamp (a / 8 - tag) (v - bitAnd a 1) (bitAnd a 1) ≡ readOf W a v
   found-stamp h g =
       let e : v - bitAnd a 1 ≡ 2 * (v / 2) = omega (arith, low-bit a, bits) in
       rw (e, low-bit a) (sym (shape-stamp W a v nonzero bits h g))

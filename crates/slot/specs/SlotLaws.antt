@@ -6,7 +6,7 @@ use native.Mathlib.Omega.{arith}
 use lib.Dec.{leb, ltb, eqb}
 use borrow.Author.Tests.{eq-eqb, ne-eqb, le-leb, lt-leb, lt-ltb, eqb-true, leb-true, ltb-true}
 use Rattle.laws.specs.Tests.{split, and-left, and-right}
-use Rattle.slot.specs.Slot.{entryOf, stampOf, entryShape, stampShape, wholeOf, readOf}
+use Rattle.slot.specs.Slot.{tag, maxEntries, entryOf, stampOf, entryShape, stampShape, wholeOf, readOf}
 use Rattle.slot.specs.declared.Slot.{Slot}
 use Rattle.slot.specs.declared.Content.{Content}
 use Rattle.slot.specs.declared.Content.the-variants.{Empty, Torn, Entry, Stamp}
@@ -37,7 +37,7 @@ module _ (W a v : ℕ) (nonzero : a ≡ 0 → ⊥) (agree : a % 2 ≡ v % 2) whe
   unfolding readOf wholeOf
   shape-entry h = rw (ne-eqb a 0 nonzero, eq-eqb (a % 2) (v % 2) agree, h)
 
-  pub shape-stamp : entryShape W a ≡ false → stampShape a ≡ true → readOf W a v ≡ Stamp (a / 8 - 4096) (2 * (v / 2)) (a % 2)
+  pub shape-stamp : entryShape W a ≡ false → stampShape a ≡ true → readOf W a v ≡ Stamp (a / 8 - tag) (2 * (v / 2)) (a % 2)
   unfolding readOf wholeOf
   shape-stamp h g = rw (ne-eqb a 0 nonzero, eq-eqb (a % 2) (v % 2) agree, h, g)
 
@@ -55,9 +55,9 @@ not-entry-shaped : (W a : ℕ) → 1 ≤ a / 8 → W < a / 8 → entryShape W a 
 unfolding entryShape
 not-entry-shaped W a h g = rw (le-leb 1 (a / 8) h, lt-leb (a / 8) W g)
 
-stamp-shaped : (a : ℕ) → 4096 ≤ a / 8 → a / 8 ≤ 4112 → a % 8 < 2 → stampShape a ≡ true
+stamp-shaped : (a : ℕ) → tag ≤ a / 8 → a / 8 ≤ tag + maxEntries → a % 8 < 2 → stampShape a ≡ true
 unfolding stampShape
-stamp-shaped a h g k = rw (le-leb 4096 (a / 8) h, le-leb (a / 8) 4112 g, lt-ltb (a % 8) 2 k)
+stamp-shaped a h g k = rw (le-leb tag (a / 8) h, le-leb (a / 8) (tag + maxEntries) g, lt-ltb (a % 8) 2 k)
 
 pub entry-read : (W i v p : ℕ) → i < W → p ≤ 1 → readOf W (entryOf i v p .address) (entryOf i v p .value) ≡ Entry i v p
 unfolding entryOf
@@ -77,21 +77,22 @@ entry-read W i v p h g =
         let e₃ : a % 2 ≡ p = omega arith in
         cc
 
-pub stamp-read : (W n s p : ℕ) → W < 4096 → n ≤ 16 → s % 2 ≡ 0 → p ≤ 1 → readOf W (stampOf n s p .address) (stampOf n s p .value) ≡ Stamp n s p
+pub stamp-read : (W n s p : ℕ) → W < tag → n ≤ maxEntries → s % 2 ≡ 0 → p ≤ 1 → readOf W (stampOf n s p .address) (stampOf n s p .value) ≡ Stamp n s p
 unfolding stampOf
 stamp-read W n s p k h even g =
-    shape-stamp W a x (λ e. omega arith) (omega arith) (not-entry-shaped W a (omega arith) (omega arith)) (stamp-shaped a (omega arith) (omega arith) (omega arith))
+    shape-stamp W a x (λ e. omega arith) (omega arith) (not-entry-shaped W a (omega arith) (omega arith))
+    (stamp-shaped a (omega arith) (omega arith) (omega arith))
     ∙ fields
   where
     a : ℕ
-    a = 8 * (4096 + n) + p
+    a = 8 * (tag + n) + p
 
     x : ℕ
     x = s + p
 
-    fields : Stamp (a / 8 - 4096) (2 * (x / 2)) (a % 2) ≡ Stamp n s p
+    fields : Stamp (a / 8 - tag) (2 * (x / 2)) (a % 2) ≡ Stamp n s p
     fields =
-        let e₁ : a / 8 - 4096 ≡ n = omega arith in
+        let e₁ : a / 8 - tag ≡ n = omega arith in
         let e₂ : 2 * (x / 2) ≡ s = omega arith in
         let e₃ : a % 2 ≡ p = omega arith in
         cc
@@ -107,7 +108,7 @@ pub record EntryFrom (W a v i o p : ℕ) : Type 0 where
 
 -- the words a, v are the timestamp s over n entries, wrap bit p
 pub record StampFrom (a v n s p : ℕ) : Type 0 where
-  pub count : n ≤ 16
+  pub count : n ≤ maxEntries
   pub even : s % 2 ≡ 0
   pub wrap : p ≤ 1
   pub address : a ≡ stampOf n s p .address
@@ -132,12 +133,12 @@ entry-from W a v agree h =
     let low : a % 8 < 4 = ltb-true _ _ (t .2) in
     record { word = omega arith; wrap = omega arith; address = omega arith; value = omega arith }
 
-stamp-from : (a v : ℕ) → a % 2 ≡ v % 2 → stampShape a ≡ true → StampFrom a v (a / 8 - 4096) (2 * (v / 2)) (a % 2)
+stamp-from : (a v : ℕ) → a % 2 ≡ v % 2 → stampShape a ≡ true → StampFrom a v (a / 8 - tag) (2 * (v / 2)) (a % 2)
 unfolding stampShape stampOf
 stamp-from a v agree h =
-    let t = three (leb 4096 (a / 8)) (leb (a / 8) 4112) (ltb (a % 8) 2) h in
-    let least : 4096 ≤ a / 8 = leb-true _ _ (t .0) in
-    let most : a / 8 ≤ 4112 = leb-true _ _ (t .1) in
+    let t = three (leb tag (a / 8)) (leb (a / 8) (tag + maxEntries)) (ltb (a % 8) 2) h in
+    let least : tag ≤ a / 8 = leb-true _ _ (t .0) in
+    let most : a / 8 ≤ tag + maxEntries = leb-true _ _ (t .1) in
     let low : a % 8 < 2 = ltb-true _ _ (t .2) in
     record { count = omega arith; even = omega arith; wrap = omega arith; address = omega arith; value = omega arith }
 
@@ -186,12 +187,12 @@ entry-one i v p j w q h g e =
 pub stamp-one : (n s p m t q : ℕ) → p ≤ 1 → q ≤ 1 → stampOf n s p ≡ stampOf m t q → (n ≡ m) × (s ≡ t) × (p ≡ q)
 unfolding stampOf
 stamp-one n s p m t q h g e =
-    let d : 8 * (4096 + n) + p ≡ 8 * (4096 + m) + q = ap (λ (s : Slot). s .address) e in
+    let d : 8 * (tag + n) + p ≡ 8 * (tag + m) + q = ap (λ (s : Slot). s .address) e in
     let f : s + p ≡ t + q = ap (λ (s : Slot). s .value) e in
     (omega arith, omega arith, omega arith)
 
-pub entry-not-stamp : (i v p n s q : ℕ) → i < 4095 → p ≤ 1 → entryOf i v p ≡ stampOf n s q → ⊥
+pub entry-not-stamp : (i v p n s q : ℕ) → i + 1 < tag → p ≤ 1 → entryOf i v p ≡ stampOf n s q → ⊥
 unfolding entryOf stampOf
 entry-not-stamp i v p n s q h g e =
-    let d : 8 * (i + 1) + 2 * (v % 2) + p ≡ 8 * (4096 + n) + q = ap (λ (s : Slot). s .address) e in
+    let d : 8 * (i + 1) + 2 * (v % 2) + p ≡ 8 * (tag + n) + q = ap (λ (s : Slot). s .address) e in
     omega arith

@@ -1,7 +1,7 @@
 // One log slot, two words of the image: made from an entry or a timestamp, and read back.
 ghost use mathlib.Core.Path.{_≡_};
 ghost use Prim.Native.Nat.{_+_, _≤_, _<_, _^_};
-ghost use Rattle.slot.specs.Slot.{entryOf, stampOf, readOf};
+ghost use Rattle.slot.specs.Slot.{tag, maxEntries, entryOf, stampOf, readOf};
 
 // The two words as they stand in the log.
 pub struct Slot {
@@ -25,8 +25,8 @@ impl Slot {
     // A timestamp's number is TAG and its count; an entry's number is its word and 1, which is below TAG.
     pub const TAG: u64 = 4096;
 
-    // The highest count of a timestamp.
-    pub const MOST: u64 = 16;
+    // The most entries that a timestamp closes.
+    pub const MAX_ENTRIES: u64 = 16;
 
     // The wrap bit, bit 0 of both words (01: lap bit).
     pub const WRAP: u64 = 1;
@@ -39,7 +39,8 @@ impl Slot {
 
     // The words of an entry: the word's number, its old value, the wrap bit.
     pub fn entry(word: usize, old: u64, wrap: u64) -> Slot
-        requires { ⌜ (word < 4095) × (wrap ≤ 1) ⌝ }
+        requires { ⌜ word + 1 < tag ⌝ }
+        requires { ⌜ wrap ≤ 1 ⌝ }
         ensures { λ r. ⌜ r ≡ entryOf word old wrap ⌝ }
     {
         let low = old & Slot::WRAP;
@@ -51,7 +52,9 @@ impl Slot {
 
     // The words of a timestamp, which is even, over `count` entries.
     pub fn stamp(count: usize, stamp: u64, wrap: u64) -> Slot
-        requires { ⌜ (count ≤ 16) × (wrap ≤ 1) × (stamp + 1 < 2 ^ 64) ⌝ }
+        requires { ⌜ count ≤ maxEntries ⌝ }
+        requires { ⌜ wrap ≤ 1 ⌝ }
+        requires { ⌜ stamp + 1 < 2 ^ 64 ⌝ }
         ensures { λ r. ⌜ r ≡ stampOf count stamp wrap ⌝ }
     {
         Slot {
@@ -86,7 +89,7 @@ impl Slot {
                 wrap,
             };
         }
-        if Slot::TAG <= number && number <= Slot::TAG + Slot::MOST && low == 0 {
+        if Slot::TAG <= number && number <= Slot::TAG + Slot::MAX_ENTRIES && low == 0 {
             return Content::Stamp {
                 count: (number - Slot::TAG) as usize,
                 stamp: value - wrap,

@@ -6,7 +6,7 @@ use lib.Dec.{leb, ltb, eqb}
 use lib.ListN.{length, take, replicate}
 use Rattle.slot.specs.declared.Content.{Content}
 use Rattle.slot.specs.declared.Content.the-variants.{Empty, Torn, Entry, Stamp}
-use Rattle.txn.specs.Txn.{txnOk, run}
+use Rattle.txn.specs.Txn.{maxWrites, txnOk, run}
 use Rattle.txn.specs.declared.Write.{Write}
 use Rattle.image.specs.Image.{buffersOk, imageLength, dataOf, logOf, logStart}
 use Rattle.image.specs.Flush.{flushAll, writtenBack, drainedNvm, drainedFlags}
@@ -14,7 +14,8 @@ use Rattle.image.specs.Stores.{Store, stored, places}
 use Rattle.image.specs.declared.Sizes.{Sizes}
 use Rattle.log.specs.Log.{slotAt, completeIn, latestIn, hits}
 use Rattle.log.specs.Append.{advance, appendStores, circular, restampStore}
-use Rattle.record.specs.Record.{startRecord, laneAt, cursorOf, isLogged, loggedIn, recordOk, spent, boundOf, withLane, withClock, withLast, drainedLane, appendedLane, idleLane, pairsOf}
+use Rattle.record.specs.Record.{startRecord, laneAt, cursorOf, isLogged, loggedIn, recordOk, spent, boundOf, withLane, withClock, withLast, drainedLane}
+use Rattle.record.specs.Record.{appendedLane, idleLane, pairsOf}
 use Rattle.record.specs.declared.Pair.{Pair}
 use Rattle.record.specs.declared.Phase.{Phase}
 use Rattle.record.specs.declared.Phase.the-variants.{Idle, Holds}
@@ -33,7 +34,7 @@ unfoldable pub badLane : Sizes → ℕ → Cause
 badLane z L = record { number = 3; holds = leb z.lanes L }
 
 unfoldable pub badTxn : Sizes → List ℕ → Cause
-badTxn z f = record { number = 5; holds = not (txnOk 16 z.words f) }
+badTxn z f = record { number = 5; holds = not (txnOk maxWrites z.words f) }
 
 unfoldable pub notLogged : ℕ → Machine → Cause
 notLogged L m = record { number = 7; holds = not (isLogged (laneAt m.state L .phase)) }
@@ -120,7 +121,7 @@ appended z L ws phase redo m =
 unfoldable pub logged : Sizes → ℕ → List Write → Machine → Machine
 logged z L ws m =
     let l = laneAt m.state L in
-    appended z L ws (Holds (record { first = l.next; count = length ws; stamp = m.state .clock + 2 })) (pairsOf 16 ws) m
+    appended z L ws (Holds (record { first = l.next; count = length ws; stamp = m.state .clock + 2 })) (pairsOf maxWrites ws) m
 
 unfoldable pub logStep : Sizes → ℕ → List ℕ → Machine → Step
 logStep z L f m =

@@ -12,7 +12,8 @@ use Rattle.store.specs.Calls.{startImage}
 
 pub length-startImage : (z : Sizes) (start : List ℕ) → length start ≡ z .words → length (startImage z start) ≡ imageLength z
 unfolding startImage imageLength
-length-startImage z start e = rw (length-append start (replicate (2 * z .lanes * z .slots) 0), length-replicate {A = ℕ} (2 * z .lanes * z .slots) 0, e) (omega arith)
+length-startImage z start e =
+    rw (length-append start (replicate (2 * z .lanes * z .slots) 0), length-replicate {A = ℕ} (2 * z .lanes * z .slots) 0, e) (omega arith)
 
 -- what base timestamp and start words leave is the logs
 logs-left : (z : Sizes) (start words : ℕ) → start ≡ z .words → words ≡ imageLength z → words - (1 + start) ≡ 2 * z .lanes * z .slots

@@ -4,7 +4,7 @@ use mathlib.Core.Bool.{true}
 use mathlib.Core.List.{List}
 use mathlib.Core.Path.{_≡_}
 use lib.ListN.{length}
-use Rattle.image.specs.Image.{sizesOk, imageLength}
+use Rattle.image.specs.Image.{imageLength, IsImage}
 use Rattle.image.specs.declared.Sizes.{Sizes}
 use Rattle.log.specs.Log.{latestIn}
 use Rattle.record.specs.Record.{startRecord, recordOk, withLane, drainedLane, laneAt}
@@ -30,8 +30,7 @@ blankStepOf r cache nvm flags = record { answer = r; machine = blankOf cache nvm
 
 -- what a call knows of its sizes, record, buffers and lane once refusals 1, 2 and 3 are ruled out
 pub record Checked (z : Sizes) (state : Record) (cache nvm flags : List ℕ) (L : ℕ) : Type 0 where
-  pub sizes-ok : sizesOk z ≡ true
-  pub in-cache : length cache ≡ imageLength z
+  pub image : IsImage z cache
   pub in-nvm : length nvm ≡ imageLength z
   pub in-flags : length flags ≡ imageLength z
   pub in-range : recordOk z state ≡ true

@@ -1,19 +1,19 @@
--- Laws of refusals and steps: the first cause that holds, what a call knows that is not refused 1, 2 or 3, a refused and a taken step, a lane's log, a drain. Assumes nothing.
-use Prim.Native.Nat.{ℕ, _+_, _-_, _*_, _≤_, _<_}
-use mathlib.Core.Path.{_≡_, refl, sym, _∙_, ap}
+-- Laws of refusals and steps: the first cause that holds, what a call knows that is not refused 1, 2 or 3, a refused and a taken step, a drain.
+-- Assumes nothing.
+use Prim.Native.Nat.{ℕ, _<_}
+use mathlib.Core.Path.{_≡_, refl, sym, _∙_}
 use mathlib.Core.Bool.{Bool, true, false, cond}
 use mathlib.Core.List.{List, [], _∷_}
-use native.Mathlib.Nat.{add-sub-cancel-left}
 use native.Mathlib.Omega.{arith}
 use native.Mathlib.Decide.{ℕ-discrete}
-use lib.ListN.{length, take, drop}
+use lib.ListN.{length}
 use lib.Dec.{ltb}
 use lib.Seq.{getD-set-same, set-out}
 use borrow.Author.Tests.{ne-eqb, eqb-true, leb-false, ltb-true, ltb-false, not-false}
 use Rattle.laws.specs.Tests.{split}
-use Rattle.txn.specs.Txn.{txnOk}
-use Rattle.image.specs.Image.{sizesOk, imageLength, logStart, logOf}
-use Rattle.image.specs.ImageLaws.{sizes-in, length-small, log-fits, length-log, Buffers, buffers-in}
+use Rattle.txn.specs.Txn.{maxWrites, txnOk}
+use Rattle.image.specs.Image.{maxLanes, sizesOk, imageLength}
+use Rattle.image.specs.ImageLaws.{sizes-in, Buffers, buffers-in}
 use Rattle.image.specs.Flush.{drainedNvm, drainedFlags}
 use Rattle.image.specs.declared.Sizes.{Sizes}
 use Rattle.log.specs.Log.{latestIn}
@@ -47,11 +47,11 @@ first-none c cs h e =
 
 -- ---- causes of several calls, before any others
 module _ (cs : List Cause) where
-  pub refuses-txn : (z : Sizes) (f : List ℕ) → txnOk 16 (z .words) f ≡ false → firstCause (badTxn z f ∷ cs) ≡ 5
+  pub refuses-txn : (z : Sizes) (f : List ℕ) → txnOk maxWrites (z .words) f ≡ false → firstCause (badTxn z f ∷ cs) ≡ 5
   unfolding badTxn
   refuses-txn z f e = first-holds _ cs (rw e)
 
-  pub passes-txn : (z : Sizes) (f : List ℕ) → txnOk 16 (z .words) f ≡ true → firstCause (badTxn z f ∷ cs) ≡ firstCause cs
+  pub passes-txn : (z : Sizes) (f : List ℕ) → txnOk maxWrites (z .words) f ≡ true → firstCause (badTxn z f ∷ cs) ≡ firstCause cs
   unfolding badTxn
   passes-txn z f e = first-fails _ cs (rw e)
 
@@ -77,16 +77,15 @@ checked z state cache nvm flags L e =
     let h = lane-causes z (machineOf state cache nvm flags) L e in
     let k = good-buffers z (machineOf state cache nvm flags) (h .0) in
     record {
-      sizes-ok = k .sizes-ok;
-      in-cache = k .in-cache;
+      image = record { sizes-ok = k .sizes-ok; in-image = k .in-cache };
       in-nvm = k .in-nvm;
       in-flags = k .in-flags;
       in-range = not-false _ (h .1);
       lane-below = leb-false (z .lanes) L (h .2);
     }
 
--- there are at most 8 lanes
-pub lane-small : (z : Sizes) (L : ℕ) → sizesOk z ≡ true → L < z .lanes → L < 8
+-- a lane is one of the most lanes that there may be
+pub lane-small : (z : Sizes) (L : ℕ) → sizesOk z ≡ true → L < z .lanes → L < maxLanes
 lane-small z L ok h = omega (arith, sizes-in z ok .lanes-high)
 
 -- a call with further causes is refused by Drain's number where that is not 0, and else by the first of its own
@@ -113,7 +112,8 @@ module _ (z : Sizes) (L : ℕ) (m : Machine) (cs : List Cause) where
 
 -- ---- what Format and write-back know where they are not refused
 module _ (z : Sizes) (m : Machine) where
-  pub format-checked : (start : List ℕ) → formatRefusal z start m ≡ 0 → Buffers z (length (m .cache)) (length (m .nvm)) (length (m .flags)) × (length start ≡ z .words)
+  pub format-checked : (start : List ℕ) → formatRefusal z start m ≡ 0
+      → Buffers z (length (m .cache)) (length (m .nvm)) (length (m .flags)) × (length start ≡ z .words)
   unfolding formatRefusal badBuffers
   format-checked start e =
       let a = first-none _ _ (λ q. omega arith) e in
@@ -136,32 +136,6 @@ module _ (number refusal : ℕ) (m : Machine) (step : Step) (e : number ≡ refu
   pub step-taken : number ≡ 0 → step ≡ unless refusal m step
   unfolding unless
   step-taken h = rw (← e, h)
-
--- ---- a lane's log, the part of the cached image that a call hands on
-pub record LogPart (z : Sizes) (L : ℕ) (cache : List ℕ) (start : ℕ) : Type 0 where
-  pub inside : start + 2 * z .slots ≤ length cache
-  pub small : length cache ≤ 5121
-  pub least : 34 ≤ z .slots
-  pub most : z .slots ≤ 256
-  pub is-log : take (start + 2 * z .slots - start) (drop start cache) ≡ logOf z L cache
-  pub in-log : length (take (start + 2 * z .slots - start) (drop start cache)) ≡ 2 * z .slots
-
-part-log : (z : Sizes) (L : ℕ) (cache : List ℕ) (start : ℕ) → start ≡ logStart z L → take (start + 2 * z .slots - start) (drop start cache) ≡ logOf z L cache
-unfolding logOf
-part-log z L cache start s = rw (s, add-sub-cancel-left (logStart z L) (2 * z .slots))
-
-pub log-part : (z : Sizes) (L : ℕ) (cache : List ℕ) (start : ℕ) → sizesOk z ≡ true → length cache ≡ imageLength z → L < z .lanes → start ≡ logStart z L
-    → LogPart z L cache start
-log-part z L cache start ok e h s =
-    let r = sizes-in z ok in
-    record {
-      inside = rw (s, e) (log-fits z L h);
-      small = rw e (length-small z r);
-      least = r .slots-low;
-      most = r .slots-high;
-      is-log = part-log z L cache start s;
-      in-log = ap length (part-log z L cache start s) ∙ length-log z L cache e h;
-    }
 
 -- ---- a drain
 module _ (z : Sizes) (L : ℕ) (state : Record) (cache nvm flags : List ℕ) where
@@ -199,5 +173,7 @@ module _ (z : Sizes) (cache : List ℕ) (L : ℕ) (r : Record) where
   unfolding drainedState withLane drainedLane laneAt
   drained-keeps =
       split (ltb L (length (r .lanes)))
-      (λ t. rw (getD-set-same (r .lanes) L (drainedLane (latestIn z cache L) (laneAt r L)) noLane (ltb-true _ _ t)) (record { phase = refl; next = refl; wrap = refl; redo = refl }))
-      (λ f. rw (set-out (r .lanes) L (drainedLane (latestIn z cache L) (laneAt r L)) (ltb-false _ _ f)) (record { phase = refl; next = refl; wrap = refl; redo = refl }))
+      (λ t. rw (getD-set-same (r .lanes) L (drainedLane (latestIn z cache L) (laneAt r L)) noLane (ltb-true _ _ t))
+      (record { phase = refl; next = refl; wrap = refl; redo = refl }))
+      (λ f. rw (set-out (r .lanes) L (drainedLane (latestIn z cache L) (laneAt r L)) (ltb-false _ _ f))
+      (record { phase = refl; next = refl; wrap = refl; redo = refl }))

@@ -6,12 +6,12 @@ use mathlib.Core.List.{List}
 use native.Mathlib.Nat.{add-sub-cancel-left}
 use native.Mathlib.Omega.{arith}
 use lib.ListN.{length, take, drop}
-use Rattle.txn.specs.Txn.{txnOk, run, writesOf}
+use Rattle.txn.specs.Txn.{maxWrites, txnOk, run, writesOf}
 use Rattle.txn.specs.TxnLaws.{few-writes, run-low}
 use Rattle.txn.specs.WritesLaws.{length-padded, take-padded, count-few}
 use Rattle.txn.specs.declared.Write.{Write}
 use Rattle.txn.specs.declared.Writes.{Writes}
-use Rattle.image.specs.Image.{sizesOk, imageLength, dataOf}
+use Rattle.image.specs.Image.{maxWords, imageLength, IsImage, dataOf}
 use Rattle.image.specs.ImageLaws.{sizes-in, length-data}
 use Rattle.image.specs.declared.Sizes.{Sizes}
 use Rattle.log.specs.AppendEntries.{WordsBelow}
@@ -21,7 +21,7 @@ use Rattle.store.specs.Interface.{machineOf}
 
 -- ---- the data words, the part of the cached image that a run reads
 pub record DataPart (z : Sizes) (cache : List ℕ) : Type 0 where
-  pub most : z .words ≤ 1024
+  pub most : z .words ≤ maxWords
   pub inside : 1 + z .words ≤ length cache
   pub is-data : take (1 + z .words - 1) (drop 1 cache) ≡ dataOf z cache
   pub in-data : length (take (1 + z .words - 1) (drop 1 cache)) ≡ z .words
@@ -30,43 +30,43 @@ part-data : (z : Sizes) (cache : List ℕ) → take (1 + z .words - 1) (drop 1 c
 unfolding dataOf
 part-data z cache = rw (add-sub-cancel-left 1 (z .words))
 
-pub data-part : (z : Sizes) (cache : List ℕ) → sizesOk z ≡ true → length cache ≡ imageLength z → DataPart z cache
+pub data-part : (z : Sizes) (cache : List ℕ) → IsImage z cache → DataPart z cache
 unfolding imageLength
-data-part z cache ok e =
+data-part z cache i =
     record {
-      most = sizes-in z ok .words-high;
-      inside = omega arith;
+      most = sizes-in z (i .sizes-ok) .words-high;
+      inside = omega (arith, i .in-image);
       is-data = part-data z cache;
-      in-data = ap length (part-data z cache) ∙ length-data z cache e;
+      in-data = ap length (part-data z cache) ∙ length-data z cache (i .in-image);
     }
 
 -- ---- the writes as the code hands them on
-module _ (w : Writes) (ws : List Write) (e : w ≡ writesOf 16 ws) where
+module _ (w : Writes) (ws : List Write) (e : w ≡ writesOf maxWrites ws) where
   pub count-of : w .count ≡ length ws
   unfolding writesOf
   count-of = ap (λ (v : Writes). v .count) e
 
-  pub full-list : length (w .list) ≡ 16
+  pub full-list : length (w .list) ≡ maxWrites
   unfolding writesOf
-  full-list = ap (λ (v : Writes). length (v .list)) e ∙ length-padded 16 ws
+  full-list = ap (λ (v : Writes). length (v .list)) e ∙ length-padded maxWrites ws
 
-  pub writes-of : length ws ≤ 16 → take (w .count) (w .list) ≡ ws
+  pub writes-of : length ws ≤ maxWrites → take (w .count) (w .list) ≡ ws
   unfolding writesOf
-  writes-of h = ap (λ (v : Writes). take (v .count) (v .list)) e ∙ take-padded 16 ws h
+  writes-of h = ap (λ (v : Writes). take (v .count) (v .list)) e ∙ take-padded maxWrites ws h
 
 -- those of a run
-module _ (W : ℕ) (t memory : List ℕ) (w : Writes) (e : w ≡ writesOf 16 (run W t memory)) (ok : txnOk 16 W t ≡ true) where
-  pub writes-few : w .count ≤ 16
-  writes-few = rw e (count-few 16 W t memory ok)
+module _ (W : ℕ) (t memory : List ℕ) (w : Writes) (e : w ≡ writesOf maxWrites (run W t memory)) (ok : txnOk maxWrites W t ≡ true) where
+  pub writes-few : w .count ≤ maxWrites
+  writes-few = rw e (count-few maxWrites W t memory ok)
 
   pub writes-run : take (w .count) (w .list) ≡ run W t memory
-  writes-run = writes-of w (run W t memory) e (few-writes 16 W t memory ok)
+  writes-run = writes-of w (run W t memory) e (few-writes maxWrites W t memory ok)
 
   pub writes-low : WordsBelow W (take (w .count) (w .list))
-  writes-low = rw writes-run (run-low 16 W t memory ok)
+  writes-low = rw writes-run (run-low maxWrites W t memory ok)
 
 -- on a machine's data words they are what the calls' refusals and steps speak of
-pub run-on : (z : Sizes) (t : List ℕ) (w : Writes) (state : Record) (cache nvm flags : List ℕ) → w ≡ writesOf 16 (run (z .words) t (dataOf z cache))
-    → w ≡ writesOf 16 (writesOn z t (machineOf state cache nvm flags))
+pub run-on : (z : Sizes) (t : List ℕ) (w : Writes) (state : Record) (cache nvm flags : List ℕ) → w ≡ writesOf maxWrites (run (z .words) t (dataOf z cache))
+    → w ≡ writesOf maxWrites (writesOn z t (machineOf state cache nvm flags))
 unfolding writesOn
 run-on z t w state cache nvm flags e = e

@@ -1,12 +1,14 @@
-// The calls' answers, the calls that append and commit nothing: Format, write-back, Drain, and what the other calls share.
+// The calls' answers, the calls that append and commit nothing: Format, write-back, Drain, and what the other calls
+// share.
 ghost use mathlib.Core.Path.{_≡_};
 ghost use mathlib.Core.Bool.{true};
 ghost use Prim.Native.Nat.{_<_};
 ghost use lib.ListN.{length, replicate};
-ghost use Rattle.txn.specs.Txn.{txnOk, run, writesOf};
-ghost use Rattle.image.specs.Image.{sizesOk, imageLength, dataOf};
+ghost use Rattle.txn.specs.Txn.{maxWrites, txnOk, run, writesOf};
+ghost use Rattle.image.specs.Image.{imageLength, IsImage, dataOf};
 ghost use Rattle.log.specs.Log.{latestIn};
-ghost use Rattle.store.specs.Calls.{startImage, formatRefusal, formatStep, writeBackRefusal, writeBackStep, drainRefusal, drainStep};
+ghost use Rattle.store.specs.Calls.{startImage, formatRefusal, formatStep, writeBackRefusal, writeBackStep};
+ghost use Rattle.store.specs.Calls.{drainRefusal, drainStep};
 ghost use Rattle.store.specs.Interface.{machineOf, blankOf, stepOf, blankStepOf, drainedState};
 use image::Sizes;
 use log::Latest;
@@ -63,7 +65,8 @@ pub fn refused(number: u64, state: Record) -> Outcome
 
 // The number of Format's refusal, or 0.
 pub fn format_refusal(sizes: Sizes, start: &[u64], cache: &[u64], nvm: &[u64], flags: &[u8]) -> u64
-    ensures { λ r. ⌜ r ≡ formatRefusal sizes (now (start .entry)) (blankOf (now (cache .entry)) (now (nvm .entry)) (now (flags .entry))) ⌝ }
+    ensures { λ r. ⌜ r ≡ formatRefusal sizes (now (start .entry))
+        (blankOf (now (cache .entry)) (now (nvm .entry)) (now (flags .entry))) ⌝ }
 {
     if !image::buffers_ok(sizes, cache.len(), nvm.len(), flags.len()) {
         return 1;
@@ -76,7 +79,8 @@ pub fn format_refusal(sizes: Sizes, start: &[u64], cache: &[u64], nvm: &[u64], f
 
 // One image as Format leaves it: base timestamp 0, the start words, empty logs.
 fn fill_image(sizes: Sizes, start: &[u64], words: &mut [u64])
-    requires { ⌜ (length (now start) ≡ sizes .words) × (length (now words) ≡ imageLength sizes) ⌝ }
+    requires { ⌜ length (now start) ≡ sizes .words ⌝ }
+    requires { ⌜ length (now words) ≡ imageLength sizes ⌝ }
     ensures { λ r. ⌜ now (words .exit) ≡ startImage sizes (now (start .entry)) ⌝ }
 {
     let end = 1 + start.len();
@@ -87,7 +91,10 @@ fn fill_image(sizes: Sizes, start: &[u64], words: &mut [u64])
 
 // The start words in cache and non-volatile memory; base timestamp, logs and flags 0.
 fn fill(sizes: Sizes, start: &[u64], cache: &mut [u64], nvm: &mut [u64], flags: &mut [u8])
-    requires { ⌜ (length (now start) ≡ sizes .words) × (length (now cache) ≡ imageLength sizes) × (length (now nvm) ≡ imageLength sizes) × (length (now flags) ≡ imageLength sizes) ⌝ }
+    requires { ⌜ length (now start) ≡ sizes .words ⌝ }
+    requires { ⌜ length (now cache) ≡ imageLength sizes ⌝ }
+    requires { ⌜ length (now nvm) ≡ imageLength sizes ⌝ }
+    requires { ⌜ length (now flags) ≡ imageLength sizes ⌝ }
     ensures cached { λ r. ⌜ now (cache .exit) ≡ startImage sizes (now (start .entry)) ⌝ }
     ensures persistent { λ r. ⌜ now (nvm .exit) ≡ startImage sizes (now (start .entry)) ⌝ }
     ensures unflushed { λ r. ⌜ now (flags .exit) ≡ replicate (imageLength sizes) 0 ⌝ }
@@ -105,7 +112,9 @@ pub fn format(
     nvm: &mut [u64],
     flags: &mut [u8],
 ) -> Outcome
-    ensures { λ r. ⌜ stepOf r (now (cache .exit)) (now (nvm .exit)) (now (flags .exit)) ≡ formatStep sizes (now (start .entry)) (blankOf (now (cache .entry)) (now (nvm .entry)) (now (flags .entry))) ⌝ }
+    ensures { λ r. ⌜ stepOf r (now (cache .exit)) (now (nvm .exit)) (now (flags .exit))
+        ≡ formatStep sizes (now (start .entry))
+        (blankOf (now (cache .entry)) (now (nvm .entry)) (now (flags .entry))) ⌝ }
 {
     let blank = record::start_record(0);
     let number = format_refusal(sizes, start, cache, nvm, flags);
@@ -127,7 +136,8 @@ pub fn write_back_refusal(
     flags: &[u8],
     word: usize,
 ) -> u64
-    ensures { λ r. ⌜ r ≡ writeBackRefusal sizes word (blankOf (now (cache .entry)) (now (nvm .entry)) (now (flags .entry))) ⌝ }
+    ensures { λ r. ⌜ r ≡ writeBackRefusal sizes word
+        (blankOf (now (cache .entry)) (now (nvm .entry)) (now (flags .entry))) ⌝ }
 {
     if !image::buffers_ok(sizes, cache.len(), nvm.len(), flags.len()) {
         return 1;
@@ -140,7 +150,8 @@ pub fn write_back_refusal(
 
 // Copies one word of the image to non-volatile memory. It takes no record.
 pub fn write_back(sizes: Sizes, cache: &[u64], nvm: &mut [u64], flags: &[u8], word: usize) -> Answer
-    ensures { λ r. ⌜ blankStepOf r (now (cache .entry)) (now (nvm .exit)) (now (flags .entry)) ≡ writeBackStep sizes word (blankOf (now (cache .entry)) (now (nvm .entry)) (now (flags .entry))) ⌝ }
+    ensures { λ r. ⌜ blankStepOf r (now (cache .entry)) (now (nvm .exit)) (now (flags .entry))
+        ≡ writeBackStep sizes word (blankOf (now (cache .entry)) (now (nvm .entry)) (now (flags .entry))) ⌝ }
 {
     let number = write_back_refusal(sizes, cache, nvm, flags, word);
     if number != 0 {
@@ -159,7 +170,8 @@ pub fn drain_refusal(
     flags: &[u8],
     lane: usize,
 ) -> u64
-    ensures { λ r. ⌜ r ≡ drainRefusal sizes lane (machineOf state (now (cache .entry)) (now (nvm .entry)) (now (flags .entry))) ⌝ }
+    ensures { λ r. ⌜ r ≡ drainRefusal sizes lane
+        (machineOf state (now (cache .entry)) (now (nvm .entry)) (now (flags .entry))) ⌝ }
 {
     if !image::buffers_ok(sizes, cache.len(), nvm.len(), flags.len()) {
         return 1;
@@ -175,18 +187,20 @@ pub fn drain_refusal(
 
 // The lane's latest sequence in the cached log.
 pub fn latest_in(sizes: Sizes, cache: &[u64], lane: usize) -> Latest
-    requires { ⌜ (sizesOk sizes ≡ true) × (length (now cache) ≡ imageLength sizes) × (lane < sizes .lanes) ⌝ }
+    requires { ⌜ IsImage sizes (now cache) ⌝ }
+    requires { ⌜ lane < sizes .lanes ⌝ }
     ensures { λ r. ⌜ r ≡ latestIn sizes (now (cache .entry)) lane ⌝ }
 {
-    let start = image::log_start(sizes, lane);
-    let end = start + 2 * sizes.slots;
-    log::search::latest(&cache[start..end], sizes.words, sizes.slots, cache[0])
+    let log = image::log_part(sizes, cache, lane);
+    log::search::latest(log, sizes.words, sizes.slots, cache[0])
 }
 
 // The writes of a transaction on the cached data words.
 pub fn writes_on(sizes: Sizes, cache: &[u64], txn: &[u64]) -> Writes
-    requires { ⌜ (sizesOk sizes ≡ true) × (length (now cache) ≡ imageLength sizes) × (txnOk 16 (sizes .words) (now txn) ≡ true) ⌝ }
-    ensures { λ r. ⌜ r ≡ writesOf 16 (run (sizes .words) (now (txn .entry)) (dataOf sizes (now (cache .entry)))) ⌝ }
+    requires { ⌜ IsImage sizes (now cache) ⌝ }
+    requires { ⌜ txnOk maxWrites (sizes .words) (now txn) ≡ true ⌝ }
+    ensures { λ r. ⌜ r ≡ writesOf maxWrites
+        (run (sizes .words) (now (txn .entry)) (dataOf sizes (now (cache .entry)))) ⌝ }
 {
     let end = 1 + sizes.words;
     txn::run(txn, &cache[1..end])
@@ -194,7 +208,8 @@ pub fn writes_on(sizes: Sizes, cache: &[u64], txn: &[u64]) -> Writes
 
 // The record after the lane's drain: its floor is its latest sequence's timestamp.
 pub fn drained_state(sizes: Sizes, state: Record, cache: &[u64], lane: usize) -> Record
-    requires { ⌜ (sizesOk sizes ≡ true) × (length (now cache) ≡ imageLength sizes) × (lane < sizes .lanes) ⌝ }
+    requires { ⌜ IsImage sizes (now cache) ⌝ }
+    requires { ⌜ lane < sizes .lanes ⌝ }
     ensures { λ r. ⌜ r ≡ drainedState sizes (now (cache .entry)) lane state ⌝ }
 {
     let latest = latest_in(sizes, cache, lane);
@@ -210,7 +225,8 @@ pub fn drain(
     flags: &mut [u8],
     lane: usize,
 ) -> Outcome
-    ensures { λ r. ⌜ stepOf r (now (cache .entry)) (now (nvm .exit)) (now (flags .exit)) ≡ drainStep sizes lane (machineOf state (now (cache .entry)) (now (nvm .entry)) (now (flags .entry))) ⌝ }
+    ensures { λ r. ⌜ stepOf r (now (cache .entry)) (now (nvm .exit)) (now (flags .exit))
+        ≡ drainStep sizes lane (machineOf state (now (cache .entry)) (now (nvm .entry)) (now (flags .entry))) ⌝ }
 {
     let number = drain_refusal(sizes, state, cache, nvm, flags, lane);
     if number != 0 {

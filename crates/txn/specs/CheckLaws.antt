@@ -10,7 +10,8 @@ use lib.Dec.{leb, ltb, eqb}
 use lib.ListN.{length}
 use borrow.Author.Tests.{eqb-true, ltb-true, leb-true, eq-eqb, ne-eqb, lt-ltb, le-leb}
 use Rattle.laws.specs.Tests.{split, and-left, and-right, or-cases}
-use Rattle.txn.specs.Txn.{Instruction, instructionAt, instructionsFrom, instructions, setOk, copyOk, addOk, pokeOk, skipOk, instructionOk, allOk, txnOk}
+use Rattle.txn.specs.Txn.{maxDistance, Instruction, instructionAt, instructionsFrom, instructions}
+use Rattle.txn.specs.Txn.{setOk, copyOk, addOk, pokeOk, skipOk, instructionOk, allOk, txnOk}
 
 pub length-from : (f : List ℕ) (i n : ℕ) → length (instructionsFrom f i n) ≡ n
 unfolding instructionsFrom
@@ -91,7 +92,7 @@ module _ (W : ℕ) (x : Instruction) where
   ok-skip n h e =
       let h₁ = and-right (eqb (x .a) 0) _ (rw e at h) in
       let h₂ = and-right (leb 1 (x .k)) _ (and-right (ltb (x .b) W) _ h₁) in
-      leb-true (x .k) n (and-right (leb (x .k) 15) _ h₂)
+      leb-true (x .k) n (and-right (leb (x .k) maxDistance) _ h₂)
 
 -- ---- one instruction's check, by its code
 module _ (W n code a b k : ℕ) where
@@ -121,7 +122,7 @@ module _ (W n code a b k : ℕ) where
     unfolding instructionOk setOk copyOk addOk pokeOk skipOk
     answer-poke e = rw (e, lt-ltb b W lb, and-true, or-false)
 
-    pub answer-skip : code ≡ 5 → a ≡ 0 → (leb 1 k && (leb k 15 && leb k n)) ≡ answer
+    pub answer-skip : code ≡ 5 → a ≡ 0 → (leb 1 k && (leb k maxDistance && leb k n)) ≡ answer
     unfolding instructionOk setOk copyOk addOk pokeOk skipOk
     answer-skip e z = rw (e, eq-eqb a 0 z, lt-ltb b W lb)
 

@@ -11,7 +11,7 @@ use lib.Seq.{getD-set-same, getD-set-other}
 use borrow.Author.Tests.{eq-eqb, ne-eqb, eqb-false}
 use Rattle.laws.specs.Tests.{split}
 use Rattle.laws.specs.Lists.{getD-set}
-use Rattle.txn.specs.Lookup.{latest, Seen}
+use Rattle.txn.specs.Lookup.{buckets, latest, Seen}
 
 -- ---- looking back
 module _ (words news ws : List ℕ) (word : ℕ) where
@@ -46,21 +46,21 @@ module _ (words news : List ℕ) (count word new : ℕ) (ws : List ℕ) (w : ℕ
   top h k = rw (getD-set-same words count word 0 h, getD-set-same news count new 0 k, before count (omega arith))
 
 -- before the first write
-pub seen-none : (most : ℕ) (ws : List ℕ) → Seen most ws 0 (replicate most 0) (replicate most 0) (replicate 64 0) ws
+pub seen-none : (most : ℕ) (ws : List ℕ) → Seen most ws 0 (replicate most 0) (replicate most 0) (replicate buckets 0) ws
 unfolding latest
 seen-none most ws =
     record {
       words-whole = length-replicate {A = ℕ} most 0;
       news-whole = length-replicate {A = ℕ} most 0;
-      last-whole = length-replicate {A = ℕ} 64 0;
+      last-whole = length-replicate {A = ℕ} buckets 0;
       data-whole = refl;
       within = λ w. omega (arith, zero-at w);
       by-all = λ w h. refl;
-      by-bucket = λ w h. latest-none (replicate most 0) (replicate most 0) ws w (getD (replicate {A = ℕ} 64 0) (w % 64) 0) (zero-at w);
+      by-bucket = λ w h. latest-none (replicate most 0) (replicate most 0) ws w (getD (replicate {A = ℕ} buckets 0) (w % buckets) 0) (zero-at w);
     }
   where
-    zero-at : (w : ℕ) → getD (replicate {A = ℕ} 64 0) (w % 64) 0 ≡ 0
-    zero-at w = getD-replicate 64 (w % 64) 0 0 (omega arith)
+    zero-at : (w : ℕ) → getD (replicate {A = ℕ} buckets 0) (w % buckets) 0 ≡ 0
+    zero-at w = getD-replicate buckets (w % buckets) 0 0 (omega arith)
 
 module _ (most : ℕ) (ws : List ℕ) (count : ℕ) (words news last running : List ℕ) (h : Seen most ws count words news last running) where
   module _ (word new : ℕ) (room : count < most) where
@@ -71,10 +71,10 @@ module _ (most : ℕ) (ws : List ℕ) (count : ℕ) (words news last running : L
     news′ = set news count new
 
     abbrev last′ : List ℕ
-    last′ = set last (word % 64) (count + 1)
+    last′ = set last (word % buckets) (count + 1)
 
-    bucket : (w : ℕ) → getD last′ (w % 64) 0 ≡ cond (eqb (word % 64) (w % 64)) (count + 1) (getD last (w % 64) 0)
-    bucket w = getD-set last (word % 64) (count + 1) (w % 64) (omega (arith, h .last-whole))
+    bucket : (w : ℕ) → getD last′ (w % buckets) 0 ≡ cond (eqb (word % buckets) (w % buckets)) (count + 1) (getD last (w % buckets) 0)
+    bucket w = getD-set last (word % buckets) (count + 1) (w % buckets) (omega (arith, h .last-whole))
 
     stored : (w : ℕ) → w < length ws → getD (set running word new) w 0 ≡ cond (eqb word w) new (getD running w 0)
     stored w l = getD-set running word new w (omega (arith, h .data-whole))
@@ -84,14 +84,14 @@ module _ (most : ℕ) (ws : List ℕ) (count : ℕ) (words news last running : L
         rw (add-one count, stored w l, ← h .by-all w l)
         (top words news count word new ws w (omega (arith, h .words-whole)) (omega (arith, h .news-whole)))
 
-    bucket′ : (w : ℕ) → w < length ws → latest words′ news′ (getD last′ (w % 64) 0) ws w ≡ getD (set running word new) w 0
+    bucket′ : (w : ℕ) → w < length ws → latest words′ news′ (getD last′ (w % buckets) 0) ws w ≡ getD (set running word new) w 0
     bucket′ w l =
-        split (eqb (word % 64) (w % 64)) (λ e. rw (bucket w, e) (all′ w l))
-        (λ e. rw (bucket w, e, stored w l, ne-eqb word w (λ d. eqb-false (word % 64) (w % 64) e (ap (λ m. m % 64) d)))
-        (before words news count word new ws w (getD last (w % 64) 0) (h .within w) ∙ h .by-bucket w l))
+        split (eqb (word % buckets) (w % buckets)) (λ e. rw (bucket w, e) (all′ w l))
+        (λ e. rw (bucket w, e, stored w l, ne-eqb word w (λ d. eqb-false (word % buckets) (w % buckets) e (ap (λ m. m % buckets) d)))
+        (before words news count word new ws w (getD last (w % buckets) 0) (h .within w) ∙ h .by-bucket w l))
 
-    within′ : (w : ℕ) → getD last′ (w % 64) 0 ≤ count + 1
-    within′ w = split (eqb (word % 64) (w % 64)) (λ e. rw (bucket w, e) (omega arith)) (λ e. rw (bucket w, e) (omega (arith, h .within w)))
+    within′ : (w : ℕ) → getD last′ (w % buckets) 0 ≤ count + 1
+    within′ w = split (eqb (word % buckets) (w % buckets)) (λ e. rw (bucket w, e) (omega arith)) (λ e. rw (bucket w, e) (omega (arith, h .within w)))
 
     -- a write of `new` to `word`
     pub seen-more : Seen most ws (count + 1) words′ news′ last′ (set running word new)
@@ -99,7 +99,7 @@ module _ (most : ℕ) (ws : List ℕ) (count : ℕ) (words news last running : L
         record {
           words-whole = length-set words count word ∙ h .words-whole;
           news-whole = length-set news count new ∙ h .news-whole;
-          last-whole = length-set last (word % 64) (count + 1) ∙ h .last-whole;
+          last-whole = length-set last (word % buckets) (count + 1) ∙ h .last-whole;
           data-whole = length-set running word new ∙ h .data-whole;
           within = within′;
           by-all = all′;

@@ -10,17 +10,18 @@ use lib.ListN.{length, getD, set, replicate, length-append}
 use borrow.Author.Tests.{eq-eqb, ne-eqb, le-leb}
 use Rattle.laws.specs.Tests.{split, and-left, and-right}
 use Rattle.txn.specs.declared.Write.{Write}
-use Rattle.txn.specs.Txn.{Instruction, instructionAt, instructionsFrom, instructions, instructionOk, allOk, txnOk, target, result, emit, passed, applied, runFrom, run, noWrite, writesOf}
+use Rattle.txn.specs.Txn.{Instruction, instructionAt, instructionsFrom, instructions, instructionOk, allOk, txnOk}
+use Rattle.txn.specs.Txn.{target, result, emit, passed, applied, runFrom, run, noWrite, writesOf}
 use Rattle.txn.specs.CheckLaws.{ok-few, ok-low, ok-skip, ok-all, from-next, all-next}
 use Rattle.txn.specs.TxnLaws.{applied-append}
 use Rattle.txn.specs.WritesLaws.{padded-none, set-padded}
-use Rattle.txn.specs.Lookup.{latest}
+use Rattle.txn.specs.Lookup.{buckets, latest}
 use Rattle.txn.specs.LookupLaws.{seen-none, seen-more}
 use Rattle.txn.specs.Progress.{Reached}
 
 -- before the first instruction
 pub reached-none : (most : ℕ) (f ws : List ℕ) → txnOk most (length ws) f ≡ true
-    → Reached most f ws (length f / 4) 0 (replicate most noWrite) (replicate most 0) (replicate most 0) (replicate 64 0) 0
+    → Reached most f ws (length f / 4) 0 (replicate most noWrite) (replicate most 0) (replicate most 0) (replicate buckets 0) 0
 unfolding run instructions applied
 reached-none most f ws ok =
     let z : length f / 4 - 0 ≡ length f / 4 = omega arith in
@@ -86,11 +87,11 @@ module _ {most : ℕ} {f ws : List ℕ} {n i : ℕ} {list : List Write} {words n
       low : (next .a < length ws) × (next .b < length ws)
       low = ok-low (length ws) next (n - i - 1) (and-left _ _ all-ok)
 
-      within : (w : ℕ) → getD last (w % 64) 0 ≤ most
+      within : (w : ℕ) → getD last (w % buckets) 0 ≤ most
       within w = omega (arith, h .seen .within w, h .few, h .fits)
 
       -- its word b can be looked up
-      pub reached-b : (getD last (next .b % 64) 0 ≤ most) × (next .b < length ws)
+      pub reached-b : (getD last (next .b % buckets) 0 ≤ most) × (next .b < length ws)
       reached-b = (within (next .b), low .1)
 
       left : run (length ws) f ws
@@ -100,13 +101,17 @@ module _ {most : ℕ} {f ws : List ℕ} {n i : ℕ} {list : List Write} {words n
       left = h .rest ∙ ap (λ xs. h .done ++ runFrom (length ws) 0 xs running) (from-next f n i l)
 
       -- x is the value of word b
-      module _ (x : ℕ) (v : x ≡ latest words news (getD last (next .b % 64) 0) ws (next .b)) where
+      module _ (x : ℕ) (v : x ≡ latest words news (getD last (next .b % buckets) 0) ws (next .b)) where
         x-is : getD running (next .b) 0 ≡ x
         x-is = sym (v ∙ h .seen .by-bucket (next .b) (low .1))
 
         module _ (yes : next .code ≡ 5) (d : ℕ) (e : d ≡ cond (eqb x 0) (next .k) 0) where
           few-over : d ≤ n - (i + 1)
-          few-over = rw e (split (eqb x 0) (λ z. rw z (omega (arith, ok-skip (length ws) next (n - i - 1) (and-left _ _ all-ok) yes))) (λ z. rw z (omega arith)))
+          few-over =
+              rw e
+              (split (eqb x 0)
+              (λ z. rw z (omega (arith, ok-skip (length ws) next (n - i - 1) (and-left _ _ all-ok) yes)))
+              (λ z. rw z (omega arith)))
 
           emitted-none : emit (length ws) 0 next running ≡ []
           unfolding emit
@@ -143,10 +148,10 @@ module _ {most : ℕ} {f ws : List ℕ} {n i : ℕ} {list : List Write} {words n
           word-low = rw t (split (eqb (next .code) 4) (λ e. rw e (mod-lt x (omega (arith, low)))) (λ e. rw e (low .0)))
 
           -- the word that it writes can be looked up
-          pub reached-target : (getD last (word % 64) 0 ≤ most) × (word < length ws)
+          pub reached-target : (getD last (word % buckets) 0 ≤ most) × (word < length ws)
           reached-target = (within word, word-low)
 
-          module _ (old new : ℕ) (o : old ≡ latest words news (getD last (word % 64) 0) ws word)
+          module _ (old new : ℕ) (o : old ≡ latest words news (getD last (word % buckets) 0) ws word)
               (r : new ≡ cond (eqb (next .code) 2) x (cond (eqb (next .code) 3) ((x + next .k) % 2 ^ 64) (next .k)))
             where
               abbrev write : Write
@@ -181,7 +186,7 @@ module _ {most : ℕ} {f ws : List ℕ} {n i : ℕ} {list : List Write} {words n
 
               -- it writes
               pub reached-write : Reached most f ws n (i + 1) (set list count write)
-                  (set words count word) (set news count new) (set last (word % 64) (count + 1)) (count + 1)
+                  (set words count word) (set news count new) (set last (word % buckets) (count + 1)) (count + 1)
               reached-write =
                   record {
                     done = h .done ++ (write ∷ []);

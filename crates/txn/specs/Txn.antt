@@ -7,6 +7,14 @@ use lib.ListN.{length, getD, set}
 use Rattle.txn.specs.declared.Write.{Write}
 use Rattle.txn.specs.declared.Writes.{Writes}
 
+-- the most instructions of a transaction, and so the most writes: an instruction makes one or none
+abbrev pub maxWrites : ℕ
+maxWrites = 16
+
+-- the greatest distance of SKIP
+abbrev pub maxDistance : ℕ
+maxDistance = 15
+
 -- ---- instructions
 pub record Instruction : Type 0 where
   pub code : ℕ
@@ -46,7 +54,7 @@ pokeOk W x = eqb x.code 4 && (eqb x.a 0 && ltb x.b W)
 
 -- SKIP: if word b is 0, the next k instructions are passed over; `after` follow it
 unfoldable pub skipOk : ℕ → ℕ → Instruction → Bool
-skipOk W after x = eqb x.code 5 && (eqb x.a 0 && (ltb x.b W && (leb 1 x.k && (leb x.k 15 && leb x.k after))))
+skipOk W after x = eqb x.code 5 && (eqb x.a 0 && (ltb x.b W && (leb 1 x.k && (leb x.k maxDistance && leb x.k after))))
 
 unfoldable pub instructionOk : (W after : ℕ) → Instruction → Bool
 instructionOk W after x = setOk W x || (copyOk W x || (addOk W x || (pokeOk W x || skipOk W after x)))

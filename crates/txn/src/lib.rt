@@ -4,11 +4,14 @@ ghost use mathlib.Core.Bool.{true, cond, _&&_};
 ghost use Prim.Native.Nat.{_+_, _%_, _^_, _≤_, _<_};
 ghost use lib.Dec.{eqb, leb};
 ghost use lib.ListN.{getD, length};
-ghost use Rattle.txn.specs.Txn.{instructionOk, txnOk, run, writesOf};
-ghost use Rattle.txn.specs.Lookup.{latest};
+ghost use Rattle.txn.specs.Txn.{maxWrites, maxDistance, instructionOk, txnOk, run, writesOf};
+ghost use Rattle.txn.specs.Lookup.{buckets, latest};
 
-// The greatest number of instructions.
-pub const MOST: usize = 16;
+// The most instructions of a transaction, and so the most writes: an instruction makes one or none.
+pub const MAX_WRITES: usize = 16;
+
+// The greatest distance of SKIP.
+const MAX_DISTANCE: u64 = 15;
 
 // How many buckets of words there are: a word's is its number modulo this.
 const BUCKETS: usize = 64;
@@ -23,17 +26,18 @@ pub struct Write {
 // A run's writes, in order: the first `count` of the list; the rest is 0.
 pub struct Writes {
     pub count: usize,
-    pub list: [Write; MOST],
+    pub list: [Write; MAX_WRITES],
 }
 
 // Is SKIP's distance k in range, where `after` instructions follow it?
 fn distance_ok(k: u64, after: usize) -> bool
-    ensures { λ r. ⌜ r ≡ (leb 1 k && (leb k 15 && leb k after)) ⌝ }
+    ensures { λ r. ⌜ r ≡ (leb 1 k && (leb k maxDistance && leb k after)) ⌝ }
 {
-    1 <= k && k <= 15 && k as usize <= after
+    1 <= k && k <= MAX_DISTANCE && k as usize <= after
 }
 
-// Is one instruction well formed, where `after` instructions follow it? An unused a or b is 0, which is a word's number too.
+// Is one instruction well formed, where `after` instructions follow it? An unused a or b is 0, which is a word's number
+// too.
 fn instruction_ok(code: u64, a: u64, b: u64, k: u64, words: usize, after: usize) -> bool
     ensures { λ r. ⌜ r ≡ instructionOk words after (record { code = code; a = a; b = b; k = k }) ⌝ }
 {
@@ -53,9 +57,10 @@ fn instruction_ok(code: u64, a: u64, b: u64, k: u64, words: usize, after: usize)
     }
 }
 
-// Are the words 1 to 16 well-formed instructions? Every instruction is looked at, those that a run may pass over too.
+// Are the words 1 to MAX_WRITES well-formed instructions? Every instruction is looked at, those that a run may pass
+// over too.
 pub fn txn_ok(txn: &[u64], words: usize) -> bool
-    ensures { λ r. ⌜ r ≡ txnOk 16 words (now (txn .entry)) ⌝ }
+    ensures { λ r. ⌜ r ≡ txnOk maxWrites words (now (txn .entry)) ⌝ }
 {
     if txn.len() % 4 != 0 {
         return false;
@@ -64,7 +69,7 @@ pub fn txn_ok(txn: &[u64], words: usize) -> bool
     if count < 1 {
         return false;
     }
-    if MOST < count {
+    if MAX_WRITES < count {
         return false;
     }
     for i in 0..count {
@@ -83,17 +88,20 @@ pub fn txn_ok(txn: &[u64], words: usize) -> bool
     true
 }
 
-// The value of a word after the writes so far: that of the last write to it, or the data's. It looks back over the words written, from the
-// last write to the word's bucket on.
+// The value of a word after the writes so far: that of the last write to it, or the data's. It looks back over the
+// words written, from the last write to the word's bucket on.
 fn value(
-    words: &[usize; MOST],
-    news: &[u64; MOST],
+    words: &[usize; MAX_WRITES],
+    news: &[u64; MAX_WRITES],
     last: &[u8; BUCKETS],
     memory: &[u64],
     word: usize,
 ) -> u64
-    requires { ⌜ (getD (now last) (word % 64) 0 ≤ 16) × (word < length (now memory)) ⌝ }
-    ensures { λ r. ⌜ r ≡ latest (now (words .entry)) (now (news .entry)) (getD (now (last .entry)) (word % 64) 0) (now (memory .entry)) word ⌝ }
+    requires { ⌜ getD (now last) (word % buckets) 0 ≤ maxWrites ⌝ }
+    requires { ⌜ word < length (now memory) ⌝ }
+    ensures { λ r. ⌜ r
+        ≡ latest (now (words .entry)) (now (news .entry)) (getD (now (last .entry)) (word % buckets) 0)
+        (now (memory .entry)) word ⌝ }
 {
     let mut i = last[word % BUCKETS] as usize;
     while 0 < i {
@@ -139,21 +147,23 @@ fn distance(x: u64, k: u64) -> u64
     0
 }
 
-// The writes of a transaction, each instruction seeing those before it; the data stay as they are. A word is looked up at once, unless the
-// transaction writes several words of its bucket.
+// The writes of a transaction, each instruction seeing those before it; the data stay as they are. A word is looked up
+// at once, unless the transaction writes several words of its bucket.
 pub fn run(txn: &[u64], memory: &[u64]) -> Writes
-    requires { ⌜ txnOk 16 (length (now memory)) (now txn) ≡ true ⌝ }
-    ensures { λ r. ⌜ r ≡ writesOf 16 (run (length (now (memory .entry))) (now (txn .entry)) (now (memory .entry))) ⌝ }
+    requires { ⌜ txnOk maxWrites (length (now memory)) (now txn) ≡ true ⌝ }
+    ensures { λ r. ⌜ r
+        ≡ writesOf maxWrites (run (length (now (memory .entry))) (now (txn .entry)) (now (memory .entry))) ⌝ }
 {
     let none = Write {
         word: 0,
         old: 0,
         new: 0,
     };
-    let mut list = [none; MOST];
-    // the words and the new values once more, to be lent, and for each bucket the number of writes up to the last one to it, or 0
-    let mut words = [0usize; MOST];
-    let mut news = [0u64; MOST];
+    let mut list = [none; MAX_WRITES];
+    // the words and the new values once more, to be lent, and for each bucket the number of writes up to the last one
+    // to it, or 0
+    let mut words = [0usize; MAX_WRITES];
+    let mut news = [0u64; MAX_WRITES];
     let mut last = [0u8; BUCKETS];
     let mut count = 0;
     let end = txn.len() / 4;

@@ -2,7 +2,7 @@
 -- Assumes nothing.
 use native.Mathlib.Omega.{arith}
 use borrow.Author.Needs.{needs}
-use Rattle.append.specs.AppendLaws.{append-place, append-after, append-written, append-flushed}
+use Rattle.append.specs.AppendLaws.{append-at, append-after, append-written, append-flushed}
 use Rattle.append.proofs.appended.Statement.{statement}
 use Rattle.append.proofs.appended.Tie as tie
 
@@ -17,8 +17,8 @@ append-requires c κs =
     let u = c .before .before in
     let g = u .before in
     let p = g .before .before .before .pre in
-    let q = append-place _ _ _ _ _ _ _ _ _ p (g .log-start .ensures) (u .cursor-of .ensures) in
-    (p .few, p .full, p .low, q .most, q .slot, q .wrap, q .in-cache, q .in-flags, q .small, omega (arith, p .room))
+    let q = append-at _ _ _ _ _ _ _ _ p (g .log-start .ensures) in
+    (p .writes, (rw (u .cursor-of .ensures) (p .place), (q, omega (arith, p .room))))
 
 appended-lane-requires : tie.Need-appended-lane-requires
 appended-lane-requires c κs = search needs

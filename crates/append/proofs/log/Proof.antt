@@ -5,7 +5,7 @@ use borrow.Author.Needs.{needs}
 use Rattle.record.proofs.Lengths.{lanes-eight}
 use Rattle.store.specs.Calls.{logStep}
 use Rattle.store.specs.StoreLaws.{step-refused}
-use Rattle.append.specs.AppendLaws.{log-known, log-clock, ready, log-empty, log-writes}
+use Rattle.append.specs.AppendLaws.{log-known, log-clock, after-drain, log-empty, log-writes}
 use Rattle.append.proofs.log.Statement.{statement}
 use Rattle.append.proofs.log.Tie as tie
 
@@ -33,7 +33,7 @@ drain-requires c κs =
     let e = c .before .before .before in
     let p = e .before .before in
     let k = log-known _ _ _ _ _ _ _ _ (p .plan-log .ensures) (e .if1 .left) in
-    (k .small, k .checked .in-nvm ∙ sym (k .checked .in-cache), k .checked .in-flags ∙ sym (k .checked .in-cache))
+    (k .small, (k .checked .in-nvm ∙ sym (k .checked .image .in-image), k .checked .in-flags ∙ sym (k .checked .image .in-image)))
 
 drained-requires : tie.Need-drained-requires
 drained-requires c κs =
@@ -66,7 +66,8 @@ log-writes-requires c κs =
     let e = d .before .before .before .before in
     let p = e .before .before in
     let s = p .before .before .before .before .before .before .before .before in
-    ready _ _ _ _ _ _ _ _ (log-known _ _ _ _ _ _ _ _ (p .plan-log .ensures) (e .if1 .left)) (lanes-eight (s .args .state) (s .good .1 .0)) (log-clock _ _ _ _ _ _ _ _ (p .plan-log .ensures) (e .if1 .left) (o .if2 .left)) _ (d .drain .ensures .1)
+    after-drain _ _ _ _ _ _ _ _ (log-known _ _ _ _ _ _ _ _ (p .plan-log .ensures) (e .if1 .left)) (lanes-eight (s .args .state) (s .good .1 .0))
+    (log-clock _ _ _ _ _ _ _ _ (p .plan-log .ensures) (e .if1 .left) (o .if2 .left)) _ (d .drain .ensures .1)
 
 same-length-7 : tie.Need-same-length-7
 same-length-7 c = search needs
@@ -84,7 +85,8 @@ returns-3 c =
     let d = o .before .before .before .before .before .before in
     let e = d .before .before .before .before in
     let p = e .before .before in
-    log-writes _ _ _ _ _ _ _ _ _ (d .drain .ensures .0) (d .drain .ensures .1) (e .if1 .left) _ (p .plan-log .ensures) _ (a .log-writes .ensures _) (o .if2 .left)
+    log-writes _ _ _ _ _ _ _ _ _ (d .drain .ensures .0) (d .drain .ensures .1) (e .if1 .left) _ (p .plan-log .ensures) _ (a .log-writes .ensures _)
+    (o .if2 .left)
 
 pub log-spec : {M : Type 1} → statement M
 log-spec =

@@ -28,13 +28,13 @@ mul-at : tie.Need-mul-at
 mul-at c =
     let d = c .before .before in
     let k = checked _ _ _ _ _ _ (sym (d .before .drain-refusal .ensures) ∙ d .if1 .left) in
-    omega (arith, lane-small _ _ (k .sizes-ok) (k .lane-below))
+    omega (arith, lane-small _ _ (k .image .sizes-ok) (k .lane-below))
 
 element-copy-out-at : tie.Need-element-copy-out-at
 element-copy-out-at c =
     let d = c .before .before in
     let k = checked _ _ _ _ _ _ (sym (d .before .drain-refusal .ensures) ∙ d .if1 .left) in
-    omega (arith, lane-small _ _ (k .sizes-ok) (k .lane-below))
+    omega (arith, lane-small _ _ (k .image .sizes-ok) (k .lane-below))
 
 is-logged-requires : tie.Need-is-logged-requires
 is-logged-requires c κs = search needs

@@ -9,7 +9,7 @@ use Rattle.record.specs.Record.{laneAt}
 use Rattle.record.proofs.Lengths.{lanes-eight}
 use Rattle.store.specs.Calls.{markStep}
 use Rattle.store.specs.StoreLaws.{step-refused}
-use Rattle.append.specs.AppendLaws.{mark-known, mark-clock, ready, appendable, appended-by, mark-taken}
+use Rattle.append.specs.AppendLaws.{mark-known, mark-clock, after-drain, appended-by, mark-taken}
 use Rattle.append.proofs.mark.Statement.{statement}
 use Rattle.append.proofs.mark.Tie as tie
 
@@ -37,7 +37,7 @@ drain-requires c κs =
     let e = c .before .before .before in
     let p = e .before .before in
     let k = mark-known _ _ _ _ _ _ _ (p .plan-mark .ensures) (e .if1 .left) in
-    (k .small, k .checked .in-nvm ∙ sym (k .checked .in-cache), k .checked .in-flags ∙ sym (k .checked .in-cache))
+    (k .small, (k .checked .in-nvm ∙ sym (k .checked .image .in-image), k .checked .in-flags ∙ sym (k .checked .image .in-image)))
 
 mul-old : tie.Need-mul-old
 mul-old c =
@@ -74,7 +74,9 @@ appended-requires c κs =
     let e = d .before .before .before .before in
     let p = e .before .before in
     let s = p .before .before .before .before .before .before .before in
-    appendable _ _ _ _ _ _ _ _ (ready _ _ _ _ _ _ _ _ (mark-known _ _ _ _ _ _ _ (p .plan-mark .ensures) (e .if1 .left)) (lanes-eight (s .args .t2) (s .good .1 .0)) (mark-clock _ _ _ _ _ _ _ (p .plan-mark .ensures) (e .if1 .left)) _ (d .drain .ensures .1)) (l .drained-lane .ensures)
+    rw (l .drained-lane .ensures)
+    (after-drain _ _ _ _ _ _ _ _ (mark-known _ _ _ _ _ _ _ (p .plan-mark .ensures) (e .if1 .left)) (lanes-eight (s .args .t2) (s .good .1 .0))
+    (mark-clock _ _ _ _ _ _ _ (p .plan-mark .ensures) (e .if1 .left)) _ (d .drain .ensures .1) .appendable)
 
 stamped-requires : tie.Need-stamped-requires
 stamped-requires c κs =
@@ -102,12 +104,15 @@ returns-2 c =
     let e = d .before .before .before .before in
     let p = e .before .before in
     let s = p .before .before .before .before .before .before .before in
-    let k = ready _ _ _ _ _ _ _ _ (mark-known _ _ _ _ _ _ _ (p .plan-mark .ensures) (e .if1 .left)) (lanes-eight (s .args .t2) (s .good .1 .0)) (mark-clock _ _ _ _ _ _ _ (p .plan-mark .ensures) (e .if1 .left)) _ (d .drain .ensures .1) in
+    let k = after-drain _ _ _ _ _ _ _ _ (mark-known _ _ _ _ _ _ _ (p .plan-mark .ensures) (e .if1 .left)) (lanes-eight (s .args .t2) (s .good .1 .0))
+    (mark-clock _ _ _ _ _ _ _ (p .plan-mark .ensures) (e .if1 .left)) _ (d .drain .ensures .1) in
     let w = p .plan-mark .result .writes in
-    let n : w .count ≤ length (w .list) = omega (arith, k .few, k .full) in
-    let h : s .args .lane < length (s .args .t2 .lanes) = omega (arith, lanes-eight (s .args .t2) (s .good .1 .0), mark-known _ _ _ _ _ _ _ (p .plan-mark .ensures) (e .if1 .left) .small) in
+    let n : w .count ≤ length (w .list) = omega (arith, k .appendable .writes .few, k .appendable .writes .full) in
+    let h : s .args .lane < length (s .args .t2 .lanes) =
+    omega (arith, lanes-eight (s .args .t2) (s .good .1 .0), mark-known _ _ _ _ _ _ _ (p .plan-mark .ensures) (e .if1 .left) .small) in
     mark-taken _ _ _ _ _ _ _ _ _ (d .drain .ensures .0) (d .drain .ensures .1) (e .if1 .left) (p .plan-mark .ensures) _ _ (l .drained-lane .ensures)
-    (appended-by _ _ _ _ _ (k .found) _ (l .drained-lane .ensures) h _ _ _ _ w n _ _ _ _ (a .appended .ensures .0) (c .stamped .ensures) (a .appended .ensures .1 .0) (a .appended .ensures .1 .1))
+    (appended-by _ _ _ _ _ (k .found) _ (l .drained-lane .ensures) h _ _ _ _ w n _ _ _ _ (a .appended .ensures .0) (c .stamped .ensures)
+    (a .appended .ensures .1 .0) (a .appended .ensures .1 .1))
     _ (i .is-logged .ensures)
 
 pub mark-spec : {M : Type 1} → statement M

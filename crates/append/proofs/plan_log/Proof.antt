@@ -25,13 +25,13 @@ writes-on-requires : tie.Need-writes-on-requires
 writes-on-requires c κs =
     let u = unrefused _ _ _ _ (sym (c .before .log-checks .ensures) ∙ c .if1 .left) in
     let k = checked _ _ _ _ _ _ (u .at-lane) in
-    (k .sizes-ok, k .in-cache, u .txn-ok)
+    (k .image, u .txn-ok)
 
 latest-in-requires : tie.Need-latest-in-requires
 latest-in-requires c κs =
     let e = c .before in
     let k = checked _ _ _ _ _ _ (unrefused _ _ _ _ (sym (e .before .log-checks .ensures) ∙ e .if1 .left) .at-lane) in
-    (k .sizes-ok, k .in-cache, k .lane-below)
+    (k .image, k .lane-below)
 
 returns-2 : tie.Need-returns-2
 returns-2 c =
@@ -59,7 +59,8 @@ append-refusal-requires c κs =
     let e = r .before in
     let s = e .before .before .before .before .before .before in
     let u = unrefused _ _ _ _ (sym (e .before .log-checks .ensures) ∙ e .if1 .left) in
-    searchable _ _ _ _ _ _ (checked _ _ _ _ _ _ (u .at-lane)) (lanes-eight (s .args .state) (s .good .1 .0)) _ _ (d .latest-in .ensures) (omega (arith, some _ (c .before .if2 .left)))
+    searchable _ _ _ _ _ _ (checked _ _ _ _ _ _ (u .at-lane)) (lanes-eight (s .args .state) (s .good .1 .0)) _ _ (d .latest-in .ensures)
+    (omega (arith, some _ (c .before .if2 .left)))
     (omega (arith, writes-few _ _ _ _ (r .writes-on .ensures) (u .txn-ok)))
 
 returns-3 : tie.Need-returns-3

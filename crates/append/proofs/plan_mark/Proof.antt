@@ -23,7 +23,7 @@ returns c =
 latest-in-requires : tie.Need-latest-in-requires
 latest-in-requires c κs =
     let k = checked _ _ _ _ _ _ (sym (c .before .drain-refusal .ensures) ∙ c .if1 .left) in
-    (k .sizes-ok, k .in-cache, k .lane-below)
+    (k .image, k .lane-below)
 
 append-refusal-requires : tie.Need-append-refusal-requires
 append-refusal-requires c κs =

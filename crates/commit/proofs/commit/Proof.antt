@@ -15,7 +15,7 @@ log-start-requires : tie.Need-log-start-requires
 log-start-requires c κs = search needs
 
 add-circular : tie.Need-add-circular
-add-circular c = let k = start (c .before) .pre .0 in omega (arith, k .first, k .most, sizes-in _ (k .sizes-ok) .slots-high)
+add-circular c = let k = start (c .before) .pre .0 in omega (arith, k .first, k .most, sizes-in _ (k .image .sizes-ok) .slots-high)
 
 circular-requires : tie.Need-circular-requires
 circular-requires c κs = search needs
@@ -24,10 +24,14 @@ write-pairs-requires : tie.Need-write-pairs-requires
 write-pairs-requires c κs =
     let s = start (c .before .before .before .before) in
     let k = s .pre .0 in (
-      lane-small _ _ (k .sizes-ok) (k .lane-below),
-      omega arith,
-      k .in-flags ∙ sym (k .in-cache),
-      λ i h. pair-inside (s .args .sizes) (s .args .pairs) (s .args .count) _ (s .pre .2) (omega arith) (k .in-cache) i (omega arith),
+      lane-small _ _ (k .image .sizes-ok) (k .lane-below),
+      (
+        s .pre .1 .0,
+        (
+          k .in-flags ∙ sym (k .image .in-image),
+          λ i h. pair-inside (s .args .sizes) (s .args .pairs) (s .args .count) _ (s .pre .1 .1) (omega arith) (k .image .in-image) i (omega arith),
+        ),
+      ),
     )
 
 restamp-requires : tie.Need-restamp-requires
@@ -37,7 +41,7 @@ restamp-requires c κs =
     let l = m .before .before in
     let k = start l .pre .0 in
     let h = restamp-inside _ _ _ _ _ _ _ _ k (l .log-start .ensures) (m .circular .ensures) _ _ _ (w .write-pairs .ensures .0) (w .write-pairs .ensures .1) in
-    (h .0, h .1, lane-small _ _ (k .sizes-ok) (k .lane-below), k .room)
+    (h .0, (h .1, (lane-small _ _ (k .image .sizes-ok) (k .lane-below), k .room)))
 
 same-length : tie.Need-same-length
 same-length c = search needs
@@ -51,9 +55,10 @@ returns c =
     let w = p .before .before .before .before .before .before .before in
     let m = w .before .before .before in
     let l = m .before .before in
-    let h = start l .pre .2 in (
+    let h = start l .pre .1 .1 in (
       commit-written _ _ _ _ _ _ _ _ _ h (l .log-start .ensures) (m .circular .ensures) (w .write-pairs .ensures .0) _ (p .restamp .ensures .0),
-      commit-flushed _ _ _ _ _ _ _ _ _ h (l .log-start .ensures) (m .circular .ensures) (w .write-pairs .ensures .0) _ _ _ (w .write-pairs .ensures .1) (p .restamp .ensures .1),
+      commit-flushed _ _ _ _ _ _ _ _ _ h (l .log-start .ensures) (m .circular .ensures) (w .write-pairs .ensures .0) _ _ _ (w .write-pairs .ensures .1)
+          (p .restamp .ensures .1),
     )
 
 pub commit-spec : {M : Type 1} → statement M

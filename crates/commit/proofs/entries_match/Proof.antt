@@ -36,7 +36,8 @@ returns c =
     let s = m .before in
     let l = s .before .before .before in
     let w = l .before .before .args .t5 in
-    compared-fails _ _ _ _ (w .list) (w .count) (l .loop .i) (l .loop .slot) (l .loop .inv .1) (search needs) (search needs) _ _ _ refl (s .slot-at .ensures) (m .entry-matches .ensures) (not-true _ (c .if1 .taken))
+    compared-fails _ _ _ _ (w .list) (w .count) (l .loop .i) (l .loop .slot) (l .loop .inv .1) (search needs) (search needs) _ _ _ refl (s .slot-at .ensures)
+    (m .entry-matches .ensures) (not-true _ (c .if1 .taken))
 
 add-circular : tie.Need-add-circular Inv-loop μ-loop
 add-circular c = search needs
@@ -56,8 +57,11 @@ loop-again c =
     let m = e .before in
     let s = m .before in
     let l = s .before .before .before in
-    let w = l .before .before .args .t5 in
-    (search needs, compared-more _ _ _ _ (w .list) (w .count) (l .loop .i) (l .loop .slot) (l .loop .inv .1) (search needs) (search needs) _ _ _ refl (s .slot-at .ensures) (m .entry-matches .ensures) _ (not-false _ (e .if1 .left)) (c .circular .ensures))
+    let w = l .before .before .args .t5 in (
+      search needs,
+      compared-more _ _ _ _ (w .list) (w .count) (l .loop .i) (l .loop .slot) (l .loop .inv .1) (search needs) (search needs) _ _ _ refl
+          (s .slot-at .ensures) (m .entry-matches .ensures) _ (not-false _ (e .if1 .left)) (c .circular .ensures),
+    )
 
 returns-2 : tie.Need-returns-2 Inv-loop μ-loop
 returns-2 c =

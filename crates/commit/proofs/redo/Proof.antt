@@ -4,7 +4,7 @@ use denote.Ref.{now}
 use Rattle.record.proofs.Lengths.{lanes-eight}
 use Rattle.store.specs.StoreLaws.{lane-small, step-refused}
 use Rattle.store.specs.Calls.{redoStep}
-use Rattle.commit.specs.CommitLaws.{Accepted, redo-accepted, ready, redo-taken}
+use Rattle.commit.specs.CommitLaws.{Accepted, redo-accepted, committable, redo-taken}
 use borrow.Author.Needs.{needs}
 use Rattle.commit.proofs.redo.Statement.{statement}
 use Rattle.commit.proofs.redo.Tie as tie
@@ -37,12 +37,12 @@ returns c = rw (c .refused .ensures) (step-refused _ _ _ _ (c .before .before .r
 drained-state-requires : tie.Need-drained-state-requires
 drained-state-requires c κs =
     let k = accepted (c .before) .known in
-    (k .sizes-ok, k .in-cache, k .lane-below)
+    (k .image, k .lane-below)
 
 drain-requires : tie.Need-drain-requires
 drain-requires c κs =
     let k = accepted (c .before .before .before .before .before) .known in
-    (lane-small _ _ (k .sizes-ok) (k .lane-below), k .in-nvm ∙ sym (k .in-cache), k .in-flags ∙ sym (k .in-cache))
+    (lane-small _ _ (k .image .sizes-ok) (k .lane-below), (k .in-nvm ∙ sym (k .image .in-image), k .in-flags ∙ sym (k .image .in-image)))
 
 redo-drained-requires : tie.Need-redo-drained-requires
 redo-drained-requires c κs =
@@ -50,7 +50,7 @@ redo-drained-requires c κs =
     let t = d .before .before .before .before in
     let e = t .before .before in
     let s = start e in
-    ready _ _ _ _ _ _ _ _ (accepted e) (lanes-eight (s .args .state) (s .good .1 .0)) (t .drained-state .ensures) (d .drain .ensures .1)
+    committable _ _ _ _ _ _ _ _ (accepted e) (lanes-eight (s .args .state) (s .good .1 .0)) (t .drained-state .ensures) (d .drain .ensures .1)
 
 same-length-4 : tie.Need-same-length-4
 same-length-4 c = search needs
@@ -67,7 +67,8 @@ returns-2 c =
     let d = r .before .before .before .before .before .before .before in
     let t = d .before .before .before .before in
     let e = t .before .before in
-    redo-taken _ _ _ _ _ _ _ _ _ (t .drained-state .ensures) (d .drain .ensures .0) (d .drain .ensures .1) _ _ (e .before .redo-refusal .ensures) (e .if1 .left) (r .redo-drained .ensures _)
+    redo-taken _ _ _ _ _ _ _ _ _ (t .drained-state .ensures) (d .drain .ensures .0) (d .drain .ensures .1) _ _ (e .before .redo-refusal .ensures) (e .if1 .left)
+    (r .redo-drained .ensures _)
 
 pub redo-spec : {M : Type 1} → statement M
 redo-spec =

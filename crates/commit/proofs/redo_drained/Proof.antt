@@ -8,10 +8,10 @@ use Rattle.commit.proofs.redo_drained.Statement.{statement}
 use Rattle.commit.proofs.redo_drained.Tie as tie
 
 mul-at : tie.Need-mul-at
-mul-at c = let k = c .before .before .pre in omega (arith, lane-small _ _ (k .sizes-ok) (k .lane-below))
+mul-at c = let k = c .before .before .pre .restampable in omega (arith, lane-small _ _ (k .image .sizes-ok) (k .lane-below))
 
 element-copy-out-at : tie.Need-element-copy-out-at
-element-copy-out-at c = let k = c .before .before .pre in omega (arith, lane-small _ _ (k .sizes-ok) (k .lane-below))
+element-copy-out-at c = let k = c .before .before .pre .restampable in omega (arith, lane-small _ _ (k .image .sizes-ok) (k .lane-below))
 
 logged-in-requires : tie.Need-logged-in-requires
 logged-in-requires c κs = search needs
@@ -31,8 +31,8 @@ commit-requires c κs =
 
 committed-state-requires : tie.Need-committed-state-requires
 committed-state-requires c κs =
-    let k = c .before .before .before .before .before .before .before .before .before .before .before .before .before .before .pre in
-    (lane-small _ _ (k .sizes-ok) (k .lane-below), omega (arith, k .room))
+    let k = c .before .before .before .before .before .before .before .before .before .before .before .before .before .before .pre .restampable in
+    (lane-small _ _ (k .image .sizes-ok) (k .lane-below), omega (arith, k .room))
 
 same-length : tie.Need-same-length
 same-length c = search needs

@@ -17,12 +17,12 @@ returns c = redo-refused _ _ _ _ (c .before .drain-refusal .ensures) (c .if1 .ta
 mul-at : tie.Need-mul-at
 mul-at c =
     let k = checked _ _ _ _ _ _ (sym (c .before .drain-refusal .ensures) ∙ c .if1 .left) in
-    omega (arith, lane-small _ _ (k .sizes-ok) (k .lane-below))
+    omega (arith, lane-small _ _ (k .image .sizes-ok) (k .lane-below))
 
 element-copy-out-at : tie.Need-element-copy-out-at
 element-copy-out-at c =
     let k = checked _ _ _ _ _ _ (sym (c .before .drain-refusal .ensures) ∙ c .if1 .left) in
-    omega (arith, lane-small _ _ (k .sizes-ok) (k .lane-below))
+    omega (arith, lane-small _ _ (k .image .sizes-ok) (k .lane-below))
 
 spent-requires : tie.Need-spent-requires
 spent-requires c κs = search needs

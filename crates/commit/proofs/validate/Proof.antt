@@ -1,13 +1,13 @@
 -- `commit::validate` meets its contract: a refused call is the step refused, and otherwise the drain keeps what the rest of Validate looks at.
 use mathlib.Core.Path.{sym, _∙_, _≡_}
 use denote.Ref.{now}
-use Rattle.txn.specs.Txn.{txnOk}
+use Rattle.txn.specs.Txn.{maxWrites, txnOk}
 use mathlib.Core.Bool.{true}
 use Rattle.record.proofs.Lengths.{lanes-eight}
 use Rattle.store.specs.StoreLaws.{lane-small, step-refused}
 use Rattle.store.specs.WritesLaws.{full-list, writes-few, writes-run, writes-low}
 use Rattle.store.specs.Calls.{validateStep}
-use Rattle.commit.specs.CommitLaws.{Accepted, validate-accepted, ready, validate-taken}
+use Rattle.commit.specs.CommitLaws.{Accepted, validate-accepted, committable, validate-taken}
 use borrow.Author.Needs.{needs}
 use Rattle.commit.proofs.validate.Statement.{statement}
 use Rattle.commit.proofs.validate.Tie as tie
@@ -15,7 +15,8 @@ use Rattle.commit.proofs.validate.Tie as tie
 abbrev start : tie.Else1 → tie.Start
 start c = c .before .before .before .before .before .before .before .before .before
 
-accepted : (c : tie.Else1) → let a = start c .args in Accepted (a .sizes) (a .state) (now (a .cache)) (now (a .nvm)) (now (a .flags)) (a .lane) × (txnOk 16 (a .sizes .words) (now (a .txn)) ≡ true)
+accepted : (c : tie.Else1) → let a = start c .args in Accepted (a .sizes) (a .state) (now (a .cache)) (now (a .nvm)) (now (a .flags)) (a .lane)
+    × (txnOk maxWrites (a .sizes .words) (now (a .txn)) ≡ true)
 accepted c = validate-accepted _ _ _ _ _ _ _ _ (c .before .validate-refusal .ensures) (c .if1 .left)
 
 validate-refusal-requires : tie.Need-validate-refusal-requires
@@ -40,17 +41,17 @@ returns c = rw (c .refused .ensures) (step-refused _ _ _ _ (c .before .before .v
 writes-on-requires : tie.Need-writes-on-requires
 writes-on-requires c κs =
     let a = accepted (c .before) in
-    (a .0 .known .sizes-ok, a .0 .known .in-cache, a .1)
+    (a .0 .known .image, a .1)
 
 drained-state-requires : tie.Need-drained-state-requires
 drained-state-requires c κs =
     let k = accepted (c .before .before .before) .0 .known in
-    (k .sizes-ok, k .in-cache, k .lane-below)
+    (k .image, k .lane-below)
 
 drain-requires : tie.Need-drain-requires
 drain-requires c κs =
     let k = accepted (c .before .before .before .before .before .before .before) .0 .known in
-    (lane-small _ _ (k .sizes-ok) (k .lane-below), k .in-nvm ∙ sym (k .in-cache), k .in-flags ∙ sym (k .in-cache))
+    (lane-small _ _ (k .image .sizes-ok) (k .lane-below), (k .in-nvm ∙ sym (k .image .in-image), k .in-flags ∙ sym (k .image .in-image)))
 
 validate-drained-requires : tie.Need-validate-drained-requires
 validate-drained-requires c κs =
@@ -60,10 +61,11 @@ validate-drained-requires c κs =
     let e = w .before .before in
     let s = start e in
     let a = accepted e in (
-      ready _ _ _ _ _ _ _ _ (a .0) (lanes-eight (s .args .state) (s .good .1 .0)) (t .drained-state .ensures) (d .drain .ensures .1),
-      writes-few _ _ _ _ (w .writes-on .ensures) (a .1),
-      full-list _ _ (w .writes-on .ensures),
-      writes-low _ _ _ _ (w .writes-on .ensures) (a .1),
+      committable _ _ _ _ _ _ _ _ (a .0) (lanes-eight (s .args .state) (s .good .1 .0)) (t .drained-state .ensures) (d .drain .ensures .1),
+      (
+        writes-few _ _ _ _ (w .writes-on .ensures) (a .1),
+        (full-list _ _ (w .writes-on .ensures), writes-low _ _ _ _ (w .writes-on .ensures) (a .1)),
+      ),
     )
 
 same-length-4 : tie.Need-same-length-4
@@ -82,7 +84,8 @@ returns-2 c =
     let t = d .before .before .before .before in
     let w = t .before .before in
     let e = w .before .before in
-    validate-taken _ _ _ _ _ _ _ _ _ (t .drained-state .ensures) (d .drain .ensures .0) (d .drain .ensures .1) _ _ _ _ (e .before .validate-refusal .ensures) (e .if1 .left)
+    validate-taken _ _ _ _ _ _ _ _ _ (t .drained-state .ensures) (d .drain .ensures .0) (d .drain .ensures .1) _ _ _ _ (e .before .validate-refusal .ensures)
+    (e .if1 .left)
     (writes-run _ _ _ _ (w .writes-on .ensures) (accepted e .1)) (r .validate-drained .ensures _)
 
 pub validate-spec : {M : Type 1} → statement M

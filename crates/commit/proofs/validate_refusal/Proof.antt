@@ -27,13 +27,13 @@ mul-at : tie.Need-mul-at
 mul-at c =
     let b = c .before .before in
     let k = checked _ _ _ _ _ _ (sym (b .before .drain-refusal .ensures) ∙ b .if1 .left) in
-    omega (arith, lane-small _ _ (k .sizes-ok) (k .lane-below))
+    omega (arith, lane-small _ _ (k .image .sizes-ok) (k .lane-below))
 
 element-copy-out-at : tie.Need-element-copy-out-at
 element-copy-out-at c =
     let b = c .before .before in
     let k = checked _ _ _ _ _ _ (sym (b .before .drain-refusal .ensures) ∙ b .if1 .left) in
-    omega (arith, lane-small _ _ (k .sizes-ok) (k .lane-below))
+    omega (arith, lane-small _ _ (k .image .sizes-ok) (k .lane-below))
 
 spent-requires : tie.Need-spent-requires
 spent-requires c κs = search needs
@@ -46,7 +46,8 @@ unfolding laneAt
 returns-3 c =
     let d = c .before .before .before in
     let b = d .before .before in
-    validate-causes _ _ _ _ (b .before .drain-refusal .ensures) _ _ _ (b .if1 .left) (sym (d .before .txn-ok .ensures) ∙ not-false _ (d .if2 .left)) (c .before .spent .ensures) (c .commit-refusal .ensures)
+    validate-causes _ _ _ _ (b .before .drain-refusal .ensures) _ _ _ (b .if1 .left) (sym (d .before .txn-ok .ensures) ∙ not-false _ (d .if2 .left))
+    (c .before .spent .ensures) (c .commit-refusal .ensures)
 
 pub validate-refusal-spec : {M : Type 1} → statement M
 validate-refusal-spec =

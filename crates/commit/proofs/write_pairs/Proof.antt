@@ -26,8 +26,9 @@ array-copy-out-pair : tie.Need-array-copy-out-pair Inv-loop μ-loop
 array-copy-out-pair c = search needs
 
 -- the pair's word is one of the image
-inside : (c : tie.In-loop Inv-loop μ-loop) → let s = c .before .before .before .before in 1 + getD (s .args .t4) (c .before .loop .i) noPair .word < length (now (s .args .cache))
-inside c = c .before .before .before .before .pre .3 (c .before .loop .i) (search needs)
+inside : (c : tie.In-loop Inv-loop μ-loop)
+    → let s = c .before .before .before .before in 1 + getD (s .args .t4) (c .before .loop .i) noPair .word < length (now (s .args .cache))
+inside c = c .before .before .before .before .pre .1 .1 .1 (c .before .loop .i) (search needs)
 
 add-at : tie.Need-add-at Inv-loop μ-loop
 add-at c = omega (arith, inside (c .before .before))

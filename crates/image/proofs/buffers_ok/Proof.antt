@@ -39,5 +39,4 @@ returns-4 c =
 
 pub buffers-ok-spec : {M : Type 1} → statement M
 buffers-ok-spec =
-    tie.close
-    (tie.spec sizes-ok-requires returns image-length-requires returns-2 returns-3 returns-4)
+    tie.close (tie.spec sizes-ok-requires returns image-length-requires returns-2 returns-3 returns-4)

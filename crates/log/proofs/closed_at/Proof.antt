@@ -35,7 +35,8 @@ returns-3 c = let w = c .before in
 returns-4 : tie.Need-returns-4
 returns-4 c = let w = c .before in
     let k = w .before .before .before in
-    closed-whole _ _ _ _ _ (k .before .before .slot-at .ensures) (k .content .given .1) (w .before .if1 .left) (all-whole _ _ _ _ _ _ (sym (w .entries-whole .ensures) ∙ not-false _ (c .if2 .left)))
+    closed-whole _ _ _ _ _ (k .before .before .slot-at .ensures) (k .content .given .1) (w .before .if1 .left)
+    (all-whole _ _ _ _ _ _ (sym (w .entries-whole .ensures) ∙ not-false _ (c .if2 .left)))
 
 pub closed-at-spec : {M : Type 1} → statement M
 closed-at-spec = tie.close (tie.spec slot-at-requires enum-known-content returns returns-2 entries-whole-requires returns-3 returns-4)

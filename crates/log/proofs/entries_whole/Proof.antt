@@ -48,14 +48,5 @@ returns-2 c = let i = c .before in
 pub entries-whole-spec : {M : Type 1} → statement M
 entries-whole-spec =
     tie.close
-    (tie.spec
-    Inv-loop
-    μ-loop
-    loop-holds
-    add-entry-back
-    entry-back-requires
-    returns
-    add-i
-    loop-less
-    loop-again
+    (tie.spec Inv-loop μ-loop loop-holds add-entry-back entry-back-requires returns add-i loop-less loop-again
     returns-2)

@@ -16,7 +16,8 @@ is-entry-requires c κs = search needs
 
 returns : tie.Need-returns
 returns c = let s = c .before .before in
-    entry-same _ _ _ _ _ _ (s .before .back .result) (s .slot-at .result) _ (s .before .back .ensures) (s .slot-at .ensures) (c .before .if1 .taken) (c .is-entry .ensures)
+    entry-same _ _ _ _ _ _ (s .before .back .result) (s .slot-at .result) _ (s .before .back .ensures) (s .slot-at .ensures)
+    (c .before .if1 .taken) (c .is-entry .ensures)
 
 sub-is-entry : tie.Need-sub-is-entry
 sub-is-entry c = search needs
@@ -26,16 +27,10 @@ is-entry-requires-2 c κs = search needs
 
 returns-2 : tie.Need-returns-2
 returns-2 c = let s = c .before .before in
-    entry-wrapped _ _ _ _ _ _ (s .before .back .result) (s .slot-at .result) _ (s .before .back .ensures) (s .slot-at .ensures) (c .before .if1 .left) (c .is-entry2 .ensures)
+    entry-wrapped _ _ _ _ _ _ (s .before .back .result) (s .slot-at .result) _ (s .before .back .ensures) (s .slot-at .ensures)
+    (c .before .if1 .left) (c .is-entry2 .ensures)
 
 pub entry-back-spec : {M : Type 1} → statement M
 entry-back-spec =
     tie.close
-    (tie.spec
-    back-requires
-    slot-at-requires
-    is-entry-requires
-    returns
-    sub-is-entry
-    is-entry-requires-2
-    returns-2)
+    (tie.spec back-requires slot-at-requires is-entry-requires returns sub-is-entry is-entry-requires-2 returns-2)

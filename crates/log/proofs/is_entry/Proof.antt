@@ -34,13 +34,4 @@ returns-4 c = search needs
 
 pub is-entry-spec : {M : Type 1} → statement M
 is-entry-spec =
-    tie.close
-    (tie.spec
-    enum-known-content
-    enum-told
-    enum-told-2
-    enum-told-3
-    returns
-    returns-2
-    returns-3
-    returns-4)
+    tie.close (tie.spec enum-known-content enum-told enum-told-2 enum-told-3 returns returns-2 returns-3 returns-4)

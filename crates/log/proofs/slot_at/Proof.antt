@@ -35,13 +35,4 @@ returns c = c .read .ensures
 pub slot-at-spec : {M : Type 1} → statement M
 slot-at-spec =
     tie.close
-    (tie.spec
-    mul-t5
-    mul-t6
-    shared-slice-read-t8
-    mul-t9
-    add-t10
-    mul-t11
-    shared-slice-read-t13
-    read-requires
-    returns)
+    (tie.spec mul-t5 mul-t6 shared-slice-read-t8 mul-t9 add-t10 mul-t11 shared-slice-read-t13 read-requires returns)

@@ -25,11 +25,4 @@ returns c = rw (c .drained-lane .ensures)
 
 pub drained-spec : {M : Type 1} → statement M
 drained-spec =
-    tie.close
-    (tie.spec
-    mul-at
-    element-copy-out-at
-    drained-lane-requires
-    mul-after
-    element-set-from-after
-    returns)
+    tie.close (tie.spec mul-at element-copy-out-at drained-lane-requires mul-after element-set-from-after returns)

@@ -65,14 +65,5 @@ returns-6 c =
 pub phase-ok-spec : {M : Type 1} → statement M
 phase-ok-spec =
     tie.close
-    (tie.spec
-    enum-told
-    enum-known-phase
-    returns
-    returns-2
-    returns-3
-    stamp-ok-requires
-    returns-4
-    pairs-ok-requires
-    returns-5
-    returns-6)
+    (tie.spec enum-told enum-known-phase returns returns-2 returns-3 stamp-ok-requires returns-4 pairs-ok-requires
+    returns-5 returns-6)

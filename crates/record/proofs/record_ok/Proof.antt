@@ -76,18 +76,5 @@ returns-4 c =
 pub record-ok-spec : {M : Type 1} → statement M
 record-ok-spec =
     tie.close
-    (tie.spec
-    Inv-loop
-    μ-loop
-    returns
-    stamp-ok-requires
-    returns-2
-    loop-holds
-    mul-lane
-    element-copy-out-lane
-    lane-ok-requires
-    returns-3
-    add-i
-    loop-less
-    loop-again
-    returns-4)
+    (tie.spec Inv-loop μ-loop returns stamp-ok-requires returns-2 loop-holds mul-lane element-copy-out-lane
+    lane-ok-requires returns-3 add-i loop-less loop-again returns-4)

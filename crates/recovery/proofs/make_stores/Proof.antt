@@ -15,14 +15,18 @@ undo-all-requires : tie.Need-undo-all-requires
 undo-all-requires c κs =
     let s = c .before .before .before .before .before .before .before in
     let t = s .scan .ensures .1 .1 .1 in
-    (search needs, search needs, search needs, search needs, trees-own t, rw (t .long) (search needs))
+    (search needs, (search needs, (search needs, record { trees = trees-own t; enough = rw (t .long) (search needs) })))
 
 put-requires : tie.Need-put-requires
 unfolding imageLength
 put-requires c κs = (search needs, omega (arith, c .before .before .before .before .before .before .before .undo-all .ensures .1 .0))
 
 clear-logs-requires : tie.Need-clear-logs-requires
-clear-logs-requires c κs = search needs
+clear-logs-requires c κs =
+    let p = c .before .before .before in
+    let u = p .before .before .before .before .before .before .before .before in
+    let s = u .before .before .before .before .before .before .before .before .before .before .before .before .before .before .before in
+    (record { sizes-ok = s .pre .0 .sizes-ok; in-image = search needs }, omega (arith, p .put .ensures .0, u .undo-all .ensures .1 .0))
 
 same-length : tie.Need-same-length
 same-length c = search needs
@@ -39,7 +43,8 @@ returns c =
     let p = l .before .before .before .before in
     let u = p .before .before .before .before .before .before .before .before in
     let s = u .before .before .before .before .before .before .before .before in
-    let d = stores-all _ _ _ _ _ _ _ _ _ _ (u .undo-all .ensures .0) (u .undo-all .ensures .1 .1) (s .scan .ensures .1 .0) (p .put .ensures .0) (p .put .ensures .1) (l .clear-logs .ensures .0) (l .clear-logs .ensures .1) in
+    let d = stores-all _ _ _ _ _ _ _ _ _ _ (u .undo-all .ensures .0) (u .undo-all .ensures .1 .1) (s .scan .ensures .1 .0) (p .put .ensures .0)
+    (p .put .ensures .1) (l .clear-logs .ensures .0) (l .clear-logs .ensures .1) in
     (s .scan .ensures .0, (u .undo-all .ensures .0, (d .0, d .1)))
 
 pub make-stores-spec : {M : Type 1} → statement M

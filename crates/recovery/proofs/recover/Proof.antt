@@ -14,7 +14,8 @@ use Rattle.recovery.proofs.recover.Tie as tie
 abbrev start : tie.After-recover-refusal → tie.Start
 start c = c .before .before .before .before .before .before .before .before
 
-checked : (c : tie.Else1) → Buffers (start (c .before) .args .sizes) (length (now (start (c .before) .args .cache))) (length (now (start (c .before) .args .nvm))) (length (now (start (c .before) .args .flags)))
+checked : (c : tie.Else1) → Buffers (start (c .before) .args .sizes) (length (now (start (c .before) .args .cache)))
+    (length (now (start (c .before) .args .nvm))) (length (now (start (c .before) .args .flags)))
 checked c = recover-checked _ _ (sym (c .before .recover-refusal .ensures) ∙ c .if1 .left)
 
 start-record-requires : tie.Need-start-record-requires
@@ -41,7 +42,7 @@ returns c =
 recover-nvm-requires : tie.Need-recover-nvm-requires
 recover-nvm-requires c κs =
     let k = checked (c .before) in
-    (k .sizes-ok, k .in-nvm)
+    record { sizes-ok = k .sizes-ok; in-image = k .in-nvm }
 
 same-length-4 : tie.Need-same-length-4
 same-length-4 c = search needs
@@ -58,7 +59,8 @@ returns-2 c =
     let e = m .before .before in
     let r = e .before in
     let b = r .before .before .before .before in
-    rw (b .start-record .ensures) (recover-cut _ _ _ _ (r .recover-refusal .ensures) (e .if1 .left) _ (m .recover-nvm .ensures .1 .1 .0) _ (m .recover-nvm .ensures .1 .1 .1) (c .if2 .taken))
+    rw (b .start-record .ensures)
+    (recover-cut _ _ _ _ (r .recover-refusal .ensures) (e .if1 .left) _ (m .recover-nvm .ensures .1 .1 .0) _ (m .recover-nvm .ensures .1 .1 .1) (c .if2 .taken))
 
 refill-requires : tie.Need-refill-requires
 refill-requires c κs =
@@ -93,7 +95,8 @@ returns-3 c =
     let e = m .before .before in
     let r = e .before in
     let d = m .recover-nvm .ensures in
-    recover-finished _ _ _ _ (r .recover-refusal .ensures) (e .if1 .left) _ (d .1 .1 .0) _ _ _ _ _ _ (d .0) (d .1 .0) (d .1 .1 .1) (c .start-record2 .ensures) (f .refill .ensures .0) (f .refill .ensures .1 ∙ ap (λ n. replicate n 0) (checked e .in-cache)) (n .if2 .left)
+    recover-finished _ _ _ _ (r .recover-refusal .ensures) (e .if1 .left) _ (d .1 .1 .0) _ _ _ _ _ _ (d .0) (d .1 .0) (d .1 .1 .1) (c .start-record2 .ensures)
+    (f .refill .ensures .0) (f .refill .ensures .1 ∙ ap (λ n. replicate n 0) (checked e .in-cache)) (n .if2 .left)
 
 pub recover-spec : {M : Type 1} → statement M
 recover-spec =

@@ -7,7 +7,7 @@ use Rattle.recovery.proofs.recover_nvm.Statement.{statement}
 use Rattle.recovery.proofs.recover_nvm.Tie as tie
 
 mul-if1 : tie.Need-mul-if1
-mul-if1 c = omega (arith, numbers-small _ (c .before .before .pre .0))
+mul-if1 c = omega (arith, numbers-small _ (c .before .before .pre .sizes-ok))
 
 slice-aggregate-make-stores : tie.Need-slice-aggregate-make-stores
 slice-aggregate-make-stores c = search needs
@@ -31,7 +31,8 @@ slice-aggregate-make-stores-4 : tie.Need-slice-aggregate-make-stores-4
 slice-aggregate-make-stores-4 c = search needs
 
 make-stores-requires-2 : tie.Need-make-stores-requires-2
-make-stores-requires-2 c κs = let p = c .before .before .before .before .before .before .pre in (p .0, search needs, numbers-small _ (p .0), search needs)
+make-stores-requires-2 c κs = let p = c .before .before .before .before .before .before .pre in
+    (p, record { enough = numbers-small _ (p .sizes-ok); tree-long = search needs })
 
 same-length-2 : tie.Need-same-length-2
 same-length-2 c = search needs

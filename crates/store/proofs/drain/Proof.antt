@@ -30,13 +30,13 @@ returns c =
 drained-state-requires : tie.Need-drained-state-requires
 drained-state-requires c κs =
     let k = checked _ _ _ _ _ _ (sym (c .before .drain-refusal .ensures) ∙ c .if1 .left) in
-    (k .sizes-ok, k .in-cache, k .lane-below)
+    (k .image, k .lane-below)
 
 drain-requires : tie.Need-drain-requires
 drain-requires c κs =
     let r = c .before .before .before in
     let k = checked _ _ _ _ _ _ (sym (r .before .drain-refusal .ensures) ∙ r .if1 .left) in
-    (omega (arith, lane-small _ _ (k .sizes-ok) (k .lane-below)), k .in-nvm ∙ sym (k .in-cache), k .in-flags ∙ sym (k .in-cache))
+    (omega (arith, lane-small _ _ (k .image .sizes-ok) (k .lane-below)), (k .in-nvm ∙ sym (k .image .in-image), k .in-flags ∙ sym (k .image .in-image)))
 
 same-length-3 : tie.Need-same-length-3
 same-length-3 c = search needs

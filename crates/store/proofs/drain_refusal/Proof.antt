@@ -30,14 +30,22 @@ unfolding drainRefusal badBuffers badRecord badLane firstCause
 returns-3 c =
     let r = c .before .before in
     let b = r .before .before in
-    rw (sym (b .before .buffers-ok .ensures) ∙ not-false _ (b .if1 .left), sym (r .before .record-ok .ensures) ∙ not-false _ (r .if2 .left), le-leb _ _ (c .if3 .taken))
+    rw (
+      sym (b .before .buffers-ok .ensures) ∙ not-false _ (b .if1 .left),
+      sym (r .before .record-ok .ensures) ∙ not-false _ (r .if2 .left),
+      le-leb _ _ (c .if3 .taken),
+    )
 
 returns-4 : tie.Need-returns-4
 unfolding drainRefusal badBuffers badRecord badLane firstCause
 returns-4 c =
     let r = c .before .before in
     let b = r .before .before in
-    rw (sym (b .before .buffers-ok .ensures) ∙ not-false _ (b .if1 .left), sym (r .before .record-ok .ensures) ∙ not-false _ (r .if2 .left), lt-leb _ _ (c .if3 .left))
+    rw (
+      sym (b .before .buffers-ok .ensures) ∙ not-false _ (b .if1 .left),
+      sym (r .before .record-ok .ensures) ∙ not-false _ (r .if2 .left),
+      lt-leb _ _ (c .if3 .left),
+    )
 
 pub drain-refusal-spec : {M : Type 1} → statement M
 drain-refusal-spec =

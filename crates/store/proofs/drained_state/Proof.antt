@@ -11,7 +11,7 @@ latest-in-requires : tie.Need-latest-in-requires
 latest-in-requires c κs = search needs
 
 drained-requires : tie.Need-drained-requires
-drained-requires c κs = let s = c .before .before in lane-small _ _ (s .pre .0) (s .pre .2)
+drained-requires c κs = let s = c .before .before in lane-small _ _ (s .pre .0 .sizes-ok) (s .pre .1)
 
 returns : tie.Need-returns
 unfolding drainedState

@@ -28,8 +28,13 @@ returns : tie.Need-returns
 returns c =
     let f = c .before .before in
     let n = f .before .before .before .before in
-    let d = n .before .before .before .before in
-    (d .fill-image .ensures, (n .fill-image2 .ensures, f .clear-flags .ensures ∙ ap (λ k. replicate k 0) (d .before .before .before .before .before .before .pre .3)))
+    let d = n .before .before .before .before in (
+      d .fill-image .ensures,
+      (
+        n .fill-image2 .ensures,
+        f .clear-flags .ensures ∙ ap (λ k. replicate k 0) (d .before .before .before .before .before .before .pre .1 .1 .1),
+      ),
+    )
 
 pub fill-spec : {M : Type 1} → statement M
 fill-spec =

@@ -36,7 +36,7 @@ fill-requires : tie.Need-fill-requires
 fill-requires c κs =
     let r = c .before .before .before in
     let k = format-checked _ _ _ (sym (r .before .format-refusal .ensures) ∙ r .if1 .left) in
-    (k .1, k .0 .in-cache, k .0 .in-nvm, k .0 .in-flags)
+    (k .1, (k .0 .in-cache, (k .0 .in-nvm, k .0 .in-flags)))
 
 same-length-4 : tie.Need-same-length-4
 same-length-4 c = search needs

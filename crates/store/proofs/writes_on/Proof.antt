@@ -8,7 +8,7 @@ use Rattle.store.proofs.writes_on.Statement.{statement}
 use Rattle.store.proofs.writes_on.Tie as tie
 
 part : (s : tie.Start) → DataPart (s .args .sizes) (now (s .args .cache))
-part s = data-part _ _ (s .pre .0) (s .pre .1)
+part s = data-part _ _ (s .pre .0)
 
 add-end : tie.Need-add-end
 add-end c = omega (arith, part (c .before .before .before) .most)
@@ -23,7 +23,7 @@ part-run-end : tie.Need-part-run-end
 part-run-end c = part (c .before .before .before) .inside
 
 run-requires : tie.Need-run-requires
-run-requires c κs = rw (part (c .before .before .before .before) .in-data) (c .before .before .before .before .pre .2)
+run-requires c κs = rw (part (c .before .before .before .before) .in-data) (c .before .before .before .before .pre .1)
 
 returns : tie.Need-returns
 returns c = let d = part (c .before .before .before .before .before) in c .run .ensures ∙ rw (d .in-data, d .is-data)

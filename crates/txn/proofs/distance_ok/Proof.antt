@@ -12,7 +12,9 @@ returns c = ⊎-elim (λ w. rw (le-leb _ _ (w .0 .taken), sym (w .1) ∙ c .if2 
     (c .before .if1 .came)
 
 returns-2 : tie.Need-returns-2
-returns-2 c = ⊎-elim (λ w. rw (le-leb _ _ (w .0 .taken), c .if2 .left, sym (w .1) ∙ c .if2 .left)) (λ w. rw (lt-leb _ _ (w .0 .left), c .if2 .left)) (c .before .if1 .came)
+returns-2 c = ⊎-elim (λ w. rw (le-leb _ _ (w .0 .taken), c .if2 .left, sym (w .1) ∙ c .if2 .left))
+    (λ w. rw (lt-leb _ _ (w .0 .left), c .if2 .left))
+    (c .before .if1 .came)
 
 pub distance-ok-spec : {M : Type 1} → statement M
 distance-ok-spec = tie.close (tie.spec returns returns-2)

@@ -40,14 +40,5 @@ returns-9 c = let r = c .match .rest in answer-none _ _ _ _ _ _ (r .0 .0 .0 .0 .
 pub instruction-ok-spec : {M : Type 1} → statement M
 instruction-ok-spec =
     tie.close
-    (tie.spec
-    returns
-    returns-2
-    distance-ok-requires
-    returns-3
-    returns-4
-    returns-5
-    returns-6
-    returns-7
-    returns-8
+    (tie.spec returns returns-2 distance-ok-requires returns-3 returns-4 returns-5 returns-6 returns-7 returns-8
     returns-9)

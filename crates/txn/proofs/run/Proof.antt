@@ -1,14 +1,15 @@
 -- `txn::run` meets its contract. The loop's invariant is `Reached`: the writes so far, and the rest of the instructions gives the rest. Assumes nothing.
 use Prim.Native.Nat.{_≤_, _-_}
 use borrow.Author.Needs.{needs}
-use Rattle.txn.specs.Txn.{instructionAt}
+use Rattle.txn.specs.Txn.{maxWrites, instructionAt}
 use Rattle.txn.specs.Progress.{Reached}
 use Rattle.txn.specs.ProgressLaws.{reached-none, reached-all, reached-b, reached-skip, reached-target, reached-write}
 use Rattle.txn.proofs.run.Statement.{statement}
 use Rattle.txn.proofs.run.Tie as tie
 
 abbrev Inv-loop : tie.InvT-loop
-Inv-loop txn memory list₀ words₀ news₀ last₀ count₀ end i₀ list words news last count i = (i ≤ end) × Reached 16 txn memory end i list words news last count
+Inv-loop txn memory list₀ words₀ news₀ last₀ count₀ end i₀ list words news last count i =
+    (i ≤ end) × Reached maxWrites txn memory end i list words news last count
 
 abbrev μ-loop : tie.MeasureT-loop
 μ-loop txn memory list₀ words₀ news₀ last₀ count₀ end i₀ list words news last count i = end - i
@@ -141,40 +142,8 @@ returns c = reached-all (c .before .loop .inv .1) (c .loop-test .left)
 pub run-spec : {M : Type 1} → statement M
 run-spec =
     tie.close
-    (tie.spec
-    Inv-loop
-    μ-loop
-    loop-holds
-    mul-at
-    add-i
-    mul-code
-    shared-slice-read-code
-    add-k
-    mul-k
-    shared-slice-read-k
-    add-value
-    mul-value
-    shared-slice-read-value
-    value-requires
-    distance-requires
-    add-i-2
-    loop-less
-    loop-again
-    add-target
-    mul-target
-    shared-slice-read-target
-    target-requires
-    value-requires-2
-    result-requires
-    mul-list
-    array-set-from-list
-    mul-words
-    array-write-words
-    mul-news
-    array-write-news
-    add-count
-    cast-last
-    array-write-last
-    loop-less-2
-    loop-again-2
+    (tie.spec Inv-loop μ-loop loop-holds mul-at add-i mul-code shared-slice-read-code add-k mul-k shared-slice-read-k
+    add-value mul-value shared-slice-read-value value-requires distance-requires add-i-2 loop-less loop-again add-target
+    mul-target shared-slice-read-target target-requires value-requires-2 result-requires mul-list array-set-from-list
+    mul-words array-write-words mul-news array-write-news add-count cast-last array-write-last loop-less-2 loop-again-2
     returns)

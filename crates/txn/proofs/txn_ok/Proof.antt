@@ -3,13 +3,13 @@ use borrow.Author.Tests.{not-true, not-false}
 use Prim.Native.Nat.{_≤_, _-_}
 use mathlib.Core.Path.{_≡_}
 use borrow.Author.Needs.{needs}
-use Rattle.txn.specs.Txn.{instructionAt, instructionsFrom, allOk, txnOk}
+use Rattle.txn.specs.Txn.{maxWrites, instructionAt, instructionsFrom, allOk, txnOk}
 use Rattle.txn.specs.CheckLaws.{checked-ragged, checked-empty, checked-long, checked-none, checked-refused, checked-more, checked-all}
 use Rattle.txn.proofs.txn_ok.Statement.{statement}
 use Rattle.txn.proofs.txn_ok.Tie as tie
 
 abbrev Inv-loop : tie.InvT-loop
-Inv-loop txn words count i₀ i = (i ≤ count) × (txnOk 16 words txn ≡ allOk words (instructionsFrom txn i (count - i)))
+Inv-loop txn words count i₀ i = (i ≤ count) × (txnOk maxWrites words txn ≡ allOk words (instructionsFrom txn i (count - i)))
 
 abbrev μ-loop : tie.MeasureT-loop
 μ-loop txn words count i₀ i = count - i
@@ -93,30 +93,8 @@ returns-5 c = checked-all _ _ _ _ _ (search needs) (c .before .loop .inv .1)
 pub txn-ok-spec : {M : Type 1} → statement M
 txn-ok-spec =
     tie.close
-    (tie.spec
-    Inv-loop
-    μ-loop
-    returns
-    returns-2
-    returns-3
-    loop-holds
-    mul-at
-    mul-instruction-ok
-    shared-slice-read-instruction-ok
-    add-instruction-ok
-    mul-instruction-ok-2
-    shared-slice-read-instruction-ok-2
-    add-instruction-ok-2
-    mul-instruction-ok-3
-    shared-slice-read-instruction-ok-3
-    add-instruction-ok-3
-    mul-instruction-ok-4
-    shared-slice-read-instruction-ok-4
-    sub-instruction-ok
-    sub-instruction-ok-2
-    instruction-ok-requires
-    returns-4
-    add-i
-    loop-less
-    loop-again
-    returns-5)
+    (tie.spec Inv-loop μ-loop returns returns-2 returns-3 loop-holds mul-at mul-instruction-ok
+    shared-slice-read-instruction-ok add-instruction-ok mul-instruction-ok-2 shared-slice-read-instruction-ok-2
+    add-instruction-ok-2 mul-instruction-ok-3 shared-slice-read-instruction-ok-3 add-instruction-ok-3
+    mul-instruction-ok-4 shared-slice-read-instruction-ok-4 sub-instruction-ok sub-instruction-ok-2
+    instruction-ok-requires returns-4 add-i loop-less loop-again returns-5)

@@ -3,14 +3,15 @@ use Prim.Native.Nat.{_≤_, _%_}
 use mathlib.Core.Path.{_≡_, refl, sym, _∙_}
 use borrow.Author.Needs.{needs}
 use lib.ListN.{getD}
-use Rattle.txn.specs.Lookup.{latest}
+use Rattle.txn.specs.Txn.{maxWrites}
+use Rattle.txn.specs.Lookup.{buckets, latest}
 use Rattle.txn.specs.LookupLaws.{latest-none, latest-found, latest-other}
 use Rattle.txn.proofs.value.Statement.{statement}
 use Rattle.txn.proofs.value.Tie as tie
 
 abbrev Inv-loop : tie.InvT-loop
 Inv-loop words news last memory word i₀ i =
-    (i ≤ 16) × (latest words news (getD last (word % 64) 0) memory word ≡ latest words news i memory word)
+    (i ≤ maxWrites) × (latest words news (getD last (word % buckets) 0) memory word ≡ latest words news i memory word)
 
 abbrev μ-loop : tie.MeasureT-loop
 μ-loop words news last memory word i₀ i = i
@@ -63,20 +64,5 @@ returns-2 c = let l = c .before .before .loop in
 pub value-spec : {M : Type 1} → statement M
 value-spec =
     tie.close
-    (tie.spec
-    Inv-loop
-    μ-loop
-    element-copy-out-i
-    cast-i
-    loop-holds
-    sub-i
-    mul-if1
-    element-copy-out-if1
-    mul-result
-    element-copy-out-result
-    returns
-    loop-less
-    loop-again
-    mul-result-2
-    shared-slice-read-result
-    returns-2)
+    (tie.spec Inv-loop μ-loop element-copy-out-i cast-i loop-holds sub-i mul-if1 element-copy-out-if1 mul-result
+    element-copy-out-result returns loop-less loop-again mul-result-2 shared-slice-read-result returns-2)

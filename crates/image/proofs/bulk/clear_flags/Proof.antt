@@ -37,14 +37,4 @@ returns c = let l = c .before .loop in filled-all _ _ (l .i) (l .flags) (l .inv 
 
 pub clear-flags-spec : {M : Type 1} → statement M
 clear-flags-spec =
-    tie.close
-    (tie.spec
-    Inv-loop
-    μ-loop
-    loop-holds
-    slice-write-flags
-    add-i
-    loop-less
-    loop-again
-    same-length
-    returns)
+    tie.close (tie.spec Inv-loop μ-loop loop-holds slice-write-flags add-i loop-less loop-again same-length returns)

@@ -55,16 +55,5 @@ returns c = let l = c .before .loop in filled-all _ _ (l .i) (l .words) (l .inv 
 pub clear-whole-words-spec : {M : Type 1} → statement M
 clear-whole-words-spec =
     tie.close
-    (tie.spec
-    Inv-loop
-    μ-loop
-    loop-holds
-    mul-if1
-    slice-read-if1
-    mul-words
-    slice-write-words
-    add-i
-    loop-less
-    loop-again
-    same-length
-    returns)
+    (tie.spec Inv-loop μ-loop loop-holds mul-if1 slice-read-if1 mul-words slice-write-words add-i loop-less loop-again
+    same-length returns)

@@ -1,5 +1,5 @@
--- `image::flush::drain` meets its contract. The loop's invariant: the first i words are drained, and no other is changed. The measure is the number of words left.
--- Assumes nothing.
+-- `image::flush::drain` meets its contract. The loop's invariant: the first i words are drained, and no other is changed. The measure is the
+-- number of words left. Assumes nothing.
 use Prim.Native.Nat.{_≤_, _-_}
 use mathlib.Core.Path.{sym, _∙_}
 use mathlib.Core.Logic.{⊎-elim}
@@ -44,7 +44,9 @@ loop-again c =
     let is = c .before .is-flushed .ensures in (
       search needs,
       ⊎-elim
-          (λ w. rw (w .6, w .7, w .5 .ensures, w .2 .ensures) (drained-copy _ _ _ _ (l .i) (l .nvm) (l .flags) (l .inv .1) (search needs) (search needs) (sym is ∙ w .0 .taken)))
+          (λ w.
+          rw (w .6, w .7, w .5 .ensures, w .2 .ensures)
+          (drained-copy _ _ _ _ (l .i) (l .nvm) (l .flags) (l .inv .1) (search needs) (search needs) (sym is ∙ w .0 .taken)))
           (λ w. rw (w .1, w .2) (drained-skip _ _ _ _ (l .i) (l .nvm) (l .flags) (l .inv .1) (search needs) (search needs) (sym is ∙ w .0 .left)))
           (c .if1 .came),
     )
@@ -61,18 +63,5 @@ returns c = let l = c .before .loop in drained-all _ _ _ _ (l .i) (l .nvm) (l .f
 pub drain-spec : {M : Type 1} → statement M
 drain-spec =
     tie.close
-    (tie.spec
-    Inv-loop
-    μ-loop
-    loop-holds
-    slice-read-flag
-    is-flushed-requires
-    write-back-requires
-    without-flush-requires
-    slice-write-flags
-    add-i
-    loop-less
-    loop-again
-    same-length
-    same-length-2
-    returns)
+    (tie.spec Inv-loop μ-loop loop-holds slice-read-flag is-flushed-requires write-back-requires without-flush-requires
+    slice-write-flags add-i loop-less loop-again same-length same-length-2 returns)

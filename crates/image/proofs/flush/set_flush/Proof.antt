@@ -20,5 +20,4 @@ returns c = rw (c .with-flush .ensures)
 
 pub set-flush-spec : {M : Type 1} → statement M
 set-flush-spec =
-    tie.close
-    (tie.spec slice-read-with-flush with-flush-requires slice-write-flags same-length returns)
+    tie.close (tie.spec slice-read-with-flush with-flush-requires slice-write-flags same-length returns)

@@ -26,5 +26,4 @@ returns c = refl
 
 pub write-back-spec : {M : Type 1} → statement M
 write-back-spec =
-    tie.close
-    (tie.spec mul-nvm shared-slice-read-nvm mul-nvm-2 slice-write-nvm same-length returns)
+    tie.close (tie.spec mul-nvm shared-slice-read-nvm mul-nvm-2 slice-write-nvm same-length returns)

@@ -40,19 +40,11 @@ returns-6 : tie.Need-returns-6
 returns-6 c = let r = c .before in
     let e = r .before .before .before in
     let k = e .before .before in
-    higher-is _ _ _ _ _ _ _ (k .before .before .slot-at .ensures) (k .content .given .1) (e .if2 .left) (r .before .if3 .left) (sym (r .ranks-below .ensures) ∙ not-false _ (c .if4 .left))
+    higher-is _ _ _ _ _ _ _ (k .before .before .slot-at .ensures) (k .content .given .1) (e .if2 .left) (r .before .if3 .left)
+    (sym (r .ranks-below .ensures) ∙ not-false _ (c .if4 .left))
 
 pub higher-spec : {M : Type 1} → statement M
 higher-spec =
     tie.close
-    (tie.spec
-    stamp-high-requires
-    returns
-    slot-at-requires
-    enum-known-content
-    returns-2
-    returns-3
-    returns-4
-    ranks-below-requires
-    returns-5
-    returns-6)
+    (tie.spec stamp-high-requires returns slot-at-requires enum-known-content returns-2 returns-3 returns-4
+    ranks-below-requires returns-5 returns-6)

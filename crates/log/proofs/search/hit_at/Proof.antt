@@ -34,33 +34,42 @@ enum-known-content : tie.Need-enum-known-content
 enum-known-content c = search needs
 
 returns-2 : tie.Need-returns-2
-returns-2 c = let s = c .before in hit-other _ _ _ _ _ _ _ _ _ (s .before .before .before .circular .ensures) (s .slot-at .ensures) (not-stamp _ (c .match .keys2))
+returns-2 c =
+    let s = c .before in
+    hit-other _ _ _ _ _ _ _ _ _ (s .before .before .before .circular .ensures) (s .slot-at .ensures) (not-stamp _ (c .match .keys2))
 
 returns-3 : tie.Need-returns-3
 returns-3 c =
     let k = c .before .before in
     let s = k .before .before in
-    hit-base _ _ _ _ _ _ _ _ _ (s .before .before .before .circular .ensures) (s .slot-at .ensures) (k .content .given .1) (search needs) (search needs) (search needs) (c .if2 .taken)
+    let p = s .before .before .before .before .before .pre .1 in
+    hit-base _ _ _ _ _ _ _ _ _ (s .before .before .before .circular .ensures) (s .slot-at .ensures) (k .content .given .1)
+    (p .0) (p .1 .1 .1) (p .1 .0) (c .if2 .taken)
 
 returns-4 : tie.Need-returns-4
 returns-4 c =
     let k = c .before .before .before in
     let s = k .before .before in
-    hit-low _ _ _ _ _ _ _ _ _ (s .before .before .before .circular .ensures) (s .slot-at .ensures) (k .content .given .1) (search needs) (search needs) (search needs) (c .if3 .taken)
+    let p = s .before .before .before .before .before .pre .1 in
+    hit-low _ _ _ _ _ _ _ _ _ (s .before .before .before .circular .ensures) (s .slot-at .ensures) (k .content .given .1)
+    (p .0) (p .1 .1 .1) (p .1 .0) (c .if3 .taken)
 
 add-if4 : tie.Need-add-if4
 add-if4 c =
     let k = c .before .before .before in
     let s = k .before .before in
-    let a = s .before .before .before .before .before .args in
+    let o = s .before .before .before .before .before in
+    let a = o .args in
     let f = stamp-in (a .words) (now (a .log)) (s .before .before .before .circular .result) _ _ _ (sym (s .slot-at .ensures) ∙ k .content .given .1) in
-    omega arith
+    omega (arith, o .pre .1 .1 .1 .0)
 
 returns-5 : tie.Need-returns-5
 returns-5 c =
     let k = c .before .before .before .before in
     let s = k .before .before in
-    hit-far _ _ _ _ _ _ _ _ _ (s .before .before .before .circular .ensures) (s .slot-at .ensures) (k .content .given .1) (search needs) (search needs) (search needs) (c .if4 .taken)
+    let p = s .before .before .before .before .before .pre .1 in
+    hit-far _ _ _ _ _ _ _ _ _ (s .before .before .before .circular .ensures) (s .slot-at .ensures) (k .content .given .1)
+    (p .0) (p .1 .1 .1) (p .1 .0) (c .if4 .taken)
 
 entries-whole-requires : tie.Need-entries-whole-requires
 entries-whole-requires c κs =
@@ -75,24 +84,13 @@ returns-6 c =
     let t = c .before in
     let k = t .before .before .before .before in
     let s = k .before .before in
+    let p = s .before .before .before .before .before .pre .1 in
     c .entries-whole .ensures
-    ∙ hit-near _ _ _ _ _ _ _ _ _ (s .before .before .before .circular .ensures) (s .slot-at .ensures) (k .content .given .1) (search needs) (search needs) (search needs)
-    (t .before .before .if2 .left) (t .before .if3 .left) (t .if4 .left)
+    ∙ hit-near _ _ _ _ _ _ _ _ _ (s .before .before .before .circular .ensures) (s .slot-at .ensures) (k .content .given .1)
+    (p .0) (p .1 .1 .1) (p .1 .0) (t .before .before .if2 .left) (t .before .if3 .left) (t .if4 .left)
 
 pub hit-at-spec : {M : Type 1} → statement M
 hit-at-spec =
     tie.close
-    (tie.spec
-    add-circular
-    circular-requires
-    stamp-high-requires
-    returns
-    slot-at-requires
-    enum-known-content
-    returns-2
-    returns-3
-    returns-4
-    add-if4
-    returns-5
-    entries-whole-requires
-    returns-6)
+    (tie.spec add-circular circular-requires stamp-high-requires returns slot-at-requires enum-known-content returns-2
+    returns-3 returns-4 add-if4 returns-5 entries-whole-requires returns-6)

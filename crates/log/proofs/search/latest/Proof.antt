@@ -7,6 +7,7 @@ use mathlib.Core.Path.{_≡_, refl, sym, _∙_}
 use native.Mathlib.Omega.{arith}
 use lib.ListN.{length}
 use denote.Ref.{now}
+use Rattle.image.specs.Image.{maxSlots}
 use Rattle.log.specs.Log.{entriesBack}
 use Rattle.log.specs.LogLaws.{stamp-in, back-none, back-more}
 use Rattle.log.specs.Search.{rank}
@@ -21,7 +22,7 @@ abbrev μ-loop : tie.MeasureT-loop
 μ-loop log words slots base stamp slot count wrap i₀ i = count - i
 
 abbrev Inv-stamps : tie.InvT-stamps
-Inv-stamps log words slots base stamp₀ slot₀ stamp slot = (slot ≤ 256) × AllUnder words slots base log (rank stamp slot)
+Inv-stamps log words slots base stamp₀ slot₀ stamp slot = (slot ≤ maxSlots) × AllUnder words slots base log (rank stamp slot)
 
 abbrev μ-stamps : tie.MeasureT-stamps
 μ-stamps log words slots base stamp₀ slot₀ stamp slot = rank stamp slot
@@ -34,10 +35,10 @@ best : (k : tie.Else1 Inv-loop μ-loop Inv-stamps μ-stamps) →
 best k =
     let n = k .before in
     let s = n .before .before .before in
-    next-best _ _ _ _ (s .pre .2) _ _ (n .before .stamps .inv .1) (n .next-candidate .ensures) (k .if1 .left)
+    next-best _ _ _ _ (s .pre .slots-high) _ _ (n .before .stamps .inv .1) (n .next-candidate .ensures) (k .if1 .left)
 
 stamps-holds : tie.Need-stamps-holds Inv-loop μ-loop Inv-stamps μ-stamps
-stamps-holds c = (search needs, under-start _ _ _ _ (c .before .pre .2) (λ i. omega (arith, c .shared-slice-known .given i)))
+stamps-holds c = (search needs, under-start _ _ _ _ (c .before .pre .slots-high) (λ i. omega (arith, c .shared-slice-known .given i)))
 
 next-candidate-requires : tie.Need-next-candidate-requires Inv-loop μ-loop Inv-stamps μ-stamps
 next-candidate-requires c κs = search needs
@@ -46,7 +47,7 @@ returns : tie.Need-returns Inv-loop μ-loop Inv-stamps μ-stamps
 returns c =
     let n = c .before in
     let s = n .before .before .before in
-    nothing-left _ _ _ _ (s .pre .2) _ _ (n .before .stamps .inv .1) (n .next-candidate .ensures) (c .if1 .taken)
+    nothing-left _ _ _ _ (s .pre .slots-high) _ _ (n .before .stamps .inv .1) (n .next-candidate .ensures) (c .if1 .taken)
 
 loop-holds : tie.Need-loop-holds Inv-loop μ-loop Inv-stamps μ-stamps
 loop-holds c = (search needs, back-none _ _ _ _ _)
@@ -73,7 +74,7 @@ stamps-again c =
     let b = best k in
     let bad = sym (c .before .entry-back .ensures) ∙ not-true _ (c .if2 .taken) in (
       omega (arith, b .low),
-      next-under _ _ _ _ (s .pre .2) _ _ (n .before .stamps .inv .1) (n .next-candidate .ensures) (k .if1 .left)
+      next-under _ _ _ _ (s .pre .slots-high) _ _ (n .before .stamps .inv .1) (n .next-candidate .ensures) (k .if1 .left)
           (closed-bad _ _ _ _ _ refl (b .reads) (i .loop .i) (search needs) bad),
     )
 
@@ -95,26 +96,11 @@ returns-2 c =
     let s = n .before .before .before in
     let b = best k in
     let e : i .loop .i ≡ n .next-candidate .result .count = omega arith in
-    next-latest _ _ _ _ (s .pre .2) _ _ (n .before .stamps .inv .1) (n .next-candidate .ensures) (k .if1 .left)
+    next-latest _ _ _ _ (s .pre .slots-high) _ _ (n .before .stamps .inv .1) (n .next-candidate .ensures) (k .if1 .left)
     (closed-whole _ _ _ _ _ refl (b .reads) (b .above) (rw e at (i .loop .inv .1)))
 
 pub latest-spec : {M : Type 1} → statement M
 latest-spec =
     tie.close
-    (tie.spec
-    Inv-loop
-    μ-loop
-    Inv-stamps
-    μ-stamps
-    stamps-holds
-    next-candidate-requires
-    returns
-    loop-holds
-    add-entry-back
-    entry-back-requires
-    stamps-less
-    stamps-again
-    add-i
-    loop-less
-    loop-again
-    returns-2)
+    (tie.spec Inv-loop μ-loop Inv-stamps μ-stamps stamps-holds next-candidate-requires returns loop-holds add-entry-back
+    entry-back-requires stamps-less stamps-again add-i loop-less loop-again returns-2)

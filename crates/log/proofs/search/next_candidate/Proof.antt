@@ -39,13 +39,4 @@ returns c = let l = c .before .loop in
 
 pub next-candidate-spec : {M : Type 1} → statement M
 next-candidate-spec =
-    tie.close
-    (tie.spec
-    Inv-loop
-    μ-loop
-    loop-holds
-    higher-requires
-    add-j
-    loop-less
-    loop-again
-    returns)
+    tie.close (tie.spec Inv-loop μ-loop loop-holds higher-requires add-j loop-less loop-again returns)

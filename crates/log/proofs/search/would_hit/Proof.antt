@@ -1,19 +1,21 @@
--- `log::search::would_hit` meets its contract. The loop's invariant: no slot passed closes a sequence that is hit; the slots after the last one are too far ahead.
--- Assumes nothing.
+-- `log::search::would_hit` meets its contract. The loop's invariant: no slot passed closes a sequence that is hit; the slots after the last one
+-- are too far ahead. Assumes nothing.
 use borrow.Author.Needs.{needs}
 use Prim.Native.Nat.{_+_, _≤_, _-_}
 use mathlib.Core.Bool.{true, false}
 use mathlib.Core.Path.{_≡_, sym, _∙_}
 use native.Mathlib.Omega.{arith}
+use Rattle.slot.specs.Slot.{maxEntries}
 use Rattle.log.specs.SearchLaws.{NoneHit, hits-zero, hits-more, hits-all, hits-found, hits-none, hits-at}
 use Rattle.log.proofs.search.would_hit.Statement.{statement}
 use Rattle.log.proofs.search.would_hit.Tie as tie
 
 abbrev Inv-loop : tie.InvT-loop
-Inv-loop log words slots base next count least distance₀ distance-end distance = (distance ≤ count + 16) × NoneHit words slots base log next count least distance
+Inv-loop log words slots base next count least distance₀ distance-end distance =
+    (distance ≤ count + maxEntries) × NoneHit words slots base log next count least distance
 
 abbrev μ-loop : tie.MeasureT-loop
-μ-loop log words slots base next count least distance₀ distance-end distance = count + 16 - distance
+μ-loop log words slots base next count least distance₀ distance-end distance = count + maxEntries - distance
 
 enum-known-bound : tie.Need-enum-known-bound Inv-loop μ-loop
 enum-known-bound c = search needs
@@ -54,23 +56,11 @@ returns-3 : tie.Need-returns-3 Inv-loop μ-loop
 returns-3 c =
     let l = c .before in
     let a = l .before .before .before .before .before .args in
-    let e : l .loop .distance ≡ a .count + 16 = omega arith in
+    let e : l .loop .distance ≡ a .count + maxEntries = omega arith in
     hits-at _ _ _ _ (l .before .before .bound .given .1) false (hits-all _ _ _ _ _ _ _ (search needs) (search needs) (rw e at (l .loop .inv .1)))
 
 pub would-hit-spec : {M : Type 1} → statement M
 would-hit-spec =
     tie.close
-    (tie.spec
-    Inv-loop
-    μ-loop
-    enum-known-bound
-    enum-told
-    returns
-    add-distance-end
-    loop-holds
-    hit-at-requires
-    returns-2
-    add-distance
-    loop-less
-    loop-again
-    returns-3)
+    (tie.spec Inv-loop μ-loop enum-known-bound enum-told returns add-distance-end loop-holds hit-at-requires returns-2
+    add-distance loop-less loop-again returns-3)

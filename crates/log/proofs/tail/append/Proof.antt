@@ -3,13 +3,14 @@ use borrow.Author.Needs.{needs}
 use Prim.Native.Nat.{_≤_}
 use native.Mathlib.Omega.{arith}
 use lib.ListN.{length}
-use Rattle.log.specs.AppendLaws.{Within, end-within, append-stored, append-flushed, append-ends}
+use Rattle.log.specs.AppendEntries.{Within}
+use Rattle.log.specs.AppendLaws.{end-within, append-stored, append-flushed, append-ends}
 use Rattle.log.proofs.tail.append.Statement.{statement}
 use Rattle.log.proofs.tail.append.Tie as tie
 
 -- the place after the entries is one of the log
 there : (c : tie.After-append-entries) → let a = c .before .before .before .before .before .args in Within (a .slots) (c .append-entries .result)
-there c = end-within _ _ _ _ (c .append-entries .ensures .0) (search needs) (search needs)
+there c = end-within _ _ _ _ (c .append-entries .ensures .0) (c .before .before .before .before .before .pre .1 .0)
 
 append-entries-requires : tie.Need-append-entries-requires
 append-entries-requires c κs = search needs
@@ -34,8 +35,8 @@ returns c =
     let o = c .before .before .before .before .before in
     let p = o .before .before .before in
     let m = p .before .before .before .before .before in
-    let a = m .before .before .before .before .before .args in
-    let h : a .writes .count ≤ length (a .writes .list) = omega arith in
+    let s = m .before .before .before .before .before in
+    let h : s .args .writes .count ≤ length (s .args .writes .list) = omega (arith, s .pre .0 .few, s .pre .0 .full) in
     let e = m .append-entries .ensures in (
       append-ends _ _ _ _ _ (e .0) (c .onward .ensures),
       (
@@ -47,11 +48,5 @@ returns c =
 pub append-spec : {M : Type 1} → statement M
 append-spec =
     tie.close
-    (tie.spec
-    append-entries-requires
-    stamp-requires
-    store-slot-requires
-    onward-requires
-    same-length
-    same-length-2
+    (tie.spec append-entries-requires stamp-requires store-slot-requires onward-requires same-length same-length-2
     returns)

@@ -3,18 +3,20 @@ use borrow.Author.Needs.{needs}
 use Prim.Native.Nat.{_≤_, _-_}
 use mathlib.Core.Path.{_≡_}
 use native.Mathlib.Omega.{arith}
+use Rattle.image.specs.Image.{maxWords}
 use Rattle.log.specs.AppendLaws.{Appended, word-below, appended-none, appended-more}
 use Rattle.log.proofs.tail.append_entries.Statement.{statement}
 use Rattle.log.proofs.tail.append_entries.Tie as tie
 
 abbrev Inv-loop : tie.InvT-loop
-Inv-loop cache₀ flags₀ start slots lane writes end₀ i₀ i-end cache flags end i = (i ≤ writes .count) × Appended start slots lane (writes .list) end₀ cache₀ flags₀ i end cache flags
+Inv-loop cache₀ flags₀ start slots lane writes end₀ i₀ i-end cache flags end i =
+    (i ≤ writes .count) × Appended start slots lane (writes .list) end₀ cache₀ flags₀ i end cache flags
 
 abbrev μ-loop : tie.MeasureT-loop
 μ-loop cache₀ flags₀ start slots lane writes end₀ i₀ i-end cache flags end i = writes .count - i
 
 loop-holds : tie.Need-loop-holds Inv-loop μ-loop
-loop-holds c = (search needs, appended-none _ _ _ _ _ _ _ (record { slot = search needs; wrap = search needs }))
+loop-holds c = (search needs, appended-none _ _ _ _ _ _ _ (c .before .before .pre .1 .0))
 
 mul-write : tie.Need-mul-write Inv-loop μ-loop
 mul-write c = search needs
@@ -26,7 +28,8 @@ entry-requires : tie.Need-entry-requires Inv-loop μ-loop
 entry-requires c κs = let l = c .before .before .loop in
     let s = c .before .before .before .before .before in
     let a = s .args in
-    (omega (arith, word-below 1024 (a .t6 .count) (l .i) (a .t6 .list) (s .pre .2) (c .before .loop-test .taken) (omega arith)), l .inv .1 .within .wrap)
+    let w = s .pre .0 in
+    (omega (arith, word-below maxWords (a .t6 .count) (l .i) (a .t6 .list) (w .low) (c .before .loop-test .taken) (omega arith)), l .inv .1 .within .wrap)
 
 store-slot-requires : tie.Need-store-slot-requires Inv-loop μ-loop
 store-slot-requires c κs = let l = c .before .before .before .before .before .loop in
@@ -44,8 +47,15 @@ loop-less c = search needs
 
 loop-again : tie.Need-loop-again Inv-loop μ-loop
 loop-again c = let o = c .before .before .before .before .before in
-    let l = o .before .before .before .before .before .before .loop in
-    (search needs, appended-more _ _ _ _ _ _ _ (l .i) (l .end) (l .cache) (l .flags) _ (o .before .before .before .entry .result) _ _ (l .inv .1) (search needs) (o .before .before .before .entry .ensures) (c .onward .ensures) (o .store-slot .ensures .0) (o .store-slot .ensures .1))
+    let t = o .before .before .before .before .before in
+    let l = t .before .loop in
+    let w = t .before .before .before .before .pre .0 in
+    let e = o .before .before .before .entry in (
+      search needs,
+      appended-more _ _ _ _ _ _ _ (l .i) (l .end) (l .cache) (l .flags) _ (e .result) _ _ (l .inv .1)
+          (omega (arith, w .few, w .full, t .loop-test .taken)) (e .ensures) (c .onward .ensures) (o .store-slot .ensures .0)
+          (o .store-slot .ensures .1),
+    )
 
 same-length : tie.Need-same-length Inv-loop μ-loop
 same-length c = search needs
@@ -61,18 +71,5 @@ returns c = let l = c .before .loop in
 pub append-entries-spec : {M : Type 1} → statement M
 append-entries-spec =
     tie.close
-    (tie.spec
-    Inv-loop
-    μ-loop
-    loop-holds
-    mul-write
-    element-copy-out-write
-    entry-requires
-    store-slot-requires
-    onward-requires
-    add-i
-    loop-less
-    loop-again
-    same-length
-    same-length-2
-    returns)
+    (tie.spec Inv-loop μ-loop loop-holds mul-write element-copy-out-write entry-requires store-slot-requires
+    onward-requires add-i loop-less loop-again same-length same-length-2 returns)

@@ -51,16 +51,5 @@ returns c = let a = c .before .before .before .before .before .before .before .a
 pub restamp-spec : {M : Type 1} → statement M
 restamp-spec =
     tie.close
-    (tie.spec
-    mul-at
-    add-at
-    mul-wrap
-    slice-read-wrap
-    add-value
-    add-cache
-    mul-cache
-    slice-write-cache
-    set-flush-requires
-    same-length
-    same-length-2
-    returns)
+    (tie.spec mul-at add-at mul-wrap slice-read-wrap add-value add-cache mul-cache slice-write-cache set-flush-requires
+    same-length same-length-2 returns)

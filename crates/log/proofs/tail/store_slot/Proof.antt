@@ -42,23 +42,14 @@ same-length-2 : tie.Need-same-length-2
 same-length-2 c = search needs
 
 returns : tie.Need-returns
-returns c = let a = c .before .before .before .before .before .before .before .before .before .before .args in
-    (slot-stored _ _ _ _, slot-flushed (a .lane) (a .start) (a .j) (a .slot) (now (a .flags)) _ _ (c .before .before .before .before .before .before .set-flush .ensures) (c .before .before .set-flush2 .ensures))
+returns c =
+    let s = c .before .before .before .before .before .before in
+    let a = s .before .before .before .before .args in
+    let flushed = slot-flushed (a .lane) (a .start) (a .j) (a .slot) (now (a .flags)) in
+    (slot-stored _ _ _ _, flushed _ _ (s .set-flush .ensures) (c .before .before .set-flush2 .ensures))
 
 pub store-slot-spec : {M : Type 1} → statement M
 store-slot-spec =
     tie.close
-    (tie.spec
-    mul-at
-    add-at
-    mul-cache
-    slice-write-cache
-    set-flush-requires
-    add-cache
-    mul-cache-2
-    slice-write-cache-2
-    add-set-flush
-    set-flush-requires-2
-    same-length
-    same-length-2
-    returns)
+    (tie.spec mul-at add-at mul-cache slice-write-cache set-flush-requires add-cache mul-cache-2 slice-write-cache-2
+    add-set-flush set-flush-requires-2 same-length same-length-2 returns)

@@ -1,30 +1,47 @@
--- `recovery::scan::offer` meets its contract. The loop's invariant: the slots below slot j are offered, and their timestamps counted in. The measure is the number of slots left.
--- Assumes nothing.
+-- `recovery::scan::offer` meets its contract. The loop's invariant: the slots below slot j are offered, and their timestamps counted in. The measure is the
+-- number of slots left. Assumes nothing.
 use Prim.Native.Nat.{_≤_, _-_}
-use mathlib.Core.Path.{sym, _∙_}
+use mathlib.Core.Path.{_≡_, sym, ap, _∙_}
 use native.Mathlib.Omega.{arith}
+use denote.Ref.{now}
 use borrow.Author.Needs.{needs}
-use Rattle.image.specs.Image.{imageLength, baseOf}
+use Rattle.image.specs.Image.{imageLength, baseOf, logOf}
 use Rattle.image.specs.ImageLaws.{sizes-in}
+use Rattle.log.specs.Log.{slotAt}
 use Rattle.recovery.specs.ScanLaws.{OfferedTo, offered-start, offered-more, offered-all}
 use Rattle.recovery.proofs.scan.offer.Statement.{statement}
 use Rattle.recovery.proofs.scan.offer.Tie as tie
 
 abbrev Inv-loop : tie.InvT-loop
-Inv-loop sizes nvm lane stamps₀ greatest base most₀ j₀ j-end stamps most j = (j ≤ j-end) × OfferedTo sizes nvm lane greatest j stamps most
+Inv-loop sizes nvm lane stamps₀ greatest base log most₀ j₀ j-end stamps most j = (j ≤ j-end) × OfferedTo sizes nvm lane greatest j stamps most
 
 abbrev μ-loop : tie.MeasureT-loop
-μ-loop sizes nvm lane stamps₀ greatest base most₀ j₀ j-end stamps most j = j-end - j
+μ-loop sizes nvm lane stamps₀ greatest base log most₀ j₀ j-end stamps most j = j-end - j
+
+abbrev start : tie.At-loop Inv-loop μ-loop → tie.Start Inv-loop μ-loop
+start l = l .before .before .before .before .before
+
+-- the slot is read from the lane's log
+reads : (s : tie.After-slot-at Inv-loop μ-loop) →
+    let l = s .before .before in
+    let a = start l .args in
+    s .slot-at .result ≡ slotAt (a .sizes .words) (logOf (a .sizes) (a .lane) (now (a .nvm))) (l .loop .j)
+reads s =
+    let l = s .before .before in
+    s .slot-at .ensures ∙ ap (λ x. slotAt (start l .args .sizes .words) x (l .loop .j)) (l .before .log-part .ensures .0)
 
 shared-slice-read-base : tie.Need-shared-slice-read-base Inv-loop μ-loop
 unfolding imageLength
 shared-slice-read-base c = omega arith
 
+log-part-requires : tie.Need-log-part-requires Inv-loop μ-loop
+log-part-requires c κs = search needs
+
 loop-holds : tie.Need-loop-holds Inv-loop μ-loop
 loop-holds c = (search needs, offered-start _ _ _ _ _ (search needs))
 
-slot-in-requires : tie.Need-slot-in-requires Inv-loop μ-loop
-slot-in-requires c κs = search needs
+slot-at-requires : tie.Need-slot-at-requires Inv-loop μ-loop
+slot-at-requires c κs = omega (arith, c .before .before .log-part .ensures .1 .in-log)
 
 whole-stamp-requires : tie.Need-whole-stamp-requires Inv-loop μ-loop
 whole-stamp-requires c κs = search needs
@@ -33,7 +50,7 @@ offered-requires : tie.Need-offered-requires Inv-loop μ-loop
 offered-requires c κs = search needs
 
 mul-stamps : tie.Need-mul-stamps Inv-loop μ-loop
-mul-stamps c = omega (arith, sizes-in _ (c .before .before .before .before .before .before .before .before .pre .0) .slots-high)
+mul-stamps c = omega (arith, sizes-in _ (start (c .before .before .before .before) .pre .0 .sizes-ok) .slots-high)
 
 slice-write-stamps : tie.Need-slice-write-stamps Inv-loop μ-loop
 slice-write-stamps c = omega (arith, c .before .before .before .before .loop .inv .1 .long)
@@ -42,7 +59,7 @@ greater-requires : tie.Need-greater-requires Inv-loop μ-loop
 greater-requires c κs = search needs
 
 add-j : tie.Need-add-j Inv-loop μ-loop
-add-j c = omega (arith, sizes-in _ (c .before .before .before .before .before .before .before .before .before .pre .0) .slots-high)
+add-j c = omega (arith, sizes-in _ (start (c .before .before .before .before .before) .pre .0 .sizes-ok) .slots-high)
 
 loop-less : tie.Need-loop-less Inv-loop μ-loop
 loop-less c = search needs
@@ -53,11 +70,14 @@ loop-again c =
     let o = c .before in
     let w = o .before in
     let s = w .before in
-    let l = s .before .before .loop in
-    (search needs, offered-more _ _ _ _ (l .j) (l .stamps) (l .most) (l .inv .1) (search needs) _ _ _ _ (s .slot-in .ensures) (w .whole-stamp .ensures) (o .offered .ensures) (c .greater .ensures))
+    let l = s .before .before .loop in (
+      search needs,
+      offered-more _ _ _ _ (l .j) (l .stamps) (l .most) (l .inv .1) (search needs) _ _ _ _ (reads s) (w .whole-stamp .ensures)
+          (o .offered .ensures) (c .greater .ensures),
+    )
 
 same-length : tie.Need-same-length Inv-loop μ-loop
-same-length c = c .before .loop .inv .1 .long ∙ sym (c .before .before .before .before .before .pre .3)
+same-length c = c .before .loop .inv .1 .long ∙ sym (start (c .before) .pre .1 .1)
 
 returns : tie.Need-returns Inv-loop μ-loop
 returns c =
@@ -71,8 +91,9 @@ offer-spec =
     Inv-loop
     μ-loop
     shared-slice-read-base
+    log-part-requires
     loop-holds
-    slot-in-requires
+    slot-at-requires
     whole-stamp-requires
     offered-requires
     mul-stamps

@@ -14,10 +14,14 @@ build-requires : tie.Need-build-requires
 build-requires c κs =
     let o = c .before .before .before .before in
     let s = o .before .before .before .before .before in
-    lane-bracket _ (s .pre .0) _ _ (o .offer .ensures .0 .long) (s .pre .4)
+    lane-bracket _ (s .pre .0 .sizes-ok) _ _ (o .offer .ensures .0 .long) (s .pre .1 .1 .1)
 
 latest-requires : tie.Need-latest-requires
-latest-requires c κs = search needs
+latest-requires c κs =
+    let b = c .before .before .before .before in
+    let o = b .before .before .before .before .before in
+    let s = o .before .before .before .before .before in
+    (s .pre .0, (s .pre .1 .0, (o .offer .ensures .0, b .build .ensures)))
 
 lesser-requires : tie.Need-lesser-requires
 lesser-requires c κs = search needs
@@ -32,8 +36,10 @@ returns : tie.Need-returns
 returns c =
     let l = c .before .before .before .before .before in
     let o = l .before .before .before .before .before .before .before .before .before .before in
-    let s = o .before .before .before .before .before in
-    (c .lesser .ensures ∙ ap (lesser (s .args .found .boundary)) (l .latest .ensures .0), (o .offer .ensures .1, (l .latest .ensures .1 .0, l .latest .ensures .1 .1)))
+    let s = o .before .before .before .before .before in (
+      c .lesser .ensures ∙ ap (lesser (s .args .found .boundary)) (l .latest .ensures .0),
+      (o .offer .ensures .1, (l .latest .ensures .1 .0, l .latest .ensures .1 .1)),
+    )
 
 pub read-lane-spec : {M : Type 1} → statement M
 read-lane-spec =

@@ -1,12 +1,12 @@
--- `recovery::scan::scan` meets its contract. The loop's invariant: the lanes below `lane` are read, each into its part of the arrays. The measure is the number of lanes left.
--- Assumes nothing.
+-- `recovery::scan::scan` meets its contract. The loop's invariant: the lanes below `lane` are read, each into its part of the arrays. The measure is the number
+-- of lanes left. Assumes nothing.
 use Prim.Native.Nat.{_+_, _*_, _-_, _≤_}
 use mathlib.Core.Path.{refl, sym, _∙_}
 use native.Mathlib.Omega.{arith}
 use lib.ListN.{length}
 use denote.Ref.{now}
 use borrow.Author.Needs.{needs}
-use Rattle.image.specs.Image.{imageLength}
+use Rattle.image.specs.Image.{maxLanes, maxSlots, imageLength}
 use Rattle.image.specs.ImageLaws.{sizes-in}
 use Rattle.recovery.specs.LanesLaws.{numbers-small, lane-inside, lent-long}
 use Rattle.recovery.specs.ScanLaws.{Scanned, scanned-none, scanned-more, scanned-all}
@@ -14,7 +14,8 @@ use Rattle.recovery.proofs.scan.scan.Statement.{statement}
 use Rattle.recovery.proofs.scan.scan.Tie as tie
 
 abbrev Inv-loop : tie.InvT-loop
-Inv-loop sizes nvm stamps₀ tree₀ slots found₀ lane₀ lane-end stamps tree found lane = (lane ≤ lane-end) × Scanned sizes nvm (length stamps₀) lane stamps tree (found .boundary) (found .base)
+Inv-loop sizes nvm stamps₀ tree₀ slots found₀ lane₀ lane-end stamps tree found lane = (lane ≤ lane-end)
+    × Scanned sizes nvm (length stamps₀) lane stamps tree (found .boundary) (found .base)
 
 abbrev μ-loop : tie.MeasureT-loop
 μ-loop sizes nvm stamps₀ tree₀ slots found₀ lane₀ lane-end stamps tree found lane = lane-end - lane
@@ -22,11 +23,12 @@ abbrev μ-loop : tie.MeasureT-loop
 abbrev start : tie.In-loop Inv-loop μ-loop → tie.Start Inv-loop μ-loop
 start c = c .before .before .before .before .before .before
 
-inside : (c : tie.In-loop Inv-loop μ-loop) → c .before .loop .lane * start c .args .sizes .slots + start c .args .sizes .slots ≤ 2048
-inside c = lane-inside (start c .args .sizes) (c .before .loop .lane) 2048 (numbers-small _ (start c .pre .0)) (search needs)
+inside : (c : tie.In-loop Inv-loop μ-loop) → c .before .loop .lane * start c .args .sizes .slots + start c .args .sizes .slots ≤ maxLanes * maxSlots
+inside c = lane-inside (start c .args .sizes) (c .before .loop .lane) _ (numbers-small _ (start c .pre .0 .sizes-ok)) (search needs)
 
-fits : (c : tie.In-loop Inv-loop μ-loop) → c .before .loop .lane * start c .args .sizes .slots + start c .args .sizes .slots ≤ length (now (start c .args .stamps))
-fits c = lane-inside (start c .args .sizes) (c .before .loop .lane) _ (start c .pre .2) (search needs)
+fits : (c : tie.In-loop Inv-loop μ-loop)
+    → c .before .loop .lane * start c .args .sizes .slots + start c .args .sizes .slots ≤ length (now (start c .args .stamps))
+fits c = lane-inside (start c .args .sizes) (c .before .loop .lane) _ (start c .pre .1 .enough) (search needs)
 
 shared-slice-read-t12 : tie.Need-shared-slice-read-t12 Inv-loop μ-loop
 unfolding imageLength
@@ -69,11 +71,19 @@ read-lane-requires : tie.Need-read-lane-requires Inv-loop μ-loop
 read-lane-requires c κs =
     let i = c .before .before in
     let l = i .before .loop in
-    let p = start i .pre in
-    (p .0, p .1, search needs, lent-long (start i .args .sizes .slots) (l .lane) (l .stamps) (rw (l .inv .1 .trees .long) (fits i)), lent-long (start i .args .sizes .slots) (l .lane) (l .tree) (rw (l .inv .1 .trees .tree-long) (fits i)))
+    let p = start i .pre in (
+      p .0,
+      (
+        search needs,
+        (
+          lent-long (start i .args .sizes .slots) (l .lane) (l .stamps) (rw (l .inv .1 .trees .long) (fits i)),
+          lent-long (start i .args .sizes .slots) (l .lane) (l .tree) (rw (l .inv .1 .trees .tree-long) (fits i)),
+        ),
+      ),
+    )
 
 add-lane : tie.Need-add-lane Inv-loop μ-loop
-add-lane c = omega (arith, sizes-in _ (start (c .before .before .before .before .before .before .before) .pre .0) .lanes-high)
+add-lane c = omega (arith, sizes-in _ (start (c .before .before .before .before .before .before .before) .pre .0 .sizes-ok) .lanes-high)
 
 loop-less : tie.Need-loop-less Inv-loop μ-loop
 loop-less c = search needs
@@ -83,14 +93,17 @@ loop-again c =
     let r = c .before .before .before .before in
     let i = r .before .before .before in
     let l = i .before .loop in
-    let e = r .read-lane .ensures in
-    (search needs, scanned-more _ _ _ (start i .pre .2) (l .lane) (l .stamps) (l .tree) _ _ (l .inv .1) (search needs) _ _ (e .1 .1 .0) (e .1 .1 .1) _ _ (e .0) (e .1 .0))
+    let e = r .read-lane .ensures in (
+      search needs,
+      scanned-more _ _ _ (start i .pre .1 .enough) (l .lane) (l .stamps) (l .tree) _ _ (l .inv .1) (search needs) _ _ (e .1 .1 .0) (e .1 .1 .1) _ _ (e .0)
+          (e .1 .0),
+    )
 
 same-length : tie.Need-same-length Inv-loop μ-loop
 same-length c = c .before .loop .inv .1 .trees .long
 
 same-length-2 : tie.Need-same-length-2 Inv-loop μ-loop
-same-length-2 c = c .before .loop .inv .1 .trees .tree-long ∙ sym (c .before .before .before .before .before .before .pre .3)
+same-length-2 c = c .before .loop .inv .1 .trees .tree-long ∙ sym (c .before .before .before .before .before .before .pre .1 .tree-long)
 
 returns : tie.Need-returns Inv-loop μ-loop
 returns c =

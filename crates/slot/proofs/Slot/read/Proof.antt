@@ -68,15 +68,4 @@ returns-6 c =
 
 pub read-spec : {M : Type 1} → statement M
 read-spec =
-    tie.close
-    (tie.spec
-    returns
-    returns-2
-    returns-3
-    sub-t17
-    add-t18
-    returns-4
-    add-if8
-    sub-t25
-    returns-5
-    returns-6)
+    tie.close (tie.spec returns returns-2 returns-3 sub-t17 add-t18 returns-4 add-if8 sub-t25 returns-5 returns-6)
