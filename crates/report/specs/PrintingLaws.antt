@@ -13,7 +13,7 @@ use Rattle.laws.specs.Tests.{split}
 use Rattle.log.specs.declared.Timestamp.{Timestamp}
 use Rattle.log.specs.declared.Timestamp.the-variants.{None, At}
 use Rattle.io.specs.Digits.{digits, glyph, Fewest}
-use Rattle.report.specs.Report.{digitsOf, decimal, stampText, boundaryLine, wordLine, wordLines, putAt, Put}
+use Rattle.report.specs.Report.{maxDigits, boundaryRoom, wordRoom, digitsOf, decimal, stampText, boundaryLine, wordLine, wordLines, putAt, Put}
 
 -- ---- a text in a buffer
 module _ (at : ℕ) (text buffer : List ℕ) (h : at + length text ≤ length buffer) where
@@ -61,17 +61,21 @@ put-then {at} {s} {buffer} {next} {between} {t} {last} {after} p q =
         ap (λ l. (l ++ t) ++ drop (at + length s + length t) (putAt at s buffer)) (take-put at s buffer h)
         ∙ ap (λ l. ((take at buffer ++ s) ++ t) ++ l) (drop-put at s buffer h (length t))
         ∙ ap (λ l. l ++ drop (at + length s + length t) buffer) (append-assoc (take at buffer) s t)
-        ∙ ap (λ n. (take at buffer ++ (s ++ t)) ++ drop n buffer) (let e : at + length s + length t ≡ at + length (s ++ t) = omega (arith, length-append s t) in e)
+        ∙ ap (λ n. (take at buffer ++ (s ++ t)) ++ drop n buffer)
+        (let e : at + length s + length t ≡ at + length (s ++ t) = omega (arith, length-append s t) in e)
 
 -- ---- a text, as a loop copies it
-pub copied-more : (buffer : List ℕ) (at : ℕ) (text : List ℕ) (i : ℕ) (copied : List ℕ) → at + length text ≤ length buffer → i < length text → copied ≡ paste buffer at text i
+pub copied-more : (buffer : List ℕ) (at : ℕ) (text : List ℕ) (i : ℕ) (copied : List ℕ) → at + length text ≤ length buffer → i < length text
+    → copied ≡ paste buffer at text i
     → set copied (at + i) (getD text i 0) ≡ paste buffer at text (i + 1)
 copied-more buffer at text i copied h k e = rw (e, add-one i) (paste-suc buffer at text i 0 (omega arith) k)
 
-pub copied-all : (buffer : List ℕ) (at : ℕ) (text : List ℕ) (i : ℕ) (copied : List ℕ) → at + length text ≤ length buffer → i ≡ length text → copied ≡ paste buffer at text i
+pub copied-all : (buffer : List ℕ) (at : ℕ) (text : List ℕ) (i : ℕ) (copied : List ℕ) → at + length text ≤ length buffer → i ≡ length text
+    → copied ≡ paste buffer at text i
     → Put at text buffer (at + length text) copied
 unfolding putAt
-copied-all buffer at text i copied h k e = record { fits = h; ends = refl; left = e ∙ rw k (ap (λ l. take at buffer ++ l ++ drop (at + length text) buffer) (take-length text)) }
+copied-all buffer at text i copied h k e =
+    record { fits = h; ends = refl; left = e ∙ rw k (ap (λ l. take at buffer ++ l ++ drop (at + length text) buffer) (take-length text)) }
 
 -- ---- digits
 -- the digits that `io::decimal` spells are the fewest that hold the number
@@ -85,27 +89,29 @@ pub digits-are : (most k n : ℕ) → Fewest 10 1 n k → k ≤ most → digits 
 unfolding digitsOf
 digits-are most zero n f h = absurd (omega arith)
 digits-are zero (suc k) n f h = absurd (omega arith)
-digits-are (suc most) (suc zero) n f h = rw (lt-ltb n 10 (omega arith)) (ap (λ d. d ∷ []) (glyph-digit (n % 10) (omega arith) ∙ (let e : 48 + n % 10 ≡ 48 + n = omega arith in e)))
+digits-are (suc most) (suc zero) n f h =
+    rw (lt-ltb n 10 (omega arith)) (ap (λ d. d ∷ []) (glyph-digit (n % 10) (omega arith) ∙ (let e : 48 + n % 10 ≡ 48 + n = omega arith in e)))
 digits-are (suc most) (suc (suc k)) n f h =
     let low : 10 ^ suc k ≤ n = above k n f in
     let p : 10 ^ suc k ≡ 10 * 10 ^ k = pow-succ' 10 k in
     let q : 10 ^ suc (suc k) ≡ 10 * 10 ^ suc k = pow-succ' 10 (suc k) in
     let o : 1 ≤ 10 ^ k = one-le-pow k 10 (omega arith) in
     let fewer : Fewest 10 1 (n / 10) (suc k) = (omega arith, omega (arith, f .1), λ _. rw (let e : suc k - 1 ≡ k = omega arith in e) (omega arith)) in
-    rw (le-ltb n 10 (omega arith), glyph-digit (n % 10) (omega arith)) (ap (λ l. l ++ ((48 + n % 10) ∷ [])) (digits-are most (suc k) (n / 10) fewer (omega arith)))
+    rw (le-ltb n 10 (omega arith), glyph-digit (n % 10) (omega arith))
+    (ap (λ l. l ++ ((48 + n % 10) ∷ [])) (digits-are most (suc k) (n / 10) fewer (omega arith)))
 
-pub decimal-are : (k n : ℕ) → Fewest 10 1 n k → k ≤ 20 → digits 10 k n ≡ decimal n
+pub decimal-are : (k n : ℕ) → Fewest 10 1 n k → k ≤ maxDigits → digits 10 k n ≡ decimal n
 unfolding decimal
-decimal-are k n f h = digits-are 20 k n f h
+decimal-are k n f h = digits-are maxDigits k n f h
 
--- a word has at most 20 of them
-pub fewest-few : (n k : ℕ) → n < 2 ^ 64 → Fewest 10 1 n k → k ≤ 20
+-- a word has at most maxDigits of them
+pub fewest-few : (n k : ℕ) → n < 2 ^ 64 → Fewest 10 1 n k → k ≤ maxDigits
 fewest-few n k h f =
-    split (leb k 20)
-    (λ e. leb-true k 20 e)
+    split (leb k maxDigits)
+    (λ e. leb-true k maxDigits e)
     (λ e.
-    let more : 20 < k = leb-false k 20 e in
-    let p : 10 ^ 20 ≤ 10 ^ (k - 1) = pow-le-pow-right {n = 10} (omega arith) {i = 20} {j = k - 1} (omega arith) in
+    let more : maxDigits < k = leb-false k maxDigits e in
+    let p : 10 ^ maxDigits ≤ 10 ^ (k - 1) = pow-le-pow-right {n = 10} (omega arith) {i = maxDigits} {j = k - 1} (omega arith) in
     absurd (omega (arith, f .2 (omega arith))))
 
 digits-few : (most n : ℕ) → length (digitsOf most n) ≤ most
@@ -116,12 +122,12 @@ digits-few (suc most) n =
     (λ e. rw e (omega arith))
     (λ e. rw (e, length-append (digitsOf most (n / 10)) ((48 + n % 10) ∷ [])) (omega (arith, digits-few most (n / 10))))
 
-pub decimal-few : (n : ℕ) → length (decimal n) ≤ 20
+pub decimal-few : (n : ℕ) → length (decimal n) ≤ maxDigits
 unfolding decimal
-decimal-few n = digits-few 20 n
+decimal-few n = digits-few maxDigits n
 
 -- ---- lines
-pub line-short : (i v : ℕ) → length (wordLine i v) ≤ 42
+pub line-short : (i v : ℕ) → length (wordLine i v) ≤ wordRoom
 unfolding wordLine
 line-short i v =
     simp length-append (omega (arith, decimal-few i, decimal-few v))
@@ -134,7 +140,7 @@ pub lines-more : (ws : List ℕ) (n : ℕ) → wordLines ws (n + 1) ≡ wordLine
 unfolding wordLines
 lines-more ws n = rw (add-one n)
 
-pub lines-short : (ws : List ℕ) (n : ℕ) → length (wordLines ws n) ≤ 42 * n
+pub lines-short : (ws : List ℕ) (n : ℕ) → length (wordLines ws n) ≤ wordRoom * n
 unfolding wordLines
 lines-short ws zero = omega arith
 lines-short ws (suc n) = rw length-append (omega (arith, lines-short ws n, line-short n (getD ws n 0)))
@@ -148,11 +154,11 @@ pub put-room : {at : ℕ} {s buffer : List ℕ} {next : ℕ} {after : List ℕ} 
     → next + m ≤ length after
 put-room k m p h r = omega (arith, put-long p, p .ends)
 
-pub stamp-few : (s : Timestamp) → length (stampText s) ≤ 20
+pub stamp-few : (s : Timestamp) → length (stampText s) ≤ maxDigits
 unfolding stampText
 stamp-few None = omega arith
 stamp-few (At s) = decimal-few s
 
-pub boundary-short : (b : Timestamp) → length (boundaryLine b) ≤ 30
+pub boundary-short : (b : Timestamp) → length (boundaryLine b) ≤ boundaryRoom
 unfolding boundaryLine
 boundary-short b = simp length-append (omega (arith, stamp-few b))

@@ -32,7 +32,8 @@ little-none (b ∷ bs) = refl
 -- four bytes, and what follows them
 module _ (input : List ℕ) (at n : ℕ) (h : at + 4 ≤ length input) where
   little-four : littleEndian (take (suc (suc (suc (suc n)))) (drop at input))
-      ≡ getD input at 0 + 256 * (getD input (at + 1) 0 + 256 * (getD input (at + 2) 0 + 256 * (getD input (at + 3) 0 + 256 * littleEndian (take n (drop (at + 4) input)))))
+      ≡ getD input at 0 + 256 * (getD input (at + 1) 0 + 256
+      * (getD input (at + 2) 0 + 256 * (getD input (at + 3) 0 + 256 * littleEndian (take n (drop (at + 4) input)))))
   little-four =
       let a = little-more input at (at + 1) (suc (suc (suc n))) (omega arith) (omega arith) in
       let b = little-more input (at + 1) (at + 2) (suc (suc n)) (omega arith) (omega arith) in

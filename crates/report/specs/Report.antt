@@ -1,18 +1,17 @@
 -- What program `recover` prints: words out of bytes, the one refusal of its own, and the lines of a report. 01, "Bench sheet". Assumes nothing.
 use Prim.Native.Nat.{ℕ, zero, suc, _+_, _-_, _*_, _/_, _%_, _^_, _≤_}
-use mathlib.Core.Bool.{Bool, cond, _&&_}
+use mathlib.Core.Bool.{Bool, true, cond, _&&_}
 use mathlib.Core.List.{List, [], _∷_, _++_}
 use mathlib.Core.Path.{_≡_}
 use lib.Dec.{leb, ltb, eqb}
 use lib.ListN.{length, getD, take, drop, replicate}
-use Rattle.image.specs.Image.{sizesOk, imageLength, dataOf}
+use Rattle.image.specs.Image.{maxWords, maxImage, sizesOk, imageLength, dataOf}
 use Rattle.image.specs.declared.Sizes.{Sizes}
 use Rattle.log.specs.declared.Timestamp.{Timestamp}
 use Rattle.log.specs.declared.Timestamp.the-variants.{None, At}
 use Rattle.store.specs.Interface.{blankOf}
-use Rattle.recovery.specs.Recovery.{Restarted, recoverStep}
+use Rattle.recovery.specs.Recovery.{Restarted, recoverStep, told}
 use Rattle.recovery.specs.declared.Recovered.{Recovered}
-use Rattle.recovery.specs.declared.Recovered.the-variants.{Refused, Cut, Finished}
 
 -- ---- reading
 -- the number that bytes spell, the least significant byte first
@@ -41,15 +40,23 @@ imageIn input = wordsIn input (imageLength (sizesIn input))
 unfoldable pub wellFormed : List ℕ → Bool
 wellFormed input = sizesOk (sizesIn input) && eqb (length input) (8 * (3 + imageLength (sizesIn input)))
 
+-- the sizes of a well formed input
+pub record SizesOf (z : Sizes) (input : List ℕ) : Type 0 where
+  pub well : wellFormed input ≡ true
+  pub sizes : z ≡ sizesIn input
+
 -- ---- printing, in ASCII
 -- the decimal digits of a number, the fewest that hold it and at most k
 unfoldable pub digitsOf : (k : ℕ) → ℕ → List ℕ
 digitsOf zero n = []
 digitsOf (suc k) n = cond (ltb n 10) ((48 + n) ∷ []) (digitsOf k (n / 10) ++ ((48 + n % 10) ∷ []))
 
--- those of a word: 2 ^ 64 - 1 has 20
+-- those of a word: 2 ^ 64 - 1 has the most
+abbrev pub maxDigits : ℕ
+maxDigits = 20
+
 unfoldable pub decimal : ℕ → List ℕ
-decimal n = digitsOf 20 n
+decimal n = digitsOf maxDigits n
 
 abbrev pub space : List ℕ
 space = 32 ∷ []
@@ -97,6 +104,12 @@ noLimit = 2 ^ 64 - 1
 unfoldable pub blank : (n : ℕ) → List ℕ
 blank n = replicate n 0
 
+-- buffers of one image, with nothing in cache and flags
+pub record Blanks (z : Sizes) (cache nvm flags : List ℕ) : Type 0 where
+  pub no-cache : cache ≡ blank (imageLength z)
+  pub in-nvm : length nvm ≡ imageLength z
+  pub no-flags : flags ≡ blank (imageLength z)
+
 -- recovery of the image of an input, with nothing in cache and flags
 unfoldable pub recoveredFrom : Sizes → (image : List ℕ) → Restarted
 recoveredFrom z image = recoverStep z noLimit (blankOf (blank (imageLength z)) image (blank (imageLength z)))
@@ -105,11 +118,10 @@ recoveredFrom z image = recoverStep z noLimit (blankOf (blank (imageLength z)) i
 unfoldable pub finishedText : Sizes → (nvm : List ℕ) → Timestamp → List ℕ
 finishedText z nvm b = boundaryLine b ++ wordLines (dataOf z nvm) z.words
 
--- what is printed of its answer; without a limit it is never cut
+-- what is printed of what its answer tells; without a limit it is never cut
 unfoldable pub answerText : Sizes → (nvm : List ℕ) → Recovered → List ℕ
-answerText z nvm (Refused number) = refusedLine number
-answerText z nvm Cut = []
-answerText z nvm (Finished f) = finishedText z nvm (f .boundary)
+answerText z nvm a =
+    cond (told a .refused) (refusedLine (told a .number)) (cond (told a .cut) [] (finishedText z nvm (told a .boundary)))
 
 unfoldable pub restartText : Sizes → Restarted → List ℕ
 restartText z r = answerText z (r .machine .nvm) (r .answer)
@@ -119,9 +131,19 @@ unfoldable pub reportOf : (input : List ℕ) → List ℕ
 reportOf input = cond (wellFormed input) (restartText (sizesIn input) (recoveredFrom (sizesIn input) (imageIn input))) (refusedLine 1)
 
 -- ---- where it is printed
--- a report has at most this many bytes: 30 for the boundary, 42 for each of 1,024 words
+-- the most bytes of a line: `boundary ` or `refused ` and a number, or two numbers and a space, and the newline
+abbrev pub boundaryRoom : ℕ
+boundaryRoom = 9 + maxDigits + 1
+
+abbrev pub refusedRoom : ℕ
+refusedRoom = 8 + maxDigits + 1
+
+abbrev pub wordRoom : ℕ
+wordRoom = maxDigits + 1 + maxDigits + 1
+
+-- a report has at most this many bytes: the line of the boundary, and one for each data word
 abbrev pub room : ℕ
-room = 43038
+room = boundaryRoom + wordRoom * maxWords
 
 -- what is printed into a buffer of a length: nothing where a report might not fit
 unfoldable pub printedOf : (size : ℕ) → (input : List ℕ) → List ℕ
@@ -138,9 +160,9 @@ pub record Put (at : ℕ) (text buffer : List ℕ) (next : ℕ) (after : List �
   pub left : after ≡ putAt at text buffer
 
 -- ---- from standard input to standard output
--- no well formed input is longer: three sizes, and an image of 5,121 words
+-- no well formed input is longer: three sizes, and the longest image
 abbrev pub longest : ℕ
-longest = 40992
+longest = 8 * (3 + maxImage)
 
 -- r bytes are the report of an input: all that was read, and that is at most one byte more than the longest
 pub record Reported (r : ℕ) : Type 0 where

@@ -9,7 +9,7 @@ use lib.ListN.{length, take, drop, replicate, length-drop, length-replicate}
 use lib.Seq.{length-take-le, take-all}
 use borrow.Author.Tests.{le-leb, lt-leb, leb-true, leb-false}
 use Rattle.laws.specs.Tests.{split}
-use Rattle.image.specs.Image.{sizesOk, imageLength, dataOf}
+use Rattle.image.specs.Image.{maxWords, imageLength, IsImage, dataOf}
 use Rattle.image.specs.ImageLaws.{sizes-in}
 use Rattle.image.specs.declared.Sizes.{Sizes}
 use Rattle.log.specs.declared.Timestamp.{Timestamp}
@@ -17,7 +17,8 @@ use Rattle.store.specs.Interface.{blankOf}
 use Rattle.recovery.specs.Recovery.{recoverStep}
 use Rattle.recovery.specs.Interface.{restartedOf}
 use Rattle.recovery.specs.declared.Restart.{Restart}
-use Rattle.report.specs.Report.{sizesIn, wordsIn, imageIn, wellFormed, boundaryLine, refusedLine, wordLines, finishedText, noLimit, blank, recoveredFrom, answerText, restartText, reportOf, longest, room, printedOf, Put, Reported}
+use Rattle.report.specs.Report.{sizesIn, wordsIn, imageIn, wellFormed, boundaryLine, refusedLine, wordLines, finishedText, noLimit, blank, recoveredFrom}
+use Rattle.report.specs.Report.{answerText, restartText, reportOf, longest, room, printedOf, Put, Reported}
 use Rattle.report.specs.ReadingLaws.{well-short}
 use Rattle.report.specs.PrintingLaws.{put-long, take-put, drop-put}
 
@@ -28,14 +29,16 @@ module _ (input : List ℕ) where
   report-refused e = rw e
 
   -- recovery ran on the image that was read, in blank buffers
-  pub report-recovered : (z : Sizes) (cache nvm flags : List ℕ) (r : Restart) (cache₁ nvm₁ flags₁ : List ℕ) (n : ℕ) → wellFormed input ≡ true → z ≡ sizesIn input
+  pub report-recovered : (z : Sizes) (cache nvm flags : List ℕ) (r : Restart) (cache₁ nvm₁ flags₁ : List ℕ) (n : ℕ) → wellFormed input ≡ true
+      → z ≡ sizesIn input
       → cache ≡ blank (imageLength z) → nvm ≡ wordsIn input n → n ≡ imageLength z → flags ≡ blank (imageLength z)
       → restartedOf r cache₁ nvm₁ flags₁ ≡ recoverStep z noLimit (blankOf cache nvm flags)
       → answerText z nvm₁ (r .answer) ≡ reportOf input
   unfolding reportOf restartText recoveredFrom imageIn
   report-recovered z cache nvm flags r cache₁ nvm₁ flags₁ n w s c m l f e =
       let nothing : List ℕ = blank (imageLength z) in
-      let same : recoverStep z noLimit (blankOf cache nvm flags) ≡ recoverStep z noLimit (blankOf nothing (wordsIn input (imageLength z)) nothing) = rw (c, m, l, f) in
+      let same : recoverStep z noLimit (blankOf cache nvm flags) ≡ recoverStep z noLimit (blankOf nothing (wordsIn input (imageLength z)) nothing) =
+      rw (c, m, l, f) in
       let last : restartText z (recoverStep z noLimit (blankOf nothing (wordsIn input (imageLength z)) nothing)) ≡ reportOf input = rw (w, s) in
       ap (restartText z) (e ∙ same) ∙ last
 
@@ -92,16 +95,17 @@ module _ (n m : ℕ) (array : List ℕ) (h : n ≤ m) (e : array ≡ blank m) wh
 
 -- ---- what a finished recovery prints
 -- the data words are the part of the image that is printed
-module _ (z : Sizes) (nvm : List ℕ) (ok : sizesOk z ≡ true) (long : length nvm ≡ imageLength z) where
-  pub words-few : z .words ≤ 1024
-  words-few = sizes-in z ok .words-high
+module _ (z : Sizes) (nvm : List ℕ) (i : IsImage z nvm) where
+  pub words-few : z .words ≤ maxWords
+  words-few = sizes-in z (i .sizes-ok) .words-high
 
   pub words-within : 1 + z .words ≤ length nvm
   unfolding imageLength
-  words-within = omega arith
+  words-within = omega (arith, i .in-image)
 
   pub words-long : length (take (1 + z .words - 1) (drop 1 nvm)) ≡ z .words
-  words-long = length-take-le (1 + z .words - 1) (drop 1 nvm) (omega (arith, words-within, length-drop 1 nvm)) ∙ (let e : 1 + z .words - 1 ≡ z .words = omega arith in e)
+  words-long = length-take-le (1 + z .words - 1) (drop 1 nvm) (omega (arith, words-within, length-drop 1 nvm))
+      ∙ (let e : 1 + z .words - 1 ≡ z .words = omega arith in e)
 
   pub finished-text : (b : Timestamp)
       → boundaryLine b ++ wordLines (take (1 + z .words - 1) (drop 1 nvm)) (length (take (1 + z .words - 1) (drop 1 nvm))) ≡ finishedText z nvm b
@@ -125,4 +129,5 @@ module _ {text buffer : List ℕ} {n : ℕ} {after : List ℕ} (p : Put 0 text b
   put-shows = rw (p .ends, p .left) (take-put 0 text buffer (p .fits) ∙ ap (λ l. l ++ text) (take-zero buffer))
 
   pub put-keeps : drop n after ≡ drop n buffer
-  put-keeps = ap (λ k. drop k after) (let e : n ≡ 0 + length text + 0 = omega (arith, p .ends) in e) ∙ ap (drop (0 + length text + 0)) (p .left) ∙ drop-put 0 text buffer (p .fits) 0 ∙ ap (λ k. drop k buffer) (let e : 0 + length text + 0 ≡ n = omega (arith, p .ends) in e)
+  put-keeps = ap (λ k. drop k after) (let e : n ≡ 0 + length text + 0 = omega (arith, p .ends) in e) ∙ ap (drop (0 + length text + 0)) (p .left)
+      ∙ drop-put 0 text buffer (p .fits) 0 ∙ ap (λ k. drop k buffer) (let e : 0 + length text + 0 ≡ n = omega (arith, p .ends) in e)

@@ -1,5 +1,5 @@
--- 01's rules for program `recover`, as theorems about its report: refused with 1, refused with 10, or the boundary and the data words after all of recovery's stores.
--- So it is never cut. Assumes nothing.
+-- 01's rules for program `recover`, as theorems about its report: refused with 1, refused with 10, or the boundary and the data words after all of recovery's
+-- stores. So it is never cut. Assumes nothing.
 use mathlib.Core.Path.{_≡_, refl, sym, ap, _∙_}
 use mathlib.Core.Bool.{true, false}
 use mathlib.Core.List.{List}
@@ -15,7 +15,7 @@ use Rattle.store.specs.Calls.{badBuffers}
 use Rattle.store.specs.Interface.{blankOf}
 use Rattle.store.specs.Machine.{Machine}
 use Rattle.store.specs.StoreLaws.{first-holds, first-fails, first-end}
-use Rattle.recovery.specs.Recovery.{boundary, recoveryStores, recoveredNvm, oddBase, recoverRefusal}
+use Rattle.recovery.specs.Recovery.{boundary, recoveryStores, recoveredNvm, oddBase, recoverRefusal, told}
 use Rattle.recovery.specs.RecoveryLaws.{recover-refused, recover-finished}
 use Rattle.report.specs.Report.{sizesIn, imageIn, wellFormed, refusedLine, finishedText, noLimit, blank, recoveredFrom, answerText, restartText, reportOf}
 use Rattle.report.specs.ReadingLaws.{length-words, well-sized}
@@ -39,10 +39,11 @@ module _ (input : List ℕ) (w : wellFormed input ≡ true) where
   unfolding badBuffers imageIn
   buffers-fit =
       let n = imageLength (sizesIn input) in
-      rw (buffers-good (sizesIn input) (length (blank n)) (length (imageIn input)) (length (blank n)) (well-sized input w) (length-blank n) (length-words input n) (length-blank n))
+      rw (buffers-good (sizesIn input) (length (blank n)) (length (imageIn input)) (length (blank n)) (well-sized input w) (length-blank n)
+      (length-words input n) (length-blank n))
 
   pub odd-base : baseOf (imageIn input) % 2 ≡ 1 → reportOf input ≡ refusedLine 10
-  unfolding restartText answerText recoveredFrom recoverRefusal oddBase
+  unfolding restartText answerText told recoveredFrom recoverRefusal oddBase
   odd-base h =
       let number : recoverRefusal (sizesIn input) found ≡ 10 = first-fails _ _ buffers-fit ∙ first-holds _ _ (eq-eqb (baseOf (imageIn input) % 2) 1 h) in
       recovered ∙ ap (restartText (sizesIn input)) (sym (recover-refused (sizesIn input) noLimit 10 found (sym number) (λ q. omega arith)))
@@ -50,7 +51,7 @@ module _ (input : List ℕ) (w : wellFormed input ≡ true) where
   pub even-base : baseOf (imageIn input) % 2 ≡ 0
       → reportOf input
       ≡ finishedText (sizesIn input) (stored (recoveryStores (sizesIn input) (imageIn input)) (imageIn input)) (boundary (sizesIn input) (imageIn input))
-  unfolding restartText answerText recoveredFrom recoverRefusal oddBase recoveredNvm
+  unfolding restartText answerText told recoveredFrom recoverRefusal oddBase recoveredNvm
   even-base h =
       let z = sizesIn input in
       let image = imageIn input in

@@ -1,4 +1,4 @@
--- Recovery makes at most 16 * 8 * 256 + 1 + 4,096 stores, so that a limit of 2 ^ 64 - 1 is none. Assumes nothing.
+-- Recovery makes at most maxUndone + 1 + 2 * maxLanes * maxSlots stores, so that a limit of 2 ^ 64 - 1 is none. Assumes nothing.
 use mathlib.Core.Path.{_≡_, refl, ap, _∙_}
 use mathlib.Core.Bool.{_&&_}
 use mathlib.Core.List.{List, [], _∷_, _++_}
@@ -8,16 +8,19 @@ use lib.Dec.{leb, ltb, eqb}
 use lib.ListN.{length, length-append}
 use borrow.Author.Tests.{eqb-true}
 use Rattle.laws.specs.Tests.{split, and-right}
+use Rattle.slot.specs.Slot.{maxEntries}
 use Rattle.slot.specs.declared.Content.{Content}
 use Rattle.slot.specs.declared.Content.the-variants.{Empty, Torn, Entry, Stamp}
-use Rattle.image.specs.Image.{baseOf, logOf}
+use Rattle.image.specs.Image.{maxLanes, maxSlots, baseOf, logOf}
 use Rattle.image.specs.ImageLaws.{InRange, logs-small}
 use Rattle.image.specs.declared.Sizes.{Sizes}
 use Rattle.log.specs.Log.{Complete, slotAt, entriesBack, closes, completeBelow, completeIn}
 use Rattle.log.specs.LogLaws.{stamp-in}
 use Rattle.log.specs.declared.Timestamp.{Timestamp}
 use Rattle.log.specs.declared.Timestamp.the-variants.{None, At}
-use Rattle.recovery.specs.Recovery.{boundary, completeOf, atOrAbove, undoneBefore, insert, ordered, undoneFrom, undone, undoEntries, undoSequences, undoStores, recoveryStores}
+use Rattle.recovery.specs.Recovery.{boundary, completeOf, atOrAbove, undoneBefore, insert, ordered, undoneFrom, undone, undoEntries, undoSequences, undoStores}
+use Rattle.recovery.specs.Recovery.{recoveryStores}
+use Rattle.recovery.specs.Limit.{maxUndone}
 use Rattle.recovery.specs.LimitLaws.{length-undo, length-zeros}
 use Rattle.report.specs.Report.{noLimit}
 
@@ -65,8 +68,8 @@ stores-from None qs = omega (arith, stores-none)
 stores-from (At b) qs = omega (arith, stores-ordered (atOrAbove b qs), stores-above b qs)
 
 -- ---- the sequences of an image
--- a slot closes one of at most 16 entries
-stores-closed : (W N base : ℕ) (log : List ℕ) (L j : ℕ) (c : Content) → slotAt W log j ≡ c → stores (closes W N base log L j c) ≤ 16
+-- a slot closes one of at most maxEntries entries
+stores-closed : (W N base : ℕ) (log : List ℕ) (L j : ℕ) (c : Content) → slotAt W log j ≡ c → stores (closes W N base log L j c) ≤ maxEntries
 unfolding closes
 stores-closed W N base log L j Empty h = omega (arith, stores-none)
 stores-closed W N base log L j Torn h = omega (arith, stores-none)
@@ -85,7 +88,7 @@ stores-closed W N base log L j (Stamp n s p) h =
     )))
     (λ e. rw e (omega (arith, stores-none)))
 
-stores-below : (W N base : ℕ) (log : List ℕ) (L k : ℕ) → stores (completeBelow W N base log L k) ≤ 16 * k
+stores-below : (W N base : ℕ) (log : List ℕ) (L k : ℕ) → stores (completeBelow W N base log L k) ≤ maxEntries * k
 unfolding completeBelow
 stores-below W N base log L zero = omega (arith, stores-none)
 stores-below W N base log L (suc k) =
@@ -96,7 +99,7 @@ stores-below W N base log L (suc k) =
       stores-closed W N base log L k (slotAt W log k) refl,
     )
 
-stores-in : (z : Sizes) (image : List ℕ) (k : ℕ) → z .slots ≤ 256 → stores (completeOf z image k) ≤ 4096 * k
+stores-in : (z : Sizes) (image : List ℕ) (k : ℕ) → z .slots ≤ maxSlots → stores (completeOf z image k) ≤ maxEntries * maxSlots * k
 unfolding completeOf completeIn
 stores-in z image zero h = omega (arith, stores-none)
 stores-in z image (suc k) h =
@@ -109,11 +112,11 @@ stores-in z image (suc k) h =
 
 -- ---- all stores
 module _ (z : Sizes) (s : InRange z) (image : List ℕ) where
-  pub undo-few : length (undoStores z image) ≤ 32768
+  pub undo-few : length (undoStores z image) ≤ maxUndone
   unfolding undoStores undone stores
   undo-few = omega (arith, stores-from (boundary z image) (completeOf z image (z .lanes)), stores-in z image (z .lanes) (s .slots-high), s .lanes-high)
 
-  pub stores-few : length (recoveryStores z image) ≤ 36865
+  pub stores-few : length (recoveryStores z image) ≤ maxUndone + 1 + 2 * maxLanes * maxSlots
   unfolding recoveryStores
   stores-few = rw length-append (omega (arith, undo-few, length-zeros (1 + z .words) (2 * z .lanes * z .slots), logs-small z s))
 

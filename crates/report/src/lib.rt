@@ -1,12 +1,13 @@
-// The report of program `recover`, from bytes to bytes: W, T, N and an image are read, recovery runs on the image, and the boundary and the data words are printed.
-// Reading is in reading.rt, printing in printing.rt. At the end, the same from standard input to standard output.
+// The report of program `recover`, from bytes to bytes: W, T, N and an image are read, recovery runs on the image, and
+// the boundary and the data words are printed. Reading is in reading.rt, printing in printing.rt. At the end, the same
+// from standard input to standard output.
 ghost use mathlib.Core.Path.{_≡_};
-ghost use mathlib.Core.Bool.{true};
 ghost use Prim.Native.Nat.{_+_, _≤_};
 ghost use lib.ListN.{length, take, drop};
 ghost use Rattle.io.specs.Counts.{Counts};
-ghost use Rattle.image.specs.Image.{sizesOk, imageLength};
-ghost use Rattle.report.specs.Report.{sizesIn, wellFormed, blank, finishedText, answerText, reportOf, longest, room, printedOf, Put, Reported};
+ghost use Rattle.image.specs.Image.{maxImage, IsImage};
+ghost use Rattle.report.specs.Report.{SizesOf, blank, Blanks, finishedText, answerText, reportOf, longest};
+ghost use Rattle.report.specs.Report.{room, printedOf, Put, Reported};
 use image::Sizes;
 use libc::STDIN_FILENO;
 use libc::STDOUT_FILENO;
@@ -16,19 +17,22 @@ use recovery::Recovered;
 mod printing;
 mod reading;
 
-// One byte more than the longest input that is not refused, which is three sizes and an image of 5,121 words: a longer one is then refused, and not cut to one that is well formed.
-const TAKEN: usize = 40993;
+// One byte more than the longest input that is not refused, which is three sizes and the longest image: a longer one is
+// then refused, and not cut to one that is well formed.
+const TAKEN: usize = 8 * (3 + image::MAX_IMAGE) + 1;
 
-// No report is longer: 30 bytes for the boundary, 42 for each of 1,024 words.
-const ROOM: usize = 43038;
+// No report is longer: a line for the boundary, and one for each data word.
+const ROOM: usize = printing::BOUNDARY_ROOM + printing::WORD_ROOM * image::MAX_WORDS;
 
 // More stores than recovery can make.
-const NO_LIMIT: usize = 18446744073709551615;
+const NO_LIMIT: usize = usize::MAX;
 
 // Prints what a finished recovery answered, with the data words that it left.
 fn put_finished(output: &mut [u8], sizes: Sizes, nvm: &[u64], boundary: Timestamp) -> usize
-    requires { ⌜ (sizesOk sizes ≡ true) × (length (now nvm) ≡ imageLength sizes) × (room ≤ length (now output)) ⌝ }
-    ensures { λ r. ⌜ Put 0 (finishedText sizes (now (nvm .entry)) boundary) (now (output .entry)) r (now (output .exit)) ⌝ }
+    requires { ⌜ IsImage sizes (now nvm) ⌝ }
+    requires { ⌜ room ≤ length (now output) ⌝ }
+    ensures { λ r. ⌜ Put 0 (finishedText sizes (now (nvm .entry)) boundary) (now (output .entry)) r
+        (now (output .exit)) ⌝ }
 {
     let at = printing::put_boundary(output, boundary);
     let end = 1 + sizes.words;
@@ -37,7 +41,8 @@ fn put_finished(output: &mut [u8], sizes: Sizes, nvm: &[u64], boundary: Timestam
 
 // Prints what recovery answered. It was not cut: there is no limit.
 fn put_answer(output: &mut [u8], sizes: Sizes, nvm: &[u64], answer: Recovered) -> usize
-    requires { ⌜ (sizesOk sizes ≡ true) × (length (now nvm) ≡ imageLength sizes) × (room ≤ length (now output)) ⌝ }
+    requires { ⌜ IsImage sizes (now nvm) ⌝ }
+    requires { ⌜ room ≤ length (now output) ⌝ }
     ensures { λ r. ⌜ Put 0 (answerText sizes (now (nvm .entry)) answer) (now (output .entry)) r (now (output .exit)) ⌝ }
 {
     match answer {
@@ -59,8 +64,9 @@ fn recover_in(
     flags: &mut [u8],
     output: &mut [u8],
 ) -> usize
-    requires { ⌜ (wellFormed (now input) ≡ true) × (sizes ≡ sizesIn (now input)) × (room ≤ length (now output)) ⌝ }
-    requires { ⌜ (now cache ≡ blank (imageLength sizes)) × (length (now nvm) ≡ imageLength sizes) × (now flags ≡ blank (imageLength sizes)) ⌝ }
+    requires { ⌜ SizesOf sizes (now input) ⌝ }
+    requires { ⌜ Blanks sizes (now cache) (now nvm) (now flags) ⌝ }
+    requires { ⌜ room ≤ length (now output) ⌝ }
     ensures { λ r. ⌜ Put 0 (reportOf (now (input .entry))) (now (output .entry)) r (now (output .exit)) ⌝ }
 {
     reading::decode(input, nvm);
@@ -70,23 +76,24 @@ fn recover_in(
 }
 
 // Zeros for the longest image.
-fn blank_words() -> [u64; 5121]
-    ensures { λ r. ⌜ r ≡ blank 5121 ⌝ }
+fn blank_words() -> [u64; image::MAX_IMAGE]
+    ensures { λ r. ⌜ r ≡ blank maxImage ⌝ }
 {
-    [0; 5121]
+    [0; image::MAX_IMAGE]
 }
 
-fn blank_flags() -> [u8; 5121]
-    ensures { λ r. ⌜ r ≡ blank 5121 ⌝ }
+fn blank_flags() -> [u8; image::MAX_IMAGE]
+    ensures { λ r. ⌜ r ≡ blank maxImage ⌝ }
 {
-    [0; 5121]
+    [0; image::MAX_IMAGE]
 }
 
-// Prints the report of an input at the start of `output`, and answers how many bytes it has. The bytes after it stay as they were.
-// Where `output` is shorter than any report might be, nothing is printed, and the answer is 0.
+// Prints the report of an input at the start of `output`, and answers how many bytes it has. The bytes after it stay as
+// they were. Where `output` is shorter than any report might be, nothing is printed, and the answer is 0.
 pub fn report(input: &[u8], output: &mut [u8]) -> usize
     ensures counts { λ r. ⌜ Counts r (now (output .exit)) ⌝ }
-    ensures printed { λ r. ⌜ take r (now (output .exit)) ≡ printedOf (length (now (output .entry))) (now (input .entry)) ⌝ }
+    ensures printed { λ r. ⌜ take r (now (output .exit))
+        ≡ printedOf (length (now (output .entry))) (now (input .entry)) ⌝ }
     ensures kept { λ r. ⌜ drop r (now (output .exit)) ≡ drop r (now (output .entry)) ⌝ }
 {
     if output.len() < ROOM {
@@ -122,8 +129,9 @@ fn output_buffer() -> [u8; ROOM]
     [0; ROOM]
 }
 
-// Reads standard input to its end, but no more than tells whether it is too long, and prints its report on standard output; answers how many bytes the report has.
-// No contract can say which bytes are read and written: this one says that there was an input, and that the report of it is whole.
+// Reads standard input to its end, but no more than tells whether it is too long, and prints its report on standard
+// output; answers how many bytes the report has. No contract can say which bytes are read and written: this one says
+// that there was an input, and that the report of it is whole.
 pub fn report_input() -> usize
     ensures { λ r. ⌜ Reported r ⌝ }
 {

@@ -1,13 +1,18 @@
 // Reading the input: words of eight bytes, the least significant byte first; the sizes; the image.
 ghost use mathlib.Core.Path.{_≡_};
-ghost use mathlib.Core.Bool.{true};
 ghost use Prim.Native.Nat.{_+_, _*_, _<_, _≤_, _^_};
 ghost use lib.ListN.{length, take, drop};
 ghost use Rattle.report.specs.Report.{littleEndian, wordAt, sizesIn, wordsIn, wellFormed};
 use image::Sizes;
 
+// As many numbers as a byte spells, and as four bytes spell.
+const BYTE: u64 = 256;
+
+const FOUR_BYTES: u64 = BYTE * BYTE * BYTE * BYTE;
+
 fn wide(byte: u8) -> u64
-    ensures { λ r. ⌜ (r ≡ byte) × (r < 256) ⌝ }
+    ensures same { λ r. ⌜ r ≡ byte ⌝ }
+    ensures small { λ r. ⌜ r < 2 ^ 8 ⌝ }
 {
     byte as u64
 }
@@ -15,13 +20,14 @@ fn wide(byte: u8) -> u64
 // The number that four bytes spell.
 fn half(input: &[u8], at: usize) -> u64
     requires { ⌜ at + 4 ≤ length (now input) ⌝ }
-    ensures { λ r. ⌜ (r ≡ littleEndian (take 4 (drop at (now (input .entry))))) × (r < 4294967296) ⌝ }
+    ensures spelt { λ r. ⌜ r ≡ littleEndian (take 4 (drop at (now (input .entry)))) ⌝ }
+    ensures small { λ r. ⌜ r < 2 ^ 32 ⌝ }
 {
     let first = wide(input[at]);
     let second = wide(input[at + 1]);
     let third = wide(input[at + 2]);
     let fourth = wide(input[at + 3]);
-    first + 256 * (second + 256 * (third + 256 * fourth))
+    first + BYTE * (second + BYTE * (third + BYTE * fourth))
 }
 
 // Word i of the input.
@@ -29,7 +35,7 @@ pub fn word_at(input: &[u8], i: usize) -> u64
     requires { ⌜ 8 * (i + 1) ≤ length (now input) ⌝ }
     ensures { λ r. ⌜ r ≡ wordAt (now (input .entry)) i ⌝ }
 {
-    half(input, 8 * i) + 4294967296 * half(input, 8 * i + 4)
+    half(input, 8 * i) + FOUR_BYTES * half(input, 8 * i + 4)
 }
 
 // W, T and N.

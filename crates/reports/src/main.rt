@@ -1,7 +1,9 @@
-// Program `reports`: the reports of odd inputs, and of inputs at the ends of the ranges, one after the other; then, as program `recover` does it, that of standard input.
-ghost use Prim.Native.Nat.{_*_, _<_, _≤_};
+// Program `reports`: the reports of odd inputs, and of inputs at the ends of the ranges, one after the other; then, as
+// program `recover` does it, that of standard input.
+ghost use Prim.Native.Nat.{_+_, _*_, _<_, _≤_};
 ghost use lib.ListN.{length};
 ghost use Rattle.io.specs.Counts.{Counts};
+ghost use Rattle.report.specs.Report.{longest};
 
 // Byte k of a word, the least significant one first.
 fn byte_of(word: u64, k: usize) -> u8
@@ -21,7 +23,8 @@ fn encode(words: &[u64], input: &mut [u8])
 
 // The report of an input of `size` bytes: these words, and zeros after them.
 fn report_of(words: &[u64], size: usize, output: &mut [u8]) -> usize
-    requires { ⌜ (8 * length (now words) ≤ 65536) × (size ≤ 65536) ⌝ }
+    requires { ⌜ 8 * length (now words) ≤ longest ⌝ }
+    requires { ⌜ size ≤ longest + 1 ⌝ }
     ensures { λ r. ⌜ Counts r (now (output .exit)) ⌝ }
 {
     let mut input = io::large_buffer();
@@ -31,7 +34,8 @@ fn report_of(words: &[u64], size: usize, output: &mut [u8]) -> usize
 
 // Prints it.
 fn show(words: &[u64], size: usize)
-    requires { ⌜ (8 * length (now words) ≤ 65536) × (size ≤ 65536) ⌝ }
+    requires { ⌜ 8 * length (now words) ≤ longest ⌝ }
+    requires { ⌜ size ≤ longest + 1 ⌝ }
 {
     let mut output = io::large_buffer();
     let count = report_of(words, size, &mut output);
@@ -40,7 +44,8 @@ fn show(words: &[u64], size: usize)
 
 // Prints how long it is, in a long buffer and in a short one.
 fn measure(words: &[u64], size: usize)
-    requires { ⌜ (8 * length (now words) ≤ 65536) × (size ≤ 65536) ⌝ }
+    requires { ⌜ 8 * length (now words) ≤ longest ⌝ }
+    requires { ⌜ size ≤ longest + 1 ⌝ }
 {
     let mut long = io::large_buffer();
     let mut short = io::buffer();
@@ -72,14 +77,14 @@ fn ranges() {
     show(&[2u64, 9, 34], 4944);
     show(&[2u64, 1, 33], 576);
     show(&[2u64, 1, 257], 4160);
-    show(&[18446744073709551615u64, 1, 34], 592);
+    show(&[u64::MAX, 1, 34], 592);
 }
 
 // Sizes 2, 1, 34: an odd base, empty logs, empty logs with the greatest word, and 01's example.
 fn images() {
     show(&[2u64, 1, 34, 1, 9, 0], 592);
     show(&[2u64, 1, 34, 0, 9, 0], 592);
-    show(&[2u64, 1, 34, 0, 18446744073709551615, 10], 592);
+    show(&[2u64, 1, 34, 0, u64::MAX, 10], 592);
     show(&[2u64, 1, 34, 0, 9, 0, 11, 7, 32777, 3], 592);
 }
 

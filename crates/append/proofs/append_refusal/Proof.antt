@@ -71,15 +71,5 @@ returns-3 c =
 pub append-refusal-spec : {M : Type 1} → statement M
 append-refusal-spec =
     tie.close
-    (tie.spec
-    drained-requires
-    bound-of-requires
-    mul-at
-    element-copy-out-at
-    spent-requires
-    returns
-    log-part-requires
-    shared-slice-read-would-hit
-    would-hit-requires
-    returns-2
-    returns-3)
+    (tie.spec drained-requires bound-of-requires mul-at element-copy-out-at spent-requires returns log-part-requires
+    shared-slice-read-would-hit would-hit-requires returns-2 returns-3)

@@ -44,11 +44,5 @@ returns c =
 pub appended-spec : {M : Type 1} → statement M
 appended-spec =
     tie.close
-    (tie.spec
-    log-start-requires
-    cursor-of-requires
-    append-requires
-    appended-lane-requires
-    same-length
-    same-length-2
+    (tie.spec log-start-requires cursor-of-requires append-requires appended-lane-requires same-length same-length-2
     returns)

@@ -91,21 +91,6 @@ returns-3 c =
 pub log-spec : {M : Type 1} → statement M
 log-spec =
     tie.close
-    (tie.spec
-    plan-log-requires
-    refused-requires
-    same-length
-    same-length-2
-    same-length-3
-    returns
-    drain-requires
-    drained-requires
-    same-length-4
-    same-length-5
-    same-length-6
-    returns-2
-    log-writes-requires
-    same-length-7
-    same-length-8
-    same-length-9
-    returns-3)
+    (tie.spec plan-log-requires refused-requires same-length same-length-2 same-length-3 returns drain-requires
+    drained-requires same-length-4 same-length-5 same-length-6 returns-2 log-writes-requires same-length-7 same-length-8
+    same-length-9 returns-3)

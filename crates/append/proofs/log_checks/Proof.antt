@@ -58,13 +58,5 @@ returns-4 c =
 pub log-checks-spec : {M : Type 1} → statement M
 log-checks-spec =
     tie.close
-    (tie.spec
-    drain-refusal-requires
-    returns
-    txn-ok-requires
-    returns-2
-    mul-at
-    element-copy-out-at
-    is-logged-requires
-    returns-3
-    returns-4)
+    (tie.spec drain-refusal-requires returns txn-ok-requires returns-2 mul-at element-copy-out-at is-logged-requires
+    returns-3 returns-4)

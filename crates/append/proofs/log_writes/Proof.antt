@@ -62,14 +62,5 @@ returns c =
 pub log-writes-spec : {M : Type 1} → statement M
 log-writes-spec =
     tie.close
-    (tie.spec
-    mul-old
-    element-copy-out-old
-    drained-lane-requires
-    add-stamp
-    pairs-of-requires
-    appended-requires
-    stamped-requires
-    same-length
-    same-length-2
-    returns)
+    (tie.spec mul-old element-copy-out-old drained-lane-requires add-stamp pairs-of-requires appended-requires
+    stamped-requires same-length same-length-2 returns)

@@ -118,22 +118,6 @@ returns-2 c =
 pub mark-spec : {M : Type 1} → statement M
 mark-spec =
     tie.close
-    (tie.spec
-    plan-mark-requires
-    refused-requires
-    same-length
-    same-length-2
-    same-length-3
-    returns
-    drain-requires
-    mul-old
-    element-copy-out-old
-    drained-lane-requires
-    is-logged-requires
-    add-stamp
-    appended-requires
-    stamped-requires
-    same-length-4
-    same-length-5
-    same-length-6
-    returns-2)
+    (tie.spec plan-mark-requires refused-requires same-length same-length-2 same-length-3 returns drain-requires mul-old
+    element-copy-out-old drained-lane-requires is-logged-requires add-stamp appended-requires stamped-requires
+    same-length-4 same-length-5 same-length-6 returns-2)

@@ -79,13 +79,5 @@ returns-3 c =
 pub plan-log-spec : {M : Type 1} → statement M
 plan-log-spec =
     tie.close
-    (tie.spec
-    log-checks-requires
-    none-requires
-    returns
-    writes-on-requires
-    latest-in-requires
-    returns-2
-    add-append-refusal
-    append-refusal-requires
-    returns-3)
+    (tie.spec log-checks-requires none-requires returns writes-on-requires latest-in-requires returns-2
+    add-append-refusal append-refusal-requires returns-3)

@@ -49,11 +49,5 @@ returns-2 c =
 pub plan-mark-spec : {M : Type 1} → statement M
 plan-mark-spec =
     tie.close
-    (tie.spec
-    drain-refusal-requires
-    none-requires
-    returns
-    latest-in-requires
-    append-refusal-requires
-    none-requires-2
+    (tie.spec drain-refusal-requires none-requires returns latest-in-requires append-refusal-requires none-requires-2
     returns-2)

@@ -64,12 +64,5 @@ returns c =
 pub commit-spec : {M : Type 1} → statement M
 commit-spec =
     tie.close
-    (tie.spec
-    log-start-requires
-    add-circular
-    circular-requires
-    write-pairs-requires
-    restamp-requires
-    same-length
-    same-length-2
-    returns)
+    (tie.spec log-start-requires add-circular circular-requires write-pairs-requires restamp-requires same-length
+    same-length-2 returns)

@@ -18,10 +18,4 @@ returns-3 : tie.Need-returns-3
 returns-3 c = let e = c .before in commit-free _ _ _ (e .before .is-logged .ensures) (not-false _ (e .if1 .left)) (c .if2 .left)
 
 pub commit-refusal-spec : {M : Type 1} → statement M
-commit-refusal-spec =
-    tie.close
-    (tie.spec
-    is-logged-requires
-    returns
-    returns-2
-    returns-3)
+commit-refusal-spec = tie.close (tie.spec is-logged-requires returns returns-2 returns-3)

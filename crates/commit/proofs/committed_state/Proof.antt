@@ -29,12 +29,4 @@ returns c = rw (c .idle-lane .ensures)
 
 pub committed-state-spec : {M : Type 1} → statement M
 committed-state-spec =
-    tie.close
-    (tie.spec
-    add-stamp
-    mul-at
-    element-copy-out-at
-    idle-lane-requires
-    mul-idle
-    element-set-from-idle
-    returns)
+    tie.close (tie.spec add-stamp mul-at element-copy-out-at idle-lane-requires mul-idle element-set-from-idle returns)

@@ -72,18 +72,5 @@ returns-2 c =
 pub entries-match-spec : {M : Type 1} → statement M
 entries-match-spec =
     tie.close
-    (tie.spec
-    Inv-loop
-    μ-loop
-    loop-holds
-    mul-write
-    element-copy-out-write
-    slot-at-requires
-    entry-matches-requires
-    returns
-    add-circular
-    circular-requires
-    add-i
-    loop-less
-    loop-again
-    returns-2)
+    (tie.spec Inv-loop μ-loop loop-holds mul-write element-copy-out-write slot-at-requires entry-matches-requires
+    returns add-circular circular-requires add-i loop-less loop-again returns-2)

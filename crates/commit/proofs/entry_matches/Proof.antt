@@ -40,13 +40,4 @@ returns-5 c = search needs
 pub entry-matches-spec : {M : Type 1} → statement M
 entry-matches-spec =
     tie.close
-    (tie.spec
-    enum-told
-    enum-told-2
-    enum-known-content
-    enum-told-3
-    returns
-    returns-2
-    returns-3
-    returns-4
-    returns-5)
+    (tie.spec enum-told enum-told-2 enum-known-content enum-told-3 returns returns-2 returns-3 returns-4 returns-5)

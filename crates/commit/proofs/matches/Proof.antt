@@ -26,10 +26,4 @@ returns-2 c =
     matches-log _ _ _ (w .list) (w .count) (omega (arith, p .0, p .1)) _ _ _ (e .if1 .left) (l .log-part .ensures .0) (c .entries-match .ensures)
 
 pub matches-spec : {M : Type 1} → statement M
-matches-spec =
-    tie.close
-    (tie.spec
-    returns
-    log-part-requires
-    entries-match-requires
-    returns-2)
+matches-spec = tie.close (tie.spec returns log-part-requires entries-match-requires returns-2)

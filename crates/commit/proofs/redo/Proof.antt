@@ -73,17 +73,5 @@ returns-2 c =
 pub redo-spec : {M : Type 1} → statement M
 redo-spec =
     tie.close
-    (tie.spec
-    redo-refusal-requires
-    refused-requires
-    same-length
-    same-length-2
-    same-length-3
-    returns
-    drained-state-requires
-    drain-requires
-    redo-drained-requires
-    same-length-4
-    same-length-5
-    same-length-6
-    returns-2)
+    (tie.spec redo-refusal-requires refused-requires same-length same-length-2 same-length-3 returns
+    drained-state-requires drain-requires redo-drained-requires same-length-4 same-length-5 same-length-6 returns-2)

@@ -52,14 +52,5 @@ returns-2 c =
 pub redo-drained-spec : {M : Type 1} → statement M
 redo-drained-spec =
     tie.close
-    (tie.spec
-    mul-at
-    element-copy-out-at
-    logged-in-requires
-    returns
-    add-stamp
-    commit-requires
-    committed-state-requires
-    same-length
-    same-length-2
-    returns-2)
+    (tie.spec mul-at element-copy-out-at logged-in-requires returns add-stamp commit-requires committed-state-requires
+    same-length same-length-2 returns-2)

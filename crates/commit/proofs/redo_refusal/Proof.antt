@@ -39,11 +39,5 @@ returns-2 c =
 pub redo-refusal-spec : {M : Type 1} → statement M
 redo-refusal-spec =
     tie.close
-    (tie.spec
-    drain-refusal-requires
-    returns
-    mul-at
-    element-copy-out-at
-    spent-requires
-    commit-refusal-requires
+    (tie.spec drain-refusal-requires returns mul-at element-copy-out-at spent-requires commit-refusal-requires
     returns-2)

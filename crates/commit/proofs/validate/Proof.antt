@@ -91,18 +91,6 @@ returns-2 c =
 pub validate-spec : {M : Type 1} → statement M
 validate-spec =
     tie.close
-    (tie.spec
-    validate-refusal-requires
-    refused-requires
-    same-length
-    same-length-2
-    same-length-3
-    returns
-    writes-on-requires
-    drained-state-requires
-    drain-requires
-    validate-drained-requires
-    same-length-4
-    same-length-5
-    same-length-6
-    returns-2)
+    (tie.spec validate-refusal-requires refused-requires same-length same-length-2 same-length-3 returns
+    writes-on-requires drained-state-requires drain-requires validate-drained-requires same-length-4 same-length-5
+    same-length-6 returns-2)

@@ -95,19 +95,6 @@ returns-2 c =
 pub validate-drained-spec : {M : Type 1} → statement M
 validate-drained-spec =
     tie.close
-    (tie.spec
-    mul-at
-    element-copy-out-at
-    logged-in-requires
-    matches-requires
-    idle-lane-requires
-    with-lane-requires
-    same-length
-    returns
-    add-stamp
-    pairs-of-requires
-    commit-requires
-    committed-state-requires
-    same-length-2
-    same-length-3
+    (tie.spec mul-at element-copy-out-at logged-in-requires matches-requires idle-lane-requires with-lane-requires
+    same-length returns add-stamp pairs-of-requires commit-requires committed-state-requires same-length-2 same-length-3
     returns-2)

@@ -52,13 +52,5 @@ returns-3 c =
 pub validate-refusal-spec : {M : Type 1} → statement M
 validate-refusal-spec =
     tie.close
-    (tie.spec
-    drain-refusal-requires
-    returns
-    txn-ok-requires
-    returns-2
-    mul-at
-    element-copy-out-at
-    spent-requires
-    commit-refusal-requires
-    returns-3)
+    (tie.spec drain-refusal-requires returns txn-ok-requires returns-2 mul-at element-copy-out-at spent-requires
+    commit-refusal-requires returns-3)

@@ -69,19 +69,5 @@ returns c =
 pub write-pairs-spec : {M : Type 1} → statement M
 write-pairs-spec =
     tie.close
-    (tie.spec
-    Inv-loop
-    μ-loop
-    loop-holds
-    mul-pair
-    array-copy-out-pair
-    add-at
-    mul-cache
-    slice-write-cache
-    set-flush-requires
-    add-i
-    loop-less
-    loop-again
-    same-length
-    same-length-2
-    returns)
+    (tie.spec Inv-loop μ-loop loop-holds mul-pair array-copy-out-pair add-at mul-cache slice-write-cache
+    set-flush-requires add-i loop-less loop-again same-length same-length-2 returns)

@@ -50,12 +50,5 @@ returns c =
 pub make-stores-spec : {M : Type 1} → statement M
 make-stores-spec =
     tie.close
-    (tie.spec
-    scan-requires
-    undo-all-requires
-    put-requires
-    clear-logs-requires
-    same-length
-    same-length-2
-    same-length-3
+    (tie.spec scan-requires undo-all-requires put-requires clear-logs-requires same-length same-length-2 same-length-3
     returns)

@@ -101,22 +101,6 @@ returns-3 c =
 pub recover-spec : {M : Type 1} → statement M
 recover-spec =
     tie.close
-    (tie.spec
-    start-record-requires
-    recover-refusal-requires
-    same-length
-    same-length-2
-    same-length-3
-    returns
-    recover-nvm-requires
-    same-length-4
-    same-length-5
-    same-length-6
-    returns-2
-    refill-requires
-    slice-read-start-record
-    start-record-requires-2
-    same-length-7
-    same-length-8
-    same-length-9
-    returns-3)
+    (tie.spec start-record-requires recover-refusal-requires same-length same-length-2 same-length-3 returns
+    recover-nvm-requires same-length-4 same-length-5 same-length-6 returns-2 refill-requires slice-read-start-record
+    start-record-requires-2 same-length-7 same-length-8 same-length-9 returns-3)

@@ -43,15 +43,5 @@ returns-2 c = search needs
 pub recover-nvm-spec : {M : Type 1} → statement M
 recover-nvm-spec =
     tie.close
-    (tie.spec
-    mul-if1
-    slice-aggregate-make-stores
-    slice-aggregate-make-stores-2
-    make-stores-requires
-    same-length
-    returns
-    slice-aggregate-make-stores-3
-    slice-aggregate-make-stores-4
-    make-stores-requires-2
-    same-length-2
-    returns-2)
+    (tie.spec mul-if1 slice-aggregate-make-stores slice-aggregate-make-stores-2 make-stores-requires same-length returns
+    slice-aggregate-make-stores-3 slice-aggregate-make-stores-4 make-stores-requires-2 same-length-2 returns-2)

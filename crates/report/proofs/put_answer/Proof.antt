@@ -2,6 +2,7 @@
 -- Assumes nothing.
 use native.Mathlib.Omega.{arith}
 use borrow.Author.Needs.{needs}
+use Rattle.recovery.specs.Recovery.{told}
 use Rattle.report.specs.Report.{answerText}
 use Rattle.report.specs.PrintingLaws.{put-none}
 use Rattle.report.proofs.put_answer.Statement.{statement}
@@ -26,20 +27,20 @@ same-length : tie.Need-same-length
 same-length c = search needs
 
 returns : tie.Need-returns
-unfolding answerText
+unfolding answerText told
 returns c =
     let e = c .before .before in
     rw (e .before .before .before .answer .given .1) (e .put-refused .ensures)
 
 returns-2 : tie.Need-returns-2
-unfolding answerText
+unfolding answerText told
 returns-2 c = rw (c .enum-told .given .1) (put-none 0 _ (omega arith))
 
 same-length-2 : tie.Need-same-length-2
 same-length-2 c = search needs
 
 returns-3 : tie.Need-returns-3
-unfolding answerText
+unfolding answerText told
 returns-3 c =
     let e = c .before .before in
     rw (e .before .before .before .answer2 .given .1) (e .put-finished .ensures)
@@ -47,14 +48,5 @@ returns-3 c =
 pub put-answer-spec : {M : Type 1} → statement M
 put-answer-spec =
     tie.close
-    (tie.spec
-    enum-known-answer
-    put-refused-requires
-    enum-told
-    enum-known-answer-2
-    put-finished-requires
-    same-length
-    returns
-    returns-2
-    same-length-2
-    returns-3)
+    (tie.spec enum-known-answer put-refused-requires enum-told enum-known-answer-2 put-finished-requires same-length
+    returns returns-2 same-length-2 returns-3)

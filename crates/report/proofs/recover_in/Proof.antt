@@ -11,7 +11,7 @@ use Rattle.report.proofs.recover_in.Tie as tie
 decode-requires : tie.Need-decode-requires
 decode-requires c κs =
     let s = c .before .before .before .before .before .before in
-    read-long _ _ (s .pre .0 .0) (s .pre .0 .1) _ (s .pre .1 .1)
+    read-long _ _ (s .pre .0 .well) (s .pre .0 .sizes) _ (s .pre .1 .0 .in-nvm)
 
 recover-requires : tie.Need-recover-requires
 recover-requires c κs = search needs
@@ -21,7 +21,7 @@ put-answer-requires c κs =
     let r = c .before .before .before .before .before .before .before .before in
     let d = r .before .before .before .before .before .before in
     let s = d .before .before .before .before .before .before .before in
-    (read-sized _ _ (s .pre .0 .0) (s .pre .0 .1), search needs, s .pre .0 .2)
+    (record { sizes-ok = read-sized _ _ (s .pre .0 .well) (s .pre .0 .sizes); in-image = search needs }, s .pre .1 .1)
 
 same-length : tie.Need-same-length
 same-length c = search needs
@@ -42,19 +42,15 @@ returns c =
     let r = a .before .before .before .before .before .before .before .before .before in
     let d = r .before .before .before .before .before .before in
     let s = d .before .before .before .before .before .before .before in
+    let i = s .pre .0 in
+    let b = s .pre .1 .0 in
     put-same
-    (report-recovered _ _ _ _ _ (r .recover .result) _ _ _ _ (s .pre .0 .0) (s .pre .0 .1) (s .pre .1 .0) (d .decode .ensures) (s .pre .1 .1) (s .pre .1 .2) (r .recover .ensures))
+    (report-recovered _ _ _ _ _ (r .recover .result) _ _ _ _ (i .well) (i .sizes) (b .no-cache) (d .decode .ensures) (b .in-nvm) (b .no-flags)
+    (r .recover .ensures))
     (a .put-answer .ensures)
 
 pub recover-in-spec : {M : Type 1} → statement M
 recover-in-spec =
     tie.close
-    (tie.spec
-    decode-requires
-    recover-requires
-    put-answer-requires
-    same-length
-    same-length-2
-    same-length-3
-    same-length-4
+    (tie.spec decode-requires recover-requires put-answer-requires same-length same-length-2 same-length-3 same-length-4
     returns)

@@ -1,11 +1,12 @@
--- `report::report` meets its contract: nothing where there is no room, a refusal where the input is not well formed, and otherwise what recovery on blank buffers prints.
--- Assumes nothing.
+-- `report::report` meets its contract: nothing where there is no room, a refusal where the input is not well formed, and otherwise what recovery on blank
+-- buffers prints. Assumes nothing.
 use Prim.Native.Nat.{_≤_}
 use mathlib.Core.Path.{_≡_, refl, sym, _∙_}
 use mathlib.Core.Bool.{true}
 use native.Mathlib.Omega.{arith}
 use borrow.Author.Tests.{not-true, not-false}
 use borrow.Author.Needs.{needs}
+use Rattle.image.specs.Image.{maxImage}
 use Rattle.image.specs.ImageLaws.{sizes-in, length-small}
 use Rattle.report.specs.Report.{wellFormed}
 use Rattle.report.specs.ReadingLaws.{well-long, read-sized}
@@ -16,7 +17,7 @@ use Rattle.report.proofs.report.Tie as tie
 well : (c : tie.Else2) → wellFormed (c .before .before .before .before .before .args .input .now) ≡ true
 well c = sym (c .before .well-formed .ensures) ∙ not-false _ (c .if2 .left)
 
-small : (c : tie.After-image-length) → c .image-length .result ≤ 5121
+small : (c : tie.After-image-length) → c .image-length .result ≤ maxImage
 small c =
     let s = c .before in
     omega (arith, c .image-length .ensures, length-small _ (sizes-in _ (read-sized _ _ (well (s .before)) (s .sizes-in .ensures))))
@@ -37,8 +38,14 @@ returns-2 : tie.Need-returns-2
 returns-2 c =
     let p = c .before .before .put-refused .ensures in
     let t = c .before .before .before .before in
-    let w = t .before in
-    (put-counts p, (put-shows p ∙ report-refused _ (sym (w .well-formed .ensures) ∙ not-true _ (t .if2 .taken)) ∙ printed-all _ _ (omega (arith, w .before .if1 .left)), put-keeps p))
+    let w = t .before in (
+      put-counts p,
+      (
+        put-shows p ∙ report-refused _ (sym (w .well-formed .ensures) ∙ not-true _ (t .if2 .taken))
+            ∙ printed-all _ _ (omega (arith, w .before .if1 .left)),
+        put-keeps p,
+      ),
+    )
 
 sizes-in-requires : tie.Need-sizes-in-requires
 sizes-in-requires c κs = omega (arith, well-long _ (well c))
@@ -92,11 +99,14 @@ recover-in-requires c κs =
     let k = v .before in
     let l = k .before in
     let e = l .before .before in (
-      (well e, l .before .sizes-in .ensures, omega (arith, e .before .before .if1 .left)),
+      record { well = well e; sizes = l .before .sizes-in .ensures },
       (
-        blank-part _ _ _ (small l) (k .blank-words .ensures) _ (l .image-length .ensures),
-        sym (blank-long _ _ _ (small l) (v .blank-words2 .ensures)) ∙ l .image-length .ensures,
-        blank-part _ _ _ (small l) (f .blank-flags .ensures) _ (l .image-length .ensures),
+        record {
+          no-cache = blank-part _ _ _ (small l) (k .blank-words .ensures) _ (l .image-length .ensures);
+          in-nvm = sym (blank-long _ _ _ (small l) (v .blank-words2 .ensures)) ∙ l .image-length .ensures;
+          no-flags = blank-part _ _ _ (small l) (f .blank-flags .ensures) _ (l .image-length .ensures);
+        },
+        omega (arith, e .before .before .if1 .left),
       ),
     )
 
@@ -113,23 +123,7 @@ returns-3 c =
 pub report-spec : {M : Type 1} → statement M
 report-spec =
     tie.close
-    (tie.spec
-    returns
-    well-formed-requires
-    put-refused-requires
-    same-length
-    returns-2
-    sizes-in-requires
-    image-length-requires
-    blank-words-requires
-    blank-words-requires-2
-    blank-flags-requires
-    array-borrow-prefix-cache
-    slice-aggregate-recover-in
-    array-borrow-prefix-nvm
-    slice-aggregate-recover-in-2
-    array-borrow-prefix-flags
-    slice-aggregate-recover-in-3
-    recover-in-requires
-    same-length-2
-    returns-3)
+    (tie.spec returns well-formed-requires put-refused-requires same-length returns-2 sizes-in-requires
+    image-length-requires blank-words-requires blank-words-requires-2 blank-flags-requires array-borrow-prefix-cache
+    slice-aggregate-recover-in array-borrow-prefix-nvm slice-aggregate-recover-in-2 array-borrow-prefix-flags
+    slice-aggregate-recover-in-3 recover-in-requires same-length-2 returns-3)

@@ -47,16 +47,6 @@ returns c =
 pub report-input-spec : {M : Type 1} → statement M
 report-input-spec =
     tie.close
-    (tie.spec
-    input-buffer-requires
-    slice-aggregate-read-full
-    read-full-requires
-    output-buffer-requires
-    array-share-prefix-input
-    slice-aggregate-report
-    slice-aggregate-report-2
-    report-requires
-    array-share-prefix-output
-    slice-aggregate-write-all
-    write-all-requires
-    returns)
+    (tie.spec input-buffer-requires slice-aggregate-read-full read-full-requires output-buffer-requires
+    array-share-prefix-input slice-aggregate-report slice-aggregate-report-2 report-requires array-share-prefix-output
+    slice-aggregate-write-all write-all-requires returns)

@@ -49,17 +49,5 @@ returns c = search needs
 pub encode-spec : {M : Type 1} → statement M
 encode-spec =
     tie.close
-    (tie.spec
-    Inv-loop
-    μ-loop
-    mul-i-end
-    loop-holds
-    mul-byte-of
-    shared-slice-read-byte-of
-    byte-of-requires
-    slice-write-input
-    add-i
-    loop-less
-    loop-again
-    same-length
-    returns)
+    (tie.spec Inv-loop μ-loop mul-i-end loop-holds mul-byte-of shared-slice-read-byte-of byte-of-requires
+    slice-write-input add-i loop-less loop-again same-length returns)

@@ -33,12 +33,5 @@ returns c = search needs
 pub report-of-spec : {M : Type 1} → statement M
 report-of-spec =
     tie.close
-    (tie.spec
-    large-buffer-requires
-    slice-aggregate-encode
-    encode-requires
-    array-share-prefix-input
-    slice-aggregate-report
-    report-requires
-    same-length
-    returns)
+    (tie.spec large-buffer-requires slice-aggregate-encode encode-requires array-share-prefix-input
+    slice-aggregate-report report-requires same-length returns)

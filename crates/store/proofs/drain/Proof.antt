@@ -56,14 +56,5 @@ returns-2 c =
 pub drain-spec : {M : Type 1} → statement M
 drain-spec =
     tie.close
-    (tie.spec
-    drain-refusal-requires
-    refused-requires
-    same-length
-    same-length-2
-    returns
-    drained-state-requires
-    drain-requires
-    same-length-3
-    same-length-4
-    returns-2)
+    (tie.spec drain-refusal-requires refused-requires same-length same-length-2 returns drained-state-requires
+    drain-requires same-length-3 same-length-4 returns-2)

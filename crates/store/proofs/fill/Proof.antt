@@ -39,11 +39,5 @@ returns c =
 pub fill-spec : {M : Type 1} → statement M
 fill-spec =
     tie.close
-    (tie.spec
-    fill-image-requires
-    fill-image-requires-2
-    clear-flags-requires
-    same-length
-    same-length-2
-    same-length-3
+    (tie.spec fill-image-requires fill-image-requires-2 clear-flags-requires same-length same-length-2 same-length-3
     returns)

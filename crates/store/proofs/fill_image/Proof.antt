@@ -61,17 +61,6 @@ same-length c =
 pub fill-image-spec : {M : Type 1} → statement M
 fill-image-spec =
     tie.close
-    (tie.spec
-    add-end
-    slice-write-words
-    sub-copy-words
-    part-copy-words-start
-    part-copy-words-end
-    copy-words-requires
-    mul-clear-words
-    sub-clear-words
-    part-clear-words-start
-    part-clear-words-end
-    clear-words-requires
-    same-length
+    (tie.spec add-end slice-write-words sub-copy-words part-copy-words-start part-copy-words-end copy-words-requires
+    mul-clear-words sub-clear-words part-clear-words-start part-clear-words-end clear-words-requires same-length
     returns)

@@ -59,16 +59,5 @@ returns-2 c =
 pub format-spec : {M : Type 1} → statement M
 format-spec =
     tie.close
-    (tie.spec
-    start-record-requires
-    format-refusal-requires
-    refused-requires
-    same-length
-    same-length-2
-    same-length-3
-    returns
-    fill-requires
-    same-length-4
-    same-length-5
-    same-length-6
-    returns-2)
+    (tie.spec start-record-requires format-refusal-requires refused-requires same-length same-length-2 same-length-3
+    returns fill-requires same-length-4 same-length-5 same-length-6 returns-2)

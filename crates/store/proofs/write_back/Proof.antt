@@ -36,11 +36,4 @@ returns-2 c =
 
 pub write-back-spec : {M : Type 1} → statement M
 write-back-spec =
-    tie.close
-    (tie.spec
-    write-back-refusal-requires
-    same-length
-    returns
-    write-back-requires
-    same-length-2
-    returns-2)
+    tie.close (tie.spec write-back-refusal-requires same-length returns write-back-requires same-length-2 returns-2)

@@ -222,31 +222,7 @@ returns-2 c =
 pub latest-spec : {M : Type 1} → statement M
 latest-spec =
     tie.close
-    (tie.spec
-    Inv-loop
-    μ-loop
-    Inv-stamps
-    μ-stamps
-    log-part-requires
-    stamps-holds
-    winner-requires
-    mul-stamp
-    slice-read-stamp
-    same-length
-    same-length-2
-    returns
-    slot-at-requires
-    count-of-requires
-    wrap-of-requires
-    loop-holds
-    add-entry-back
-    entry-back-requires
-    drop-at-requires
-    stamps-less
-    stamps-again
-    add-i
-    loop-less
-    loop-again
-    same-length-3
-    same-length-4
-    returns-2)
+    (tie.spec Inv-loop μ-loop Inv-stamps μ-stamps log-part-requires stamps-holds winner-requires mul-stamp
+    slice-read-stamp same-length same-length-2 returns slot-at-requires count-of-requires wrap-of-requires loop-holds
+    add-entry-back entry-back-requires drop-at-requires stamps-less stamps-again add-i loop-less loop-again
+    same-length-3 same-length-4 returns-2)

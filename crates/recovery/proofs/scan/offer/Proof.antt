@@ -87,20 +87,5 @@ returns c =
 pub offer-spec : {M : Type 1} → statement M
 offer-spec =
     tie.close
-    (tie.spec
-    Inv-loop
-    μ-loop
-    shared-slice-read-base
-    log-part-requires
-    loop-holds
-    slot-at-requires
-    whole-stamp-requires
-    offered-requires
-    mul-stamps
-    slice-write-stamps
-    greater-requires
-    add-j
-    loop-less
-    loop-again
-    same-length
-    returns)
+    (tie.spec Inv-loop μ-loop shared-slice-read-base log-part-requires loop-holds slot-at-requires whole-stamp-requires
+    offered-requires mul-stamps slice-write-stamps greater-requires add-j loop-less loop-again same-length returns)

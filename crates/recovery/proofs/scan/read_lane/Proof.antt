@@ -43,12 +43,4 @@ returns c =
 
 pub read-lane-spec : {M : Type 1} → statement M
 read-lane-spec =
-    tie.close
-    (tie.spec
-    offer-requires
-    build-requires
-    latest-requires
-    lesser-requires
-    same-length
-    same-length-2
-    returns)
+    tie.close (tie.spec offer-requires build-requires latest-requires lesser-requires same-length same-length-2 returns)

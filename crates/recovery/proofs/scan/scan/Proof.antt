@@ -114,25 +114,6 @@ returns c =
 pub scan-spec : {M : Type 1} → statement M
 scan-spec =
     tie.close
-    (tie.spec
-    Inv-loop
-    μ-loop
-    shared-slice-read-t12
-    loop-holds
-    mul-from
-    add-to
-    mul-read-lane
-    sub-read-lane
-    part-read-lane-start
-    part-read-lane-end
-    mul-read-lane-2
-    sub-read-lane-2
-    part-read-lane-start-2
-    part-read-lane-end-2
-    read-lane-requires
-    add-lane
-    loop-less
-    loop-again
-    same-length
-    same-length-2
-    returns)
+    (tie.spec Inv-loop μ-loop shared-slice-read-t12 loop-holds mul-from add-to mul-read-lane sub-read-lane
+    part-read-lane-start part-read-lane-end mul-read-lane-2 sub-read-lane-2 part-read-lane-start-2 part-read-lane-end-2
+    read-lane-requires add-lane loop-less loop-again same-length same-length-2 returns)

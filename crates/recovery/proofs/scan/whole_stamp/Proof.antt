@@ -35,13 +35,4 @@ returns-4 c = rw (c .before .content .given .1)
 
 pub whole-stamp-spec : {M : Type 1} → statement M
 whole-stamp-spec =
-    tie.close
-    (tie.spec
-    enum-told
-    enum-told-2
-    enum-told-3
-    enum-known-content
-    returns
-    returns-2
-    returns-3
-    returns-4)
+    tie.close (tie.spec enum-told enum-told-2 enum-told-3 enum-known-content returns returns-2 returns-3 returns-4)

@@ -77,17 +77,5 @@ returns c =
 pub clear-logs-spec : {M : Type 1} → statement M
 clear-logs-spec =
     tie.close
-    (tie.spec
-    mul-count
-    mul-count-2
-    add-start
-    made-requires
-    add-end
-    mul-clear-whole-words
-    sub-clear-whole-words
-    part-clear-whole-words-start
-    part-clear-whole-words-end
-    clear-whole-words-requires
-    add-result
-    same-length
-    returns)
+    (tie.spec mul-count mul-count-2 add-start made-requires add-end mul-clear-whole-words sub-clear-whole-words
+    part-clear-whole-words-start part-clear-whole-words-end clear-whole-words-requires add-result same-length returns)

@@ -29,15 +29,11 @@ returns : tie.Need-returns
 returns c =
     let d = c .before .before .before .before .before in
     let s = d .before .before .before in
-    put-same (d .decimal .ensures .1 .1 ∙ decimal-are _ _ (d .decimal .ensures .1 .0) (fewest-few (s .args .number) _ (omega arith) (d .decimal .ensures .1 .0))) (c .before .before .put-text .ensures)
+    put-same (d .decimal .ensures .1 .1
+    ∙ decimal-are _ _ (d .decimal .ensures .1 .0) (fewest-few (s .args .number) _ (omega arith) (d .decimal .ensures .1 .0)))
+    (c .before .before .put-text .ensures)
 
 pub put-number-spec : {M : Type 1} → statement M
 put-number-spec =
     tie.close
-    (tie.spec
-    decimal-requires
-    array-share-prefix-text
-    slice-aggregate-put-text
-    put-text-requires
-    same-length
-    returns)
+    (tie.spec decimal-requires array-share-prefix-text slice-aggregate-put-text put-text-requires same-length returns)

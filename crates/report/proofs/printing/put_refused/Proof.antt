@@ -39,11 +39,5 @@ returns c =
 pub put-refused-spec : {M : Type 1} → statement M
 put-refused-spec =
     tie.close
-    (tie.spec
-    slice-aggregate-put-text
-    put-text-requires
-    put-number-requires
-    slice-aggregate-put-text-2
-    put-text-requires-2
-    same-length
-    returns)
+    (tie.spec slice-aggregate-put-text put-text-requires put-number-requires slice-aggregate-put-text-2
+    put-text-requires-2 same-length returns)

@@ -41,13 +41,5 @@ returns-2 c =
 pub put-stamp-spec : {M : Type 1} → statement M
 put-stamp-spec =
     tie.close
-    (tie.spec
-    enum-told
-    slice-aggregate-put-text
-    put-text-requires
-    enum-known-stamp
-    put-number-requires
-    same-length
-    returns
-    same-length-2
-    returns-2)
+    (tie.spec enum-told slice-aggregate-put-text put-text-requires enum-known-stamp put-number-requires same-length
+    returns same-length-2 returns-2)

@@ -50,12 +50,5 @@ returns c =
 pub put-word-spec : {M : Type 1} → statement M
 put-word-spec =
     tie.close
-    (tie.spec
-    put-number-requires
-    slice-aggregate-put-text
-    put-text-requires
-    put-number-requires-2
-    slice-aggregate-put-text-2
-    put-text-requires-2
-    same-length
-    returns)
+    (tie.spec put-number-requires slice-aggregate-put-text put-text-requires put-number-requires-2
+    slice-aggregate-put-text-2 put-text-requires-2 same-length returns)

@@ -55,15 +55,5 @@ returns c =
 pub put-words-spec : {M : Type 1} → statement M
 put-words-spec =
     tie.close
-    (tie.spec
-    Inv-loop
-    μ-loop
-    loop-holds
-    mul-put-word
-    shared-slice-read-put-word
-    put-word-requires
-    add-i
-    loop-less
-    loop-again
-    same-length
-    returns)
+    (tie.spec Inv-loop μ-loop loop-holds mul-put-word shared-slice-read-put-word put-word-requires add-i loop-less
+    loop-again same-length returns)

@@ -54,16 +54,5 @@ returns c =
 pub decode-spec : {M : Type 1} → statement M
 decode-spec =
     tie.close
-    (tie.spec
-    Inv-loop
-    μ-loop
-    loop-holds
-    add-word-at
-    word-at-requires
-    mul-nvm
-    slice-write-nvm
-    add-i
-    loop-less
-    loop-again
-    same-length
-    returns)
+    (tie.spec Inv-loop μ-loop loop-holds add-word-at word-at-requires mul-nvm slice-write-nvm add-i loop-less loop-again
+    same-length returns)

@@ -61,28 +61,15 @@ returns c =
     let third = c .before .before in
     let second = third .before .before in
     let first = second .before .before in
-    let start = first .before .before .before in
-    (half-read _ (start .args .at) _ _ _ _ (start .pre) (first .wide .ensures .0) (second .wide2 .ensures .0) (third .wide3 .ensures .0) (c .wide4 .ensures .0), search needs)
+    let start = first .before .before .before in (
+      half-read _ (start .args .at) _ _ _ _ (start .pre) (first .wide .ensures .0) (second .wide2 .ensures .0) (third .wide3 .ensures .0)
+          (c .wide4 .ensures .0),
+      search needs,
+    )
 
 pub half-spec : {M : Type 1} → statement M
 half-spec =
     tie.close
-    (tie.spec
-    shared-slice-read-wide
-    wide-requires
-    add-wide
-    shared-slice-read-wide-2
-    wide-requires-2
-    add-wide-2
-    shared-slice-read-wide-3
-    wide-requires-3
-    add-wide-3
-    shared-slice-read-wide-4
-    wide-requires-4
-    mul-result
-    add-result
-    mul-result-2
-    add-result-2
-    mul-result-3
-    add-result-3
-    returns)
+    (tie.spec shared-slice-read-wide wide-requires add-wide shared-slice-read-wide-2 wide-requires-2 add-wide-2
+    shared-slice-read-wide-3 wide-requires-3 add-wide-3 shared-slice-read-wide-4 wide-requires-4 mul-result add-result
+    mul-result-2 add-result-2 mul-result-3 add-result-3 returns)

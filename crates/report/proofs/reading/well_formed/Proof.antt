@@ -41,17 +41,11 @@ returns-3 : tie.Need-returns-3
 returns-3 c =
     let b = c .before in
     let s = b .before .before in
-    length-tested _ _ (ap sizesOk (sym (s .sizes-in .ensures)) ∙ sym (b .before .sizes-ok .ensures) ∙ not-false _ (b .if2 .left)) (c .image-length .ensures ∙ ap imageLength (s .sizes-in .ensures))
+    length-tested _ _ (ap sizesOk (sym (s .sizes-in .ensures)) ∙ sym (b .before .sizes-ok .ensures) ∙ not-false _ (b .if2 .left))
+    (c .image-length .ensures ∙ ap imageLength (s .sizes-in .ensures))
 
 pub well-formed-spec : {M : Type 1} → statement M
 well-formed-spec =
     tie.close
-    (tie.spec
-    returns
-    sizes-in-requires
-    sizes-ok-requires
-    returns-2
-    image-length-requires
-    add-result
-    mul-result
+    (tie.spec returns sizes-in-requires sizes-ok-requires returns-2 image-length-requires add-result mul-result
     returns-3)

@@ -31,13 +31,4 @@ returns c = word-read _ _ _ _ (c .before .before .before .pre) (c .before .half 
 
 pub word-at-spec : {M : Type 1} → statement M
 word-at-spec =
-    tie.close
-    (tie.spec
-    mul-half
-    half-requires
-    mul-half-2
-    add-half
-    half-requires-2
-    mul-result
-    add-result
-    returns)
+    tie.close (tie.spec mul-half half-requires mul-half-2 add-half half-requires-2 mul-result add-result returns)
