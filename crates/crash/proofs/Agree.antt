@@ -1,4 +1,5 @@
--- What record, cached image and history have in common while the store runs: the book's part, which the calls alone keep, and what the logs must say. Assumes nothing.
+-- What record, cached image and history have in common while the store runs:
+-- the book's part, which the calls alone keep, and what the logs must say. Assumes nothing.
 use mathlib.Core.Path.{_≡_, refl, ap, _∙_, sym}
 use mathlib.Core.Logic.{_≢_}
 use mathlib.Core.Bool.{Bool, true, false, _&&_}
@@ -13,7 +14,7 @@ use borrow.Author.Tests.{ne-eqb, ltb-true, ltb-false, lt-ltb, le-ltb}
 use Rattle.laws.specs.Tests.{split, eqb-same}
 use Rattle.laws.specs.Lists.{All, none as nil, more}
 use Rattle.slot.specs.declared.Content.the-variants.{Entry}
-use Rattle.txn.specs.Txn.{txnOk, noWrite}
+use Rattle.txn.specs.Txn.{maxWrites, txnOk, noWrite}
 use Rattle.txn.specs.declared.Write.{Write}
 use Rattle.image.specs.Image.{buffersOk, logOf}
 use Rattle.image.specs.declared.Sizes.{Sizes}
@@ -49,7 +50,7 @@ pub data Entries (W N : ℕ) (log : List ℕ) : ℕ → List Write → Type 0 wh
 pub record Holding (z : Sizes) (base : ℕ) (h : History) (m : Machine) (L : ℕ) (g : Logged) : Type 0 where
   pub txn : List ℕ
   pub held : pageAt h L .held ≡ some txn
-  pub ok : txnOk 16 z.words txn ≡ true
+  pub ok : txnOk maxWrites z.words txn ≡ true
   pub newest : pageAt h L .newest ≡ At (g .stamp)
   pub above : base ≤ g .stamp
   pub upto : g .stamp ≤ h .clock

@@ -28,7 +28,8 @@ use Rattle.crash.specs.Events.{Call, log, redo, validate, mark, laneOf, 
 use Rattle.crash.specs.History.{History, pageAt, settled, leastFloorOf, writesLogged, sameOlds, commitAbove, slotsBy, takenAnswer}
 use Rattle.crash.specs.Theorem.{isFull, refusalBy, answerBy, Answers}
 use Rattle.crash.proofs.Data.{oldsOf}
-use Rattle.crash.proofs.Moves.{Known, refusalOf, Drains, quiet, late, plain, Move, refusing, draining, logging, redoing, validating, giving-up, marking, call-moves}
+use Rattle.crash.proofs.Moves.{Known, refusalOf, Drains, quiet, late, plain}
+use Rattle.crash.proofs.Moves.{Move, refusing, draining, logging, redoing, validating, giving-up, marking, call-moves}
 use Rattle.crash.proofs.Refusals.{same-writes, same-held, refusal-by, number-is}
 use Rattle.crash.proofs.Lanes.{lane-drained, page-settled, drained-floor, bound-agrees}
 use Rattle.crash.proofs.Agree.{Holding, Book, Logs, is-held, above-last, entries-match}
@@ -134,7 +135,8 @@ module _ (z : Sizes) (base : ℕ) (h : History) (m : Machine) (b : Book z base h
   drains-answer k (late L r t) = rw (sym (same-stale L (k .lane) (r .held)), t)
   drains-answer k (plain L) = refl
 
-  by-move : {c : Call} {s : Step} → Move z m c s → said (s .answer) .number ≡ refusalOf z c m → refusalOf z c m ≡ refusalBy z c h m → s .answer ≡ answerBy z c h m
+  by-move : {c : Call} {s : Step} → Move z m c s → said (s .answer) .number ≡ refusalOf z c m → refusalOf z c m ≡ refusalBy z c h m
+      → s .answer ≡ answerBy z c h m
   unfolding said takenAnswer
   by-move {c} (refusing n e d) p r = refused c n e d r
   by-move {c} (draining {a = a} k d) p r = taken c a (sym p ∙ number-drains d) r (drains-answer k d)

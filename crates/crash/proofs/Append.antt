@@ -31,22 +31,29 @@ module _ (z : Sizes) (L : ℕ) (lane : L < z.lanes) (pos : 0 < z.slots) where
       → logOf z L (set (set image (logStart z L + 2 * j) x) (logStart z L + 2 * j + 1) y) ≡ put (logOf z L image) j x y
   unfolding put
   put-image image j x y h =
-      rw (add-assoc (logStart z L) (2 * j) 1, logOf-set z L (set image (logStart z L + 2 * j) x) (2 * j + 1) y (omega arith), logOf-set z L image (2 * j) x (omega arith))
+      rw (
+        add-assoc (logStart z L) (2 * j) 1,
+        logOf-set z L (set image (logStart z L + 2 * j) x) (2 * j + 1) y (omega arith),
+        logOf-set z L image (2 * j) x (omega arith),
+      )
 
   -- one slot more
   slot-window : (image : List ℕ) (h : List Past) (c : Past) → length image ≡ imageLength z → Window z.slots h (logOf z L image)
       → Window z.slots (h ++ c ∷ [])
-      (logOf z L (set (set image (logStart z L + 2 * (length h % z.slots)) (addressOf (wrapOf z.slots (length h)) c)) (logStart z L + 2 * (length h % z.slots) + 1) (valueOf (wrapOf z.slots (length h)) c)))
+      (logOf z L (set (set image (logStart z L + 2 * (length h % z.slots)) (addressOf (wrapOf z.slots (length h)) c))
+      (logStart z L + 2 * (length h % z.slots) + 1) (valueOf (wrapOf z.slots (length h)) c)))
   slot-window image h c e w =
       rw (put-image image (length h % z.slots) (addressOf (wrapOf z.slots (length h)) c) (valueOf (wrapOf z.slots (length h)) c) (mod-lt (length h) pos))
       (window-put z.slots pos h c (logOf z L image) (length-log z L image e lane) w)
 
   next-cursor : (h : List Past) (c : Past) → onward z.slots (cursorAt z.slots (length h)) ≡ cursorAt z.slots (length (h ++ c ∷ []))
   next-cursor h c =
-      onward-cursor z.slots pos (length h) ∙ ap (cursorAt z.slots) (let e : suc (length h) ≡ length (h ++ c ∷ []) = omega (arith, length-append h (c ∷ [])) in e)
+      onward-cursor z.slots pos (length h)
+      ∙ ap (cursorAt z.slots) (let e : suc (length h) ≡ length (h ++ c ∷ []) = omega (arith, length-append h (c ∷ [])) in e)
 
   window-from : (n s : ℕ) (ws : List Write) (h : List Past) (image : List ℕ) → length image ≡ imageLength z → Window z.slots h (logOf z L image)
-      → Window z.slots (h ++ (entriesAs (oldsOf ws) ++ (sta n s ∷ []))) (logOf z L (stored (appendFrom (logStart z L) z.slots n s (cursorAt z.slots (length h)) ws) image))
+      → Window z.slots (h ++ (entriesAs (oldsOf ws) ++ (sta n s ∷ [])))
+      (logOf z L (stored (appendFrom (logStart z L) z.slots n s (cursorAt z.slots (length h)) ws) image))
   unfolding appendFrom slotStores stored addressOf valueOf cursorAt entriesAs oldsOf
   window-from n s [] h image e w = slot-window image h (sta n s) e w
   window-from n s (x ∷ ws) h image e w =

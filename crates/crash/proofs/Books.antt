@@ -12,7 +12,7 @@ use lib.ListN.{length, take}
 use borrow.Author.Tests.{ltb-false}
 use Rattle.laws.specs.Tests.{or-left, or-right}
 use Rattle.laws.specs.Lists.{All, none as nil, more, All-map}
-use Rattle.txn.specs.Txn.{txnOk, run, after}
+use Rattle.txn.specs.Txn.{maxWrites, txnOk, run, after}
 use Rattle.txn.specs.TxnLaws.{few-writes, run-low}
 use Rattle.txn.specs.declared.Write.{Write}
 use Rattle.image.specs.Image.{dataOf}
@@ -25,7 +25,8 @@ use Rattle.log.specs.Append.{advance}
 use Rattle.log.specs.AppendLaws.{advance-within}
 use Rattle.log.specs.declared.Timestamp.{Timestamp}
 use Rattle.log.specs.declared.Timestamp.the-variants.{None, At}
-use Rattle.record.specs.Record.{laneAt, cursorOf, isLogged, loggedIn, stampOk, floorOk, phaseOk, floorAfterAppend, withLane, withClock, withLast, drainedLane, appendedLane, idleLane, pairsOf}
+use Rattle.record.specs.Record.{laneAt, cursorOf, isLogged, loggedIn, stampOk, floorOk, phaseOk, floorAfterAppend}
+use Rattle.record.specs.Record.{withLane, withClock, withLast, drainedLane, appendedLane, idleLane, pairsOf}
 use Rattle.record.specs.RecordLaws.{pairs-cut, LaneIn}
 use Rattle.record.specs.declared.Logged.{Logged}
 use Rattle.record.specs.declared.Pair.{Pair}
@@ -35,14 +36,17 @@ use Rattle.record.specs.declared.Lane.{Lane}
 use Rattle.store.specs.Machine.{Machine}
 use Rattle.store.specs.Calls.{drained, changed, writesOn, appended, logged, committed, isStale, redoPairs}
 use Rattle.store.specs.Calls as calls
-use Rattle.crash.specs.History.{Commit, Page, History, pageAt, isBelow, replay, isSome, wordsBelow, present, floorOr, settled, stamped, released, heldBy, isAbove, commitAbove, writesLogged}
+use Rattle.crash.specs.History.{Commit, Page, History, pageAt, isBelow, replay, isSome, wordsBelow, present}
+use Rattle.crash.specs.History.{floorOr, settled, stamped, released, heldBy, isAbove, commitAbove, writesLogged}
 use Rattle.crash.proofs.Data.{length-replay, replay-snoc, replay-all}
 use Rattle.crash.proofs.Moves.{Known, Ready}
-use Rattle.crash.proofs.Lanes.{LaneTo, lane-drained, lane-appended, lane-committed, lane-released, PageTo, page-settled, page-stamped, page-released, drained-floor, appended-floor, lane-cases}
+use Rattle.crash.proofs.Lanes.{LaneTo, lane-drained, lane-appended, lane-committed, lane-released}
+use Rattle.crash.proofs.Lanes.{PageTo, page-settled, page-stamped, page-released, drained-floor, appended-floor, lane-cases}
 use Rattle.crash.proofs.Ranges.{RecordRange, record-range, record-ranged, stamp-later, stamp-now, lane-later, phase-logged}
 use Rattle.crash.proofs.Words.{data-appended, data-committed}
 use Rattle.crash.proofs.Agree.{lastOf, Holding, Book, Logs}
-use Rattle.crash.proofs.Onward.{Onward, onward-settled, onward-released, onward-stamped, onward-commit, last-append, rising-onward, above-onward, upto-onward, holding-onward, writes-held}
+use Rattle.crash.proofs.Onward.{Onward, onward-settled, onward-released, onward-stamped, onward-commit}
+use Rattle.crash.proofs.Onward.{last-append, rising-onward, above-onward, upto-onward, holding-onward, writes-held}
 use Rattle.crash.proofs.Answers.{same-stale, holds-it}
 
 -- ---- one lane and its page move, the clock and the commits go on
@@ -107,7 +111,8 @@ module _ (z : Sizes) (base : ℕ) (L : ℕ) (lane : L < z.lanes) (h k : History)
         last = v .last;
         stamps = λ M s i e. lane-cases (λ M. (s : ℕ) → M < z.lanes → pageAt k M .newest ≡ At s → stampOk (k .clock) s ≡ true) L
             (λ s i e. v .newest s (ap (λ (p : Page). p .newest) (sym (v .pages .here)) ∙ e))
-            (λ M d s i e. stamp-later (h .clock) (k .clock) s (v .onward .clock) (b .stamps M s i (ap (λ (p : Page). p .newest) (sym (v .pages .others M d)) ∙ e)))
+            (λ M d s i e. stamp-later (h .clock) (k .clock) s (v .onward .clock)
+            (b .stamps M s i (ap (λ (p : Page). p .newest) (sym (v .pages .others M d)) ∙ e)))
             M s i e;
         holding = λ M g i e. lane-cases (λ M. (g : Logged) → M < z.lanes → laneAt (n .state) M .phase ≡ Holds g → Holding z base k n M g) L
             (λ g i e. v .holding g (ap (λ (l : Lane). l .phase) (sym (v .lanes .here)) ∙ e))
@@ -254,24 +259,25 @@ module _ (z : Sizes) (base : ℕ) (L : ℕ) (lane : L < z.lanes) (h : History) (
       book-moved z base L lane h (stamped L held [] h) m (appended z L ws phase redo m) b (moved-appended ws phase redo held ranged both holds)
 
   -- ---- Log
-  module _ (f : List ℕ) (ok : txnOk 16 z.words f ≡ true) (some-write : 0 < length (writesOn z f m)) where
+  module _ (f : List ℕ) (ok : txnOk maxWrites z.words f ≡ true) (some-write : 0 < length (writesOn z f m)) where
     abbrev held-now : Logged
     held-now = record { first = laneAt (m .state) L .next; count = length (writesOn z f m); stamp = m .state .clock + 2 }
 
     writes-low : All (λ w. w .word < z.words) (writesOn z f m)
     unfolding writesOn
-    writes-low = run-low 16 z.words f (dataOf z (m .cache)) ok
+    writes-low = run-low maxWrites z.words f (dataOf z (m .cache)) ok
 
-    writes-few : length (writesOn z f m) ≤ 16
+    writes-few : length (writesOn z f m) ≤ maxWrites
     unfolding writesOn
-    writes-few = few-writes 16 z.words f (dataOf z (m .cache)) ok
+    writes-few = few-writes maxWrites z.words f (dataOf z (m .cache)) ok
 
-    logged-ranged : phaseOk z (h .clock + 2) (pairsOf 16 (writesOn z f m)) (Holds held-now) ≡ true
+    logged-ranged : phaseOk z (h .clock + 2) (pairsOf maxWrites (writesOn z f m)) (Holds held-now) ≡ true
     logged-ranged =
-        subst (λ (s : ℕ). phaseOk z (h .clock + 2) (pairsOf 16 (writesOn z f m)) (Holds (record { first = laneAt (m .state) L .next; count = length (writesOn z f m); stamp = s + 2 })) ≡ true)
+        subst (λ (s : ℕ). phaseOk z (h .clock + 2) (pairsOf maxWrites (writesOn z f m))
+        (Holds (record { first = laneAt (m .state) L .next; count = length (writesOn z f m); stamp = s + 2 })) ≡ true)
         (sym (b .live .clock))
         (phase-logged z (h .clock + 2) (laneAt (m .state) L .next) (writesOn z f m) (buffers-in z _ _ _ (b .buffers) .sizes .words-low) (range-now .next)
-        some-write writes-few (let k = even-now in omega arith) writes-low (pairs-cut (length (writesOn z f m)) 16 (writesOn z f m) writes-few))
+        some-write writes-few (let k = even-now in omega arith) writes-low (pairs-cut (length (writesOn z f m)) maxWrites (writesOn z f m) writes-few))
 
     -- what is logged now is what the history's lane has logged
     logged-writes : writesLogged z L (stamped L (some f) [] h) ≡ writesOn z f m
@@ -290,7 +296,7 @@ module _ (z : Sizes) (base : ℕ) (L : ℕ) (lane : L < z.lanes) (h : History) (
     logged-holding =
         let k = stamped L (some f) [] h in
         let p = page-stamped L h in-pages (some f) [] in
-        let a = lane-appended z L m in-lanes (writesOn z f m) (Holds held-now) (pairsOf 16 (writesOn z f m)) in
+        let a = lane-appended z L m in-lanes (writesOn z f m) (Holds held-now) (pairsOf maxWrites (writesOn z f m)) in
         let c = b .live .clock in
         record {
           txn = f;
@@ -302,13 +308,13 @@ module _ (z : Sizes) (base : ℕ) (L : ℕ) (lane : L < z.lanes) (h : History) (
           apart = All-map (λ d i e. omega (arith, c, i)) (stamped-upto (some f));
           count = ap length (sym logged-writes);
           redo = ap (λ (l : Lane). take (length (writesOn z f m)) (l .redo)) (a .here)
-              ∙ pairs-cut (length (writesOn z f m)) 16 (writesOn z f m) writes-few ∙ ap (pairsOf (length (writesOn z f m))) (sym logged-writes);
+              ∙ pairs-cut (length (writesOn z f m)) maxWrites (writesOn z f m) writes-few ∙ ap (pairsOf (length (writesOn z f m))) (sym logged-writes);
         }
 
     pub book-logged : Book z base (stamped L (some f) [] h) (logged z L (writesOn z f m) m)
     unfolding logged isLogged isSome
     book-logged =
-        book-appended (writesOn z f m) (Holds held-now) (pairsOf 16 (writesOn z f m)) (some f) logged-ranged refl
+        book-appended (writesOn z f m) (Holds held-now) (pairsOf maxWrites (writesOn z f m)) (some f) logged-ranged refl
         (λ g e. let q : held-now ≡ g = cc in subst (Holding z base (stamped L (some f) [] h) (logged z L (writesOn z f m) m) L) q logged-holding)
 
   -- ---- Mark
@@ -351,7 +357,7 @@ module _ (z : Sizes) (base : ℕ) (L : ℕ) (lane : L < z.lanes) (h : History) (
   book-released = book-moved z base L lane h (released L h) m (calls.released L m) b moved-released
 
   -- ---- a commit of transaction f, whose lane has a floor
-  module _ (f : List ℕ) (ok : txnOk 16 z.words f ≡ true) (s : ℕ) (floor : pageAt h L .floor ≡ At s) where
+  module _ (f : List ℕ) (ok : txnOk maxWrites z.words f ≡ true) (s : ℕ) (floor : pageAt h L .floor ≡ At s) where
     abbrev its : List Write
     its = run z.words f (dataOf z (m .cache))
 
@@ -362,7 +368,7 @@ module _ (z : Sizes) (base : ℕ) (L : ℕ) (lane : L < z.lanes) (h : History) (
     words-commit : dataOf z (committed z L (pairsOf (length its) its) m .cache) ≡ present z (stamped L none (f ∷ []) h)
     unfolding after
     words-commit =
-        data-committed z L its m (run-low 16 z.words f (dataOf z (m .cache)) ok)
+        data-committed z L its m (run-low maxWrites z.words f (dataOf z (m .cache)) ok)
         ∙ ap (after z.words f) (b .live .words) ∙ sym present-commit
 
     floor-stays : (t : Timestamp) → t ≡ At s → t ≡ floorOr t (At (h .clock + 2))
@@ -400,7 +406,8 @@ module _ (z : Sizes) (base : ℕ) (L : ℕ) (lane : L < z.lanes) (h : History) (
 pub start-long : (z : Sizes) (base : ℕ) (h : History) (m : Machine) → Book z base h m → length (h .start) ≡ z.words
 unfolding present wordsBelow
 start-long z base h m b =
-    sym (length-replay z.words None (h .commits) (h .start)) ∙ ap length (sym (b .live .words)) ∙ length-data z (m .cache) (buffers-in z _ _ _ (b .buffers) .in-cache)
+    sym (length-replay z.words None (h .commits) (h .start)) ∙ ap length (sym (b .live .words))
+    ∙ length-data z (m .cache) (buffers-in z _ _ _ (b .buffers) .in-cache)
 
 -- ---- every move: a drain, and then what the call does
 -- no commit above a timestamp that is no commit's: all are below it
@@ -415,7 +422,7 @@ module _ (z : Sizes) (base : ℕ) (h : History) (m : Machine) (b : Book z base h
     pub book-drains : Book z base (settled L h) (drained z L m)
     book-drains = book-drained z base L (k .lane) h m b l
 
-    pub book-logs : (f : List ℕ) → txnOk 16 z.words f ≡ true → 0 < length (writesOn z f m)
+    pub book-logs : (f : List ℕ) → txnOk maxWrites z.words f ≡ true → 0 < length (writesOn z f m)
         → Book z base (stamped L (some f) [] (settled L h)) (logged z L (writesOn z f m) (drained z L m))
     unfolding drained writesOn
     book-logs f ok some-write = book-logged z base L (k .lane) (settled L h) (drained z L m) book-drains f ok some-write
@@ -437,7 +444,7 @@ module _ (z : Sizes) (base : ℕ) (h : History) (m : Machine) (b : Book z base h
           let v = holds-it z base h m b l L (k .lane) (y .held) in
           ap (λ (p : Page). p .floor) (page-settled L h (rw (b .pages) (k .lane)) .here) ∙ rw (v .newest)
 
-      pub book-validates : (f : List ℕ) → txnOk 16 z.words f ≡ true
+      pub book-validates : (f : List ℕ) → txnOk maxWrites z.words f ≡ true
           → Book z base (stamped L none (f ∷ []) (settled L h)) (committed z L (pairsOf (length (writesOn z f m)) (writesOn z f m)) (drained z L m))
       unfolding drained writesOn
       book-validates f ok = book-committed z base L (k .lane) (settled L h) (drained z L m) book-drains f ok (it .stamp) floor-drained
@@ -459,7 +466,8 @@ module _ (z : Sizes) (base : ℕ) (h : History) (m : Machine) (b : Book z base h
       redo-held = rw (holds-it z base h m b l L (k .lane) (y .held) .held)
 
       pub redo-pairs : isStale L m ≡ false
-          → redoPairs L m ≡ pairsOf (length (writesOn z (holds-it z base h m b l L (k .lane) (y .held) .txn) m)) (writesOn z (holds-it z base h m b l L (k .lane) (y .held) .txn) m)
+          → redoPairs L m ≡ pairsOf (length (writesOn z (holds-it z base h m b l L (k .lane) (y .held) .txn) m))
+          (writesOn z (holds-it z base h m b l L (k .lane) (y .held) .txn) m)
       unfolding redoPairs
       redo-pairs t =
           let v = holds-it z base h m b l L (k .lane) (y .held) in

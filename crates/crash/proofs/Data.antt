@@ -185,7 +185,8 @@ module _ (W w b : ℕ) (start : List ℕ) (cs : List Commit) (order : Rising cs)
       go (inl j) = it (in-cases j)
       go (inr h) = inr (All-rest h)
 
-  after-it : {q : Complete} {rs : List Complete} → Where (q ∷ rs) → anyWrites rs w ≡ false → (r : Complete) → In r qs → b ≤ r .stamp → undoneBefore q r ≡ true → writes (r .entries) w ≡ false
+  after-it : {q : Complete} {rs : List Complete} → Where (q ∷ rs) → anyWrites rs w ≡ false → (r : Complete) → In r qs → b ≤ r .stamp → undoneBefore q r ≡ true
+      → writes (r .entries) w ≡ false
   after-it {q} {rs} f e r i l t = go (f r i l)
     where
       it : (r ≡ q) ⊎ In r rs → writes (r .entries) w ≡ false
@@ -197,7 +198,8 @@ module _ (W w b : ℕ) (start : List ℕ) (cs : List Commit) (order : Rising cs)
       go (inr h) = clash _ t (In-All h here)
 
   each : (top : ℕ) {rs : List Complete} → All (λ r. r .stamp ≤ top) rs → All (λ r. b ≤ r .stamp) rs → Falling rs → Sorted rs → All Old-is rs → Where rs
-      → ((s : ℕ) → s ≤ top → b ≤ s → All (λ q. q .stamp < s → writes (q .entries) w ≡ false) rs → Untouched W w b s start cs) → Ends w (valueBelow W w start cs b) rs
+      → ((s : ℕ) → s ≤ top → b ≤ s → All (λ q. q .stamp < s → writes (q .entries) w ≡ false) rs → Untouched W w b s start cs)
+      → Ends w (valueBelow W w start cs b) rs
   unfolding valueBelow OldIn
   each top nil nil lowest empty nil f ctx = done
   each top (more h hs) (more g gs) (above {q = q} {qs = rs} a fs) (first u us) (more o os) f ctx =
@@ -206,8 +208,9 @@ module _ (W w b : ℕ) (start : List ℕ) (cs : List Commit) (order : Rising cs)
       ∙ steady-replay W w b (q .stamp) g order (ctx (q .stamp) h g (more (λ l. absurd (omega arith)) (none-below (q .stamp) rs e))))
       (each (q .stamp) a gs fs us os (where-rest u f) (λ s l k nb. ctx s (omega arith) k (more (λ m. absurd (omega arith)) nb)))
 
-  -- rs undoes the sequences of qs at or above b, each with the value below its timestamp unless one of the same timestamp that is undone after it names the word too;
-  -- a word that some commit at or above b and below s writes is named by a sequence in between; and a word that none of them names is as it is with all commits
+  -- rs undoes the sequences of qs at or above b, each with the value below its timestamp unless one of the same timestamp that is
+  -- undone after it names the word too; a word that some commit at or above b and below s writes is named by a sequence in between;
+  -- and a word that none of them names is as it is with all commits
   pub final : (x : ℕ) {rs : List Complete} → Undoes b qs rs → ((q : Complete) → In q qs → b ≤ q .stamp → Old-is q)
       → ((s : ℕ) → b ≤ s → NoneBetween w b s qs → Untouched W w b s start cs)
       → (NoneFrom w b qs → x ≡ getD (replay W None cs start) w 0)
@@ -216,7 +219,8 @@ module _ (W w b : ℕ) (start : List ℕ) (cs : List Commit) (order : Rising cs)
   final x {rs} u o ctx out =
       split (anyWrites rs w)
       (λ e. firstsOf-ends w (getD (replay W (At b) cs start) w 0) x
-      (each (seq-bound rs .0) (seq-bound rs .1) (u .from) (u .falling) (u .sorted) (All-In rs (λ q i. o q (u .found i) (In-All (u .from) i))) (λ r i l. inl (u .every i l))
+      (each (seq-bound rs .0) (seq-bound rs .1) (u .from) (u .falling) (u .sorted)
+      (All-In rs (λ q i. o q (u .found i) (In-All (u .from) i))) (λ r i l. inl (u .every i l))
       (λ s l k n. ctx s k (λ q i g h. In-All n (u .every i g) h))) e)
       (λ e. firstsOf-none rs w x e ∙ out (λ q i g. none e i g) ∙ all e)
     where

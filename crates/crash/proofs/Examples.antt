@@ -11,7 +11,8 @@ use Rattle.record.specs.Record.{noLane, laneAt}
 use Rattle.record.specs.declared.Lane.{Lane}
 use Rattle.store.specs.declared.Answer.the-variants.{Refused, Logged, Committed, Stale, Changed, Marked}
 use Rattle.recovery.specs.declared.Recovered.the-variants.{Cut, Finished}
-use Rattle.crash.specs.Events.{log, redo, validate, mark, drain, Event, call, recover, fails, failsInDrain, failsAfterDrain, failsInRecovery, System, live, down, Reply, answered, recovered, failed, vandzulge, happens}
+use Rattle.crash.specs.Events.{log, redo, validate, mark, drain, Event, call, recover, fails, failsInDrain, failsAfterDrain, failsInRecovery}
+use Rattle.crash.specs.Events.{System, live, down, Reply, answered, recovered, failed, vandzulge, happens}
 use Rattle.crash.proofs.Everything.{everything}
 use Rattle.crash.proofs.Worked.{small, junk, set0, copy, writeBacks, twoLanes}
 
@@ -97,7 +98,8 @@ cut-twice-words : wordsIn small (afterAll small begun (inDrain ++ (recover 1 jun
 unfolding everything afterAll wordsIn
 cut-twice-words = refl
 
--- ---- a cut inside a call, after its whole drain: the mark at 6 has reached the log, so the commit at 4 is below the boundary and stays; what the second Log would have done is lost
+-- ---- a cut inside a call, after its whole drain: the mark at 6 has reached the log, so the commit at 4 is below the boundary and stays;
+-- what the second Log would have done is lost
 abbrev afterDrain : List Event
 afterDrain = call (log 0 (set0 2)) ∷ call (redo 0) ∷ call (mark 0) ∷ failsAfterDrain (log 0 (set0 3)) junk ∷ []
 
@@ -115,7 +117,8 @@ after-drain-words : wordsIn small (afterAll small begun (afterDrain ++ (recover 
 unfolding everything afterAll wordsIn
 after-drain-words = refl
 
--- ---- power failing inside recovery: after its first store, which undoes the entry; at the second try after the base timestamp's; and after its last store, before it answers
+-- ---- power failing inside recovery: after its first store, which undoes the entry; at the second try after the base timestamp's;
+-- and after its last store, before it answers
 abbrev inRecovery : List Event
 inRecovery = failsInRecovery 1 junk ∷ failsInRecovery 2 junk ∷ failsInRecovery 138 junk ∷ []
 

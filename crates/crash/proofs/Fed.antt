@@ -7,18 +7,20 @@ use Prim.Native.Nat.{ℕ, _+_, _<_}
 use lib.ListN.{length}
 use borrow.Author.Tests.{le-leb, lt-leb}
 use Rattle.laws.specs.Tests.{clash}
-use Rattle.txn.specs.Txn.{txnOk}
+use Rattle.txn.specs.Txn.{maxWrites, txnOk}
 use Rattle.image.specs.declared.Sizes.{Sizes}
 use Rattle.record.specs.Record.{laneAt, isLogged, pairsOf}
 use Rattle.record.specs.declared.Phase.the-variants.{Idle}
 use Rattle.store.specs.Machine.{Machine, Step, firstCause, unless, said}
-use Rattle.store.specs.Calls.{badBuffers, badRecord, badLane, drained, writesOn, appended, logged, committed, isStale, redoPairs, matches, drainRefusal, drainStep}
+use Rattle.store.specs.Calls.{badBuffers, badRecord, badLane, drained, writesOn, appended, logged}
+use Rattle.store.specs.Calls.{committed, isStale, redoPairs, matches, drainRefusal, drainStep}
 use Rattle.store.specs.Calls as calls
 use Rattle.store.specs.declared.Answer.{Answer}
 use Rattle.store.specs.declared.Answer.the-variants.{Refused, Done}
 use Rattle.crash.specs.Events.{Call, drain, laneOf, callStep, vandzulge, isTaken}
 use Rattle.crash.specs.History.{History, pageAt, settled, stamped, released, heldBy, isCounted, taken, afterCall}
-use Rattle.crash.proofs.Moves.{Known, Room, Ready, Drains, quiet, late, plain, Move, refusing, draining, logging, redoing, validating, giving-up, marking, call-moves}
+use Rattle.crash.proofs.Moves.{Known, Room, Ready, Drains, quiet, late, plain}
+use Rattle.crash.proofs.Moves.{Move, refusing, draining, logging, redoing, validating, giving-up, marking, call-moves}
 
 -- ---- the history
 pub fed-refusing : (c : Call) (n : ℕ) (h : History) → afterCall c (Refused n) h ≡ h
@@ -34,15 +36,15 @@ fed-draining z m h (plain L) = refl
 -- what each move does to machine and history together: an invariant is kept by calls if it is kept so
 pub record Steps (z : Sizes) (Inv : Machine → History → Type 0) : Type 0 where
   pub drains : (m : Machine) (h : History) (L : ℕ) → Inv m h → Known z m L → Inv (drained z L m) (settled L h)
-  pub logs : (m : Machine) (h : History) (L : ℕ) (f : List ℕ) → Inv m h → Known z m L → txnOk 16 z.words f ≡ true
+  pub logs : (m : Machine) (h : History) (L : ℕ) (f : List ℕ) → Inv m h → Known z m L → txnOk maxWrites z.words f ≡ true
       → isLogged (laneAt (m .state) L .phase) ≡ false → 0 < length (writesOn z f m) → Room z m L (length (writesOn z f m) + 1)
       → Inv (logged z L (writesOn z f m) (drained z L m)) (stamped L (some f) [] (settled L h))
   pub redoes : (m : Machine) (h : History) (L : ℕ) → Inv m h → Known z m L → Ready m L → isStale L m ≡ false
       → Inv (committed z L (redoPairs L m) (drained z L m)) (stamped L none (heldBy (pageAt h L .held)) (settled L h))
-  pub validates : (m : Machine) (h : History) (L : ℕ) (f : List ℕ) → Inv m h → Known z m L → txnOk 16 z.words f ≡ true
+  pub validates : (m : Machine) (h : History) (L : ℕ) (f : List ℕ) → Inv m h → Known z m L → txnOk maxWrites z.words f ≡ true
       → Ready m L → matches z L (writesOn z f m) m ≡ true
       → Inv (committed z L (pairsOf (length (writesOn z f m)) (writesOn z f m)) (drained z L m)) (stamped L none (f ∷ []) (settled L h))
-  pub gives-up : (m : Machine) (h : History) (L : ℕ) (f : List ℕ) → Inv m h → Known z m L → txnOk 16 z.words f ≡ true
+  pub gives-up : (m : Machine) (h : History) (L : ℕ) (f : List ℕ) → Inv m h → Known z m L → txnOk maxWrites z.words f ≡ true
       → Ready m L → matches z L (writesOn z f m) m ≡ false
       → Inv (calls.released L (drained z L m)) (released L (settled L h))
   pub marks : (m : Machine) (h : History) (L : ℕ) → Inv m h → Known z m L → Room z m L 1

@@ -12,11 +12,14 @@ use lib.ListN.{length}
 use borrow.Author.Tests.{eqb-true, ltb-true, ltb-false}
 use Rattle.laws.specs.Tests.{split, and-right}
 use Rattle.laws.specs.Lists.{All, none, more, All-append}
+use Rattle.slot.specs.Slot.{maxEntries}
 use Rattle.slot.specs.declared.Content.{Content}
 use Rattle.slot.specs.declared.Content.the-variants.{Empty, Torn, Entry, Stamp}
+use Rattle.image.specs.Image.{maxWords, minSlots}
 use Rattle.log.specs.Log.{Complete, slotAt, entriesBack, closes, completeBelow}
 use Rattle.crash.proofs.Absolute.{wrapOf}
-use Rattle.crash.proofs.Ghost.{Past, blank, ent, sta, contentOf, Fits, Held, exact, mixed, Reads, now, before, neither, reads, exact-reads, entriesBefore, genuine}
+use Rattle.crash.proofs.Ghost.{Past, blank, ent, sta, contentOf, Fits, Held, exact, mixed}
+use Rattle.crash.proofs.Ghost.{Reads, now, before, neither, reads, exact-reads, entriesBefore, genuine}
 
 -- the number, of the last N before n, that stands in slot j
 pub record Standing (N n j : ℕ) : Type 0 where
@@ -33,7 +36,8 @@ standing N n pos big j h = go (n / N) refl
     go (suc q) e =
         let d : suc q * N + n % N ≡ n = rw e at (div-add-mod' n N) in
         split (ltb j (n % N))
-        (λ t. let l = ltb-true j (n % N) t in record { number = suc q * N + j; new = omega (arith, mod-lt n pos); old = omega arith; slot = digits-mod (suc q) h })
+        (λ t. let l = ltb-true j (n % N) t in
+        record { number = suc q * N + j; new = omega (arith, mod-lt n pos); old = omega arith; slot = digits-mod (suc q) h })
         (λ t. let l = ltb-false j (n % N) t in record { number = q * N + j; new = omega arith; old = omega (arith, mod-lt n pos); slot = digits-mod q h })
 
 -- a sequence of the history
@@ -52,7 +56,7 @@ stamp-past k s p p′ blank e = (cc, cc)
 stamp-past k s p p′ (ent i v) e = (cc, cc)
 stamp-past k s p p′ (sta k′ s′) e = (cc, cc)
 
-module _ (W N : ℕ) (hw : W ≤ 1024) (large : 33 ≤ N) (con : ℕ → Past) (n : ℕ) (big : N ≤ n)
+module _ (W N : ℕ) (hw : W ≤ maxWords) (large : minSlots ≤ N) (con : ℕ → Past) (n : ℕ) (big : N ≤ n)
     (fits : (a : ℕ) → a < n → Fits W (wrapOf N a) (con a)) (early : (a : ℕ) → a < N → con a ≡ blank) (log : List ℕ)
     (holds : (a : ℕ) → n ≤ a + N → a < n → Held N con n log a) (base L : ℕ) where
   pos : 0 < N
@@ -62,7 +66,7 @@ module _ (W N : ℕ) (hw : W ≤ 1024) (large : 33 ≤ N) (con : ℕ → Past) (
   record Closing (j k s p : ℕ) : Type 0 where
     number : ℕ
     below : number < n
-    room : n + 16 ≤ number + N + N
+    room : n + maxEntries ≤ number + N + N
     slot : number % N ≡ j
     content : con number ≡ sta k s
     wrap : wrapOf N number ≡ p
@@ -104,10 +108,10 @@ module _ (W N : ℕ) (hw : W ≤ 1024) (large : 33 ≤ N) (con : ℕ → Past) (
       (λ t. rw t (more (one (closing j k s p h e) (eqb-true (length (entriesBack W N log j p k)) k (and-right (ltb base s) _ t))) none))
       (λ t. rw t none)
     where
-      from : (b : ℕ) → b % N ≡ j → wrapOf N b ≡ p → b < n → n + 16 ≤ b + N + N → con b ≡ sta k s → length (entriesBack W N log j p k) ≡ k
+      from : (b : ℕ) → b % N ≡ j → wrapOf N b ≡ p → b < n → n + maxEntries ≤ b + N + N → con b ≡ sta k s → length (entriesBack W N log j p k) ≡ k
           → entriesBack W N log j p k ≡ entriesBefore N con b k
       from b u v lt room g l =
-          let small : (k ≤ 16) × (s % 2 ≡ 0) = rw g at (fits b lt) in
+          let small : (k ≤ maxEntries) × (s % 2 ≡ 0) = rw g at (fits b lt) in
           let l′ : length (entriesBack W N log (b % N) (wrapOf N b) k) ≡ k = rw (u, v) l in
           rw (← u, ← v) (genuine W N hw pos con n fits log holds b (past b g) lt k (omega arith) (omega arith) l′)
 

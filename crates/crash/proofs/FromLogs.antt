@@ -5,7 +5,7 @@ use mathlib.Core.List.{List, [], _∷_}
 use mathlib.Core.Option.{none, some}
 use Prim.Native.Nat.{ℕ, _+_, _*_, _%_, _<_}
 use lib.ListN.{length, replicate}
-use Rattle.txn.specs.Txn.{txnOk}
+use Rattle.txn.specs.Txn.{maxWrites, txnOk}
 use Rattle.image.specs.Image.{sizesOk, imageLength, baseOf, dataOf, logOf}
 use Rattle.image.specs.Flush.{writtenBack}
 use Rattle.image.specs.FlushLaws.{length-writtenBack}
@@ -52,15 +52,15 @@ pub record LogLaws (z : Sizes) (G : ℕ → Machine → History → Type 0) : Ty
   pub writes : (base : ℕ) (m : Machine) (h : History) (i : ℕ) → Book z base h m → G base m h → i < imageLength z
       → G base (record { state = m .state; cache = m .cache; nvm = writtenBack i (m .cache) (m .nvm); flags = m .flags }) h
   pub drains : (base : ℕ) (m : Machine) (h : History) (L : ℕ) → Book z base h m → G base m h → Known z m L → G base (drained z L m) (settled L h)
-  pub appends : (base : ℕ) (m : Machine) (h : History) (L : ℕ) (f : List ℕ) → Book z base h m → G base m h → Known z m L → txnOk 16 z.words f ≡ true
+  pub appends : (base : ℕ) (m : Machine) (h : History) (L : ℕ) (f : List ℕ) → Book z base h m → G base m h → Known z m L → txnOk maxWrites z.words f ≡ true
       → isLogged (laneAt (m .state) L .phase) ≡ false → 0 < length (writesOn z f m) → Room z m L (length (writesOn z f m) + 1)
       → G base (logged z L (writesOn z f m) (drained z L m)) (stamped L (some f) [] (settled L h))
   pub redoes : (base : ℕ) (m : Machine) (h : History) (L : ℕ) → Book z base h m → G base m h → Known z m L → Ready m L → isStale L m ≡ false
       → G base (committed z L (redoPairs L m) (drained z L m)) (stamped L none (heldBy (pageAt h L .held)) (settled L h))
-  pub validates : (base : ℕ) (m : Machine) (h : History) (L : ℕ) (f : List ℕ) → Book z base h m → G base m h → Known z m L → txnOk 16 z.words f ≡ true
+  pub validates : (base : ℕ) (m : Machine) (h : History) (L : ℕ) (f : List ℕ) → Book z base h m → G base m h → Known z m L → txnOk maxWrites z.words f ≡ true
       → Ready m L → matches z L (writesOn z f m) m ≡ true
       → G base (committed z L (pairsOf (length (writesOn z f m)) (writesOn z f m)) (drained z L m)) (stamped L none (f ∷ []) (settled L h))
-  pub gives-up : (base : ℕ) (m : Machine) (h : History) (L : ℕ) (f : List ℕ) → Book z base h m → G base m h → Known z m L → txnOk 16 z.words f ≡ true
+  pub gives-up : (base : ℕ) (m : Machine) (h : History) (L : ℕ) (f : List ℕ) → Book z base h m → G base m h → Known z m L → txnOk maxWrites z.words f ≡ true
       → Ready m L → matches z L (writesOn z f m) m ≡ false
       → G base (calls.released L (drained z L m)) (released L (settled L h))
   pub marks : (base : ℕ) (m : Machine) (h : History) (L : ℕ) → Book z base h m → G base m h → Known z m L → Room z m L 1
@@ -79,15 +79,32 @@ module _ (z : Sizes) (ok : sizesOk z ≡ true) (G : ℕ → Machine → History 
   steps : Steps z (Inv z G)
   steps =
       record {
-        drains = λ m h L v k. record { base = v .base; book = book-drains z (v .base) h m (v .book) (says m h v) L k; rest = laws .drains (v .base) m h L (v .book) (v .rest) k };
+        drains = λ m h L v k.
+            record { base = v .base; book = book-drains z (v .base) h m (v .book) (says m h v) L k; rest = laws .drains (v .base) m h L (v .book) (v .rest) k };
         logs = λ m h L f v k t i p r.
-            record { base = v .base; book = book-logs z (v .base) h m (v .book) (says m h v) L k f t p; rest = laws .appends (v .base) m h L f (v .book) (v .rest) k t i p r };
+            record {
+              base = v .base;
+              book = book-logs z (v .base) h m (v .book) (says m h v) L k f t p;
+              rest = laws .appends (v .base) m h L f (v .book) (v .rest) k t i p r;
+            };
         redoes = λ m h L v k y t.
-            record { base = v .base; book = book-redoes z (v .base) h m (v .book) (says m h v) L k y t; rest = laws .redoes (v .base) m h L (v .book) (v .rest) k y t };
+            record {
+              base = v .base;
+              book = book-redoes z (v .base) h m (v .book) (says m h v) L k y t;
+              rest = laws .redoes (v .base) m h L (v .book) (v .rest) k y t;
+            };
         validates = λ m h L f v k t y e.
-            record { base = v .base; book = book-validates z (v .base) h m (v .book) (says m h v) L k y f t; rest = laws .validates (v .base) m h L f (v .book) (v .rest) k t y e };
+            record {
+              base = v .base;
+              book = book-validates z (v .base) h m (v .book) (says m h v) L k y f t;
+              rest = laws .validates (v .base) m h L f (v .book) (v .rest) k t y e;
+            };
         gives-up = λ m h L f v k t y e.
-            record { base = v .base; book = book-gives-up z (v .base) h m (v .book) (says m h v) L k; rest = laws .gives-up (v .base) m h L f (v .book) (v .rest) k t y e };
+            record {
+              base = v .base;
+              book = book-gives-up z (v .base) h m (v .book) (says m h v) L k;
+              rest = laws .gives-up (v .base) m h L f (v .book) (v .rest) k t y e;
+            };
         marks = λ m h L v k r.
             record { base = v .base; book = book-marks z (v .base) h m (v .book) (says m h v) L k; rest = laws .marks (v .base) m h L (v .book) (v .rest) k r };
       }
@@ -116,7 +133,17 @@ module _ (z : Sizes) (ok : sizesOk z ≡ true) (G : ℕ → Machine → History 
         stamps = b .stamps;
         holding = λ L g i e.
             let x = b .holding L g i e in
-            record { txn = x .txn; held = x .held; ok = x .ok; newest = x .newest; above = x .above; upto = x .upto; apart = x .apart; count = x .count; redo = x .redo };
+            record {
+              txn = x .txn;
+              held = x .held;
+              ok = x .ok;
+              newest = x .newest;
+              above = x .above;
+              upto = x .upto;
+              apart = x .apart;
+              count = x .count;
+              redo = x .redo;
+            };
       }
 
   restarted-so : (cells : List ℕ) (h : History) → AtCut z cells h → Inv z G (started z (newBase z cells) (recoveredImage z cells)) (restarted z cells h)
@@ -135,7 +162,8 @@ module _ (z : Sizes) (ok : sizesOk z ≡ true) (G : ℕ → Machine → History 
   pub all-laws : Laws z (Inv z G) (AtCut z)
   all-laws =
       record {
-        formats = λ start e. fresh 0 (startImage z start) start zero-even (length-startImage z start e) (image-base z start e) (image-data z start e) (λ L i. image-log z start e L i);
+        formats = λ start e. fresh 0 (startImage z start) start zero-even (length-startImage z start e) (image-base z start e) (image-data z start e)
+            (λ L i. image-log z start e L i);
         lives = λ m h v. v .book .live;
         buffers = λ m h v. v .book .buffers;
         calls = call-by-steps z (Inv z G) steps;

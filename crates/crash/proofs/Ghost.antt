@@ -10,10 +10,11 @@ use lib.Dec.{eqb, ltb}
 use lib.ListN.{getD, length, length-append}
 use borrow.Author.Tests.{ne-eqb, eqb-true, eqb-false, ltb-true, ltb-false}
 use Rattle.laws.specs.Tests.{split}
-use Rattle.slot.specs.Slot.{entryOf, stampOf, readOf}
+use Rattle.slot.specs.Slot.{maxEntries, entryOf, stampOf, readOf}
 use Rattle.slot.specs.SlotLaws.{empty-read, torn-read, entry-read, stamp-read, entry-bits, stamp-bits}
 use Rattle.slot.specs.declared.Content.{Content}
 use Rattle.slot.specs.declared.Content.the-variants.{Empty, Torn, Entry, Stamp}
+use Rattle.image.specs.Image.{maxWords}
 use Rattle.log.specs.Log.{Old, slotAt, back, backWrap, entryIn, entriesBack}
 use Rattle.crash.proofs.Absolute.{wrapOf, wrap-bound, wrap-flips, back-abs, backWrap-abs, same-wrap}
 
@@ -44,9 +45,9 @@ contentOf p (sta n s) = Stamp n s p
 abbrev pub Fits : (W p : ℕ) → Past → Type 0
 Fits W p blank = p ≡ 0
 Fits W p (ent i v) = i < W
-Fits W p (sta n s) = (n ≤ 16) × (s % 2 ≡ 0)
+Fits W p (sta n s) = (n ≤ maxEntries) × (s % 2 ≡ 0)
 
-module _ (W : ℕ) (hw : W ≤ 1024) (p : ℕ) (hp : p ≤ 1) where
+module _ (W : ℕ) (hw : W ≤ maxWords) (p : ℕ) (hp : p ≤ 1) where
   pub read-past : (c : Past) → Fits W p c → readOf W (addressOf p c) (valueOf p c) ≡ contentOf p c
   unfolding addressOf valueOf contentOf
   read-past blank f = empty-read W 0 0 refl refl
@@ -91,7 +92,7 @@ entriesBefore N con b (suc k) = entryIn (wrapOf N (b - suc k)) (contentOf (wrapO
 -- a log holds number a of a history whose next number is n: its own words; or, in the last slots, words mixed with those of the lap before
 pub data Held (N : ℕ) (con : ℕ → Past) (n : ℕ) (log : List ℕ) (a : ℕ) : Type 0 where
   exact : getD log (2 * (a % N)) 0 ≡ addressAt N con a → getD log (2 * (a % N) + 1) 0 ≡ valueAt N con a → Held N con n log a
-  mixed : (b : ℕ) → a ≡ b + N → n + 16 ≤ a + N → Mixed N con log b → Held N con n log a
+  mixed : (b : ℕ) → a ≡ b + N → n + maxEntries ≤ a + N → Mixed N con log b → Held N con n log a
 
 -- an entry is found only with its own wrap bit
 entry-other : (p q : ℕ) (c : Past) → p ≢ q → entryIn q (contentOf p c) ≡ []
@@ -107,12 +108,13 @@ entry-one q Torn = omega arith
 entry-one q (Entry i v p) = split (eqb p q) (λ e. rw e (omega arith)) (λ e. rw e (omega arith))
 entry-one q (Stamp n s p) = omega arith
 
-module _ (W N : ℕ) (hw : W ≤ 1024) (pos : 0 < N) (con : ℕ → Past) (n : ℕ) (fits : (a : ℕ) → a < n → Fits W (wrapOf N a) (con a)) (log : List ℕ) where
+module _ (W N : ℕ) (hw : W ≤ maxWords) (pos : 0 < N) (con : ℕ → Past) (n : ℕ) (fits : (a : ℕ) → a < n → Fits W (wrapOf N a) (con a)) (log : List ℕ) where
   pub reads : (a : ℕ) → a + N < n → Mixed N con log a → Reads W N con log a
   unfolding slotAt addressAt valueAt
   reads a less m =
       split (eqb (x % 2) (y % 2))
-      (λ e. go (same-wrap N pos (addressAt N con) (valueAt N con) a (la (a + N) less) (la a lt) (lv (a + N) less) (lv a lt) x y (m .first) (m .second) (eqb-true (x % 2) (y % 2) e)))
+      (λ e. go (same-wrap N pos (addressAt N con) (valueAt N con) a (la (a + N) less) (la a lt)
+      (lv (a + N) less) (lv a lt) x y (m .first) (m .second) (eqb-true (x % 2) (y % 2) e)))
       (λ e. neither (torn-read W x y (eqb-false (x % 2) (y % 2) e)))
     where
       x : ℕ
@@ -161,7 +163,8 @@ module _ (W N : ℕ) (hw : W ≤ 1024) (pos : 0 < N) (con : ℕ → Past) (n : �
 
     older : (c a : ℕ) → a ≡ c + N → a < n → Held N con n log a → Found c
     older c a e less (exact p q) =
-        inl (rw (sym (add-mod-right c N) ∙ ap (_% N) (sym e), exact-reads a less p q, e) (entry-other (wrapOf N (c + N)) (wrapOf N c) (con (c + N)) (wrap-flips N pos c)))
+        inl (rw (sym (add-mod-right c N) ∙ ap (_% N) (sym e), exact-reads a less p q, e)
+        (entry-other (wrapOf N (c + N)) (wrapOf N c) (con (c + N)) (wrap-flips N pos c)))
     older c a e less (mixed b f r m) = lap-of-reads c (reads c (omega arith) (subst (Mixed N con log) (let h : b ≡ c = omega arith in h) m))
 
     newer : (c : ℕ) → c < n → Held N con n log c → Found c
@@ -179,7 +182,8 @@ module _ (W N : ℕ) (hw : W ≤ 1024) (pos : 0 < N) (con : ℕ → Past) (n : �
       unfolding entriesBack
       short zero = omega arith
       short (suc k) =
-          rw (length-append (entryIn (backWrap (wrapOf N b) (b % N) (suc k)) (slotAt W log (back N (b % N) (suc k)))) (entriesBack W N log (b % N) (wrapOf N b) k))
+          rw (length-append (entryIn (backWrap (wrapOf N b) (b % N) (suc k)) (slotAt W log (back N (b % N) (suc k))))
+          (entriesBack W N log (b % N) (wrapOf N b) k))
           (omega (arith, entry-one (backWrap (wrapOf N b) (b % N) (suc k)) (slotAt W log (back N (b % N) (suc k))), short k))
 
       -- complete, so of the history

@@ -58,7 +58,8 @@ abbrev asSeq : Complete → ℕ → Seq
 asSeq q e = record { entries = q .entries; stamp = q .stamp; end = e }
 
 -- of one sequence, that or nothing is found
-latest-one : (N : ℕ) (g : Seq) (qs : List Complete) → All (Listed N (g ∷ [])) qs → (contribution (latest qs) ≡ At (g .stamp)) ⊎ (contribution (latest qs) ≡ None)
+latest-one : (N : ℕ) (g : Seq) (qs : List Complete) → All (Listed N (g ∷ [])) qs
+    → (contribution (latest qs) ≡ At (g .stamp)) ⊎ (contribution (latest qs) ≡ None)
 latest-one N g qs k = go (contribution (latest qs)) refl
   where
     fits : (q : Complete) (e : ℕ) → (asSeq q e ≡ g) ⊎ In (asSeq q e) [] → q .stamp ≡ g .stamp
@@ -93,26 +94,30 @@ module _ (z : Sizes) (r : InRange z) (log : List ℕ) (base L : ℕ) where
   qs = completeBelow z.words z.slots base log L z.slots
 
   -- ---- a history that is shown whole
-  shown-newest : (h : List Past) {gs : List Seq} {u : ℕ} → Shown z log h gs u → Falls gs → All (λ g. base < g .stamp) gs → length h ≤ u → contribution (latest qs) ≡ newestIn gs
+  shown-newest : (h : List Past) {gs : List Seq} {u : ℕ} → Shown z log h gs u → Falls gs → All (λ g. base < g .stamp) gs → length h ≤ u
+      → contribution (latest qs) ≡ newestIn gs
   unfolding latest contribution newestIn
   shown-newest h {gs = []} s f a l = ap (λ q. contribution (latest q)) (shown-nothing z r log h base L s)
   shown-newest h {gs = g ∷ gs} s f a l =
-      let e = shown-latest z r log h base L s f (newest-whole z r (s .history)) (omega (arith, stands z.words z.slots (s .history) here .below)) (In-All a here) in
+      let e = shown-latest z r log h base L s f (newest-whole z r (s .history))
+      (omega (arith, stands z.words z.slots (s .history) here .below)) (In-All a here) in
       ap contribution e ∙ newest-stamp z.slots (g ∷ gs)
 
   newest-there : (h : List Past) {g : Seq} {gs : List Seq} {u : ℕ} → Shown z log h (g ∷ gs) u → base < g .stamp → length h ≤ u → In (foundAs z.slots L g) qs
   newest-there h {g = g} s a l =
-      shown-there z (r .words-high) (omega (arith, r .slots-low)) s base L g here (newest-whole z r (s .history)) (omega (arith, stands z.words z.slots (s .history) here .below)) a
+      shown-there z (r .words-high) (r .slots-low) s base L g here
+      (newest-whole z r (s .history)) (omega (arith, stands z.words z.slots (s .history) here .below)) a
 
   -- ---- one that has just grown: the new sequence, or the newest before
   module _ (h : List Past) (es : List Old) (t : ℕ) {gs : List Seq} (H : Hist z.words z.slots h gs)
-      (s : Shown z log (h ++ pastOf es t) (next h es t ∷ gs) (length h)) (f : Falls (next h es t ∷ gs)) (a : All (λ g. base < g .stamp) (next h es t ∷ gs)) where
+      (s : Shown z log (h ++ pastOf es t) (next h es t ∷ gs) (length h))
+      (f : Falls (next h es t ∷ gs)) (a : All (λ g. base < g .stamp) (next h es t ∷ gs)) where
     known : All (Listed z.slots (next h es t ∷ gs)) qs
-    known = shown-found z (r .words-high) (omega (arith, r .slots-low)) s base L
+    known = shown-found z (r .words-high) (r .slots-low) s base L
 
     grown-there : (g : Seq) → In g gs → Whole z.slots (h ++ pastOf es t) g → In (foundAs z.slots L g) qs
     grown-there g i w =
-        shown-there z (r .words-high) (omega (arith, r .slots-low)) s base L g (there i) w (stands z.words z.slots H i .below) (In-All a (there i))
+        shown-there z (r .words-high) (r .slots-low) s base L g (there i) w (stands z.words z.slots H i .below) (In-All a (there i))
 
   grown-latest : (h : List Past) (es : List Old) (t : ℕ) {gs : List Seq} → Hist z.words z.slots h gs
       → Shown z log (h ++ pastOf es t) (next h es t ∷ gs) (length h) → Falls (next h es t ∷ gs) → All (λ g. base < g .stamp) (next h es t ∷ gs)
@@ -128,27 +133,32 @@ module _ (z : Sizes) (r : InRange z) (log : List ℕ) (base L : ℕ) where
 
   -- ---- at a cut
   module _ (clock : ℕ) (cached was : List ℕ) where
-    cut-latest : {prior hist : List Past} {priors gs : List Seq} → Since prior hist priors gs → Written z base clock cached hist gs → Written z base clock was prior priors
+    cut-latest : {prior hist : List Past} {priors gs : List Seq} → Since prior hist priors gs → Written z base clock cached hist gs
+        → Written z base clock was prior priors
         → CutLog z log prior hist priors gs → (contribution (latest qs) ≡ newestIn gs) ⊎ (contribution (latest qs) ≡ newestIn priors)
     unfolding newestIn
     cut-latest {prior = prior} c n b (before s) = inr (shown-newest prior s (b .falls) (b .above) (le-refl (length prior)))
     cut-latest (level {h = h}) n b (now s) = inl (shown-newest h s (n .falls) (n .above) (le-refl (length h)))
     cut-latest (grown {h = h} es t) n b (now s) = grown-latest h es t (b .history) s (n .falls) (n .above)
     cut-latest (sealed {h = h} g c up) n b (now s) =
-        inl (shown-newest (set h (g .end) (sta (length (g .entries)) c)) s (n .falls) (n .above) (omega (arith, length-set h (g .end) (sta (length (g .entries)) c))))
+        inl (shown-newest (set h (g .end) (sta (length (g .entries)) c)) s (n .falls)
+        (n .above) (omega (arith, length-set h (g .end) (sta (length (g .entries)) c))))
 
     -- a whole sequence that is shown exactly
-    exact-there : (h : List Past) {gs : List Seq} {u : ℕ} → Shown z log h gs u → All (λ g. base < g .stamp) gs → {g : Seq} → In g gs → Whole z.slots h g → g .end < u
+    exact-there : (h : List Past) {gs : List Seq} {u : ℕ}
+        → Shown z log h gs u → All (λ g. base < g .stamp) gs → {g : Seq} → In g gs → Whole z.slots h g → g .end < u
         → In (foundAs z.slots L g) qs
-    exact-there h s a {g} i w l = shown-there z (r .words-high) (omega (arith, r .slots-low)) s base L g i w l (In-All a i)
+    exact-there h s a {g} i w l = shown-there z (r .words-high) (r .slots-low) s base L g i w l (In-All a i)
 
-    cut-found : {prior hist : List Past} {priors gs : List Seq} → Since prior hist priors gs → Written z base clock cached hist gs → Written z base clock was prior priors
+    cut-found : {prior hist : List Past} {priors gs : List Seq} → Since prior hist priors gs → Written z base clock cached hist gs
+        → Written z base clock was prior priors
         → CutLog z log prior hist priors gs → {g : Seq} → In g gs → Whole z.slots hist g → CutFound z.slots L qs priors gs g
     unfolding newestIn
     cut-found (level {h = h}) n b (now s) {g} i w = itself (exact-there h s (n .above) i w (stands z.words z.slots (n .history) i .below))
     cut-found (level {h = h}) n b (before s) {g} i w = itself (exact-there h s (n .above) i w (stands z.words z.slots (n .history) i .below))
     cut-found (grown es t) n b v here w = unseen refl
-    cut-found (grown {h = h} es t) n b (now s) {g} (there i) w = itself (exact-there (h ++ pastOf es t) s (n .above) (there i) w (stands z.words z.slots (b .history) i .below))
+    cut-found (grown {h = h} es t) n b (now s) {g} (there i) w =
+        itself (exact-there (h ++ pastOf es t) s (n .above) (there i) w (stands z.words z.slots (b .history) i .below))
     cut-found (grown {h = h} es t) n b (before s) {g} (there i) w =
         itself (exact-there h s (b .above) i (omega (arith, length-new h es t)) (stands z.words z.slots (b .history) i .below))
     cut-found (sealed {h = h} f c up) n b (now s) {g} i w =
@@ -158,7 +168,8 @@ module _ (z : Sizes) (r : InRange z) (log : List ℕ) (base L : ℕ) where
     cut-found (sealed {h = h} f c up) n b (before s) here w =
         logged (f .stamp) up (shown-newest h s (b .falls) (b .above) (le-refl (length h))) (newest-there h s (In-All (b .above) here) (le-refl (length h)))
     cut-found (sealed {h = h} f c up) n b (before s) {g} (there i) w =
-        itself (exact-there h s (b .above) (there i) (omega (arith, length-set h (f .end) (sta (length (f .entries)) c))) (stands z.words z.slots (b .history) (there i) .below))
+        itself (exact-there h s (b .above) (there i) (omega (arith, length-set h (f .end) (sta (length (f .entries)) c)))
+        (stands z.words z.slots (b .history) (there i) .below))
 
     cut-newest : {prior hist : List Past} {priors rest : List Seq} {g : Seq} → Since prior hist priors (g ∷ rest) → Written z base clock cached hist (g ∷ rest)
         → Written z base clock was prior priors → CutLog z log prior hist priors (g ∷ rest) → length priors ≡ suc (length rest) → CutNewest z.slots L qs g
@@ -237,7 +248,7 @@ module _ (z : Sizes) (L : ℕ) (m : Machine) (t : Track) (s : Shape z m) (l : La
   -- what its log shows
   pub lane-cut : CutLog z (logOf z L (m .nvm)) (t .prior) (t .hist) (t .priors) (t .gs)
   lane-cut =
-      go (view z.slots (omega (arith, s .sizes .slots-low)) (logOf z L (m .cache)) (t .was) (logOf z L (m .nvm)) (mix-log z L (l .mem)) z.words
+      go (view z.slots (s .sizes .slots-low) (logOf z L (m .cache)) (t .was) (logOf z L (m .nvm)) (mix-log z L (l .mem)) z.words
       (l .since) (l .before .history) (l .now .history) (l .now .window) (l .before .window))
     where
       go : View z.slots (t .prior) (t .hist) (logOf z L (m .nvm)) → CutLog z (logOf z L (m .nvm)) (t .prior) (t .hist) (t .priors) (t .gs)
@@ -251,8 +262,8 @@ module _ (z : Sizes) (L : ℕ) (m : Machine) (t : Track) (s : Shape z m) (l : La
     where
       go : CutLog z (logOf z L (m .nvm)) (t .prior) (t .hist) (t .priors) (t .gs)
           → All (λ q. Listed z.slots (t .gs) q ⊎ Listed z.slots (t .priors) q) (completeBelow z.words z.slots (baseOf (m .nvm)) (logOf z L (m .nvm)) L z.slots)
-      go (now v) = All-map (λ q k. inl k) (shown-found z (s .sizes .words-high) (omega (arith, s .sizes .slots-low)) v (baseOf (m .nvm)) L)
-      go (before v) = All-map (λ q k. inr k) (shown-found z (s .sizes .words-high) (omega (arith, s .sizes .slots-low)) v (baseOf (m .nvm)) L)
+      go (now v) = All-map (λ q k. inl k) (shown-found z (s .sizes .words-high) (s .sizes .slots-low) v (baseOf (m .nvm)) L)
+      go (before v) = All-map (λ q k. inr k) (shown-found z (s .sizes .words-high) (s .sizes .slots-low) v (baseOf (m .nvm)) L)
 
   -- what it gives to the boundary
   pub lane-cut-latest : (contribution (latestIn z (m .nvm) L) ≡ newestIn (t .gs)) ⊎ (contribution (latestIn z (m .nvm) L) ≡ newestIn (t .priors))
@@ -264,7 +275,8 @@ module _ (z : Sizes) (L : ℕ) (m : Machine) (t : Track) (s : Shape z m) (l : La
   pub lane-cut-floor : NotBelow (laneAt (m .state) L .floor) (contribution (latestIn z (m .nvm) L))
   lane-cut-floor =
       rw (l .floor)
-      (cut-floor z r (logOf z L (m .nvm)) (baseOf (m .nvm)) L (m .state .clock) (logOf z L (m .cache)) (t .was) (l .since) nvm-now (contribution (latestIn z (m .nvm) L)) lane-cut-latest)
+      (cut-floor z r (logOf z L (m .nvm)) (baseOf (m .nvm)) L (m .state .clock) (logOf z L (m .cache))
+      (t .was) (l .since) nvm-now (contribution (latestIn z (m .nvm) L)) lane-cut-latest)
 
   -- a lane that gives nothing has never drained a sequence
   pub lane-cut-none : contribution (latestIn z (m .nvm) L) ≡ None → t .priors ≡ []
@@ -281,5 +293,6 @@ module _ (z : Sizes) (L : ℕ) (m : Machine) (t : Track) (s : Shape z m) (l : La
   pub lane-cut-newest : {g : Seq} {rest : List Seq} → t .gs ≡ g ∷ rest → length (t .priors) ≡ length (t .gs) → CutNewest z.slots L (completeIn z (m .nvm) L) g
   unfolding completeIn
   lane-cut-newest e k =
-      cut-newest z r (logOf z L (m .nvm)) (baseOf (m .nvm)) L (m .state .clock) (logOf z L (m .cache)) (t .was) (rw e at (l .since)) (rw e at nvm-now) nvm-before (rw e at lane-cut)
+      cut-newest z r (logOf z L (m .nvm)) (baseOf (m .nvm)) L (m .state .clock) (logOf z L (m .cache))
+      (t .was) (rw e at (l .since)) (rw e at nvm-now) nvm-before (rw e at lane-cut)
       (k ∙ ap length e)

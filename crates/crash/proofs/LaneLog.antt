@@ -7,6 +7,7 @@ use native.Mathlib.Omega.{arith}
 use native.Mathlib.Nat.{le-trans, mod-lt}
 use lib.ListN.{length, getD, set, length-set}
 use Rattle.laws.specs.Lists.{All, none, more, All-map}
+use Rattle.txn.specs.Txn.{maxWrites}
 use Rattle.txn.specs.declared.Write.{Write}
 use Rattle.image.specs.Image.{imageLength, baseOf, logStart, logOf}
 use Rattle.image.specs.ImageLaws.{getD-log}
@@ -110,7 +111,8 @@ floor-same None = refl
 floor-same (At s) = refl
 
 -- a drain makes the newest timestamp the floor
-floor-drained : {prior hist : List Past} {priors gs : List Seq} → Since prior hist priors gs → floorOr (newestIn gs) (floorOr (newestIn priors) (newestIn gs)) ≡ newestIn gs
+floor-drained : {prior hist : List Past} {priors gs : List Seq} → Since prior hist priors gs
+    → floorOr (newestIn gs) (floorOr (newestIn priors) (newestIn gs)) ≡ newestIn gs
 unfolding floorOr newestIn
 floor-drained (level {gs = []}) = refl
 floor-drained (level {gs = g ∷ gs}) = refl
@@ -149,7 +151,8 @@ module _ (z : Sizes) (L : ℕ) (m : Machine) (t : Track) (s : Shape z m) (l : La
           mem = mem-drained-own z L lane (t .was) (m .cache) (m .flags) (m .nvm) (s .in-cache) (s .in-flags) (s .in-nvm) (l .mem);
           cursor = rw (to .here) (l .cursor);
           floor = rw (to .here)
-              (drained-floor (latestIn z (m .cache) L) (laneAt (m .state) L .floor) ∙ rw (lane-latest, l .floor) (floor-drained (l .since) ∙ sym (floor-same (newestIn (t .gs)))));
+              (drained-floor (latestIn z (m .cache) L) (laneAt (m .state) L .floor)
+              ∙ rw (lane-latest, l .floor) (floor-drained (l .since) ∙ sym (floor-same (newestIn (t .gs)))));
           holding = rw (to .here) (l .holding);
         }
 
@@ -182,7 +185,7 @@ module _ (z : Sizes) (L : ℕ) (lane : L < z.lanes) (m : Machine) (t : Track) (s
   level-floor = l .floor ∙ floor-same (newestIn (t .gs))
 
   -- one sequence more
-  module _ (ws : List Write) (few : length ws ≤ 16) (low : All (λ w. w .word < z.words) ws) (phase : Phase) (redo : List Pair) where
+  module _ (ws : List Write) (few : length ws ≤ maxWrites) (low : All (λ w. w .word < z.words) ws) (phase : Phase) (redo : List Pair) where
     abbrev xs : List Store
     xs = appendStores (logStart z L) z.slots (m .state .clock + 2) (cursorOf (laneAt (m .state) L)) ws
 
@@ -191,13 +194,16 @@ module _ (z : Sizes) (L : ℕ) (lane : L < z.lanes) (m : Machine) (t : Track) (s
     appended-base =
         stored-base (m .cache)
         (All-map (λ x i. le-trans (let e : 1 ≤ 1 + z.words = omega arith in e) (inside-late z L (x .at) i))
-        (append-inside z L lane (omega (arith, s .sizes .slots-low)) (m .state .clock + 2) (cursorOf (laneAt (m .state) L)) ws (next-low z L m (levelled z L m t) s l)))
+        (append-inside z L lane (omega (arith, s .sizes .slots-low)) (m .state .clock + 2)
+        (cursorOf (laneAt (m .state) L)) ws (next-low z L m (levelled z L m t) s l)))
 
-    append-cursor : advance z.slots (length ws + 1) (cursorOf (laneAt (m .state) L)) ≡ cursorAt z.slots (length (t .hist ++ pastOf (oldsOf ws) (m .state .clock + 2)))
+    append-cursor : advance z.slots (length ws + 1) (cursorOf (laneAt (m .state) L))
+        ≡ cursorAt z.slots (length (t .hist ++ pastOf (oldsOf ws) (m .state .clock + 2)))
     append-cursor =
         ap (advance z.slots (length ws + 1)) (l .cursor) ∙ advance-cursor z.slots (omega (arith, s .sizes .slots-low)) (length ws + 1) (length (t .hist))
         ∙ ap (cursorAt z.slots)
-        (let e : length (t .hist) + (length ws + 1) ≡ length (t .hist ++ pastOf (oldsOf ws) (m .state .clock + 2)) = omega (arith, length-new (t .hist) (oldsOf ws) (m .state .clock + 2), length-olds ws) in e)
+        (let e : length (t .hist) + (length ws + 1) ≡ length (t .hist ++ pastOf (oldsOf ws) (m .state .clock + 2)) =
+        omega (arith, length-new (t .hist) (oldsOf ws) (m .state .clock + 2), length-olds ws) in e)
 
     append-level : PhaseOf z.slots phase (next (t .hist) (oldsOf ws) (m .state .clock + 2) ∷ t .gs)
         → LaneLog z L (appended z L ws phase redo m) (extended z L m ws (m .state .clock + 2) t)
@@ -226,14 +232,16 @@ module _ (z : Sizes) (L : ℕ) (lane : L < z.lanes) (m : Machine) (t : Track) (s
       rw (f, c) (circular-abs z.slots (omega (arith, s .sizes .slots-low)) (g .end - n) n (omega (arith, k .ok .few, s .sizes .slots-low)) ∙ ap (_% z.slots) e)
 
   -- a store's value comes from the address word, which the data words' stores leave
-  restamp-same : (j c : ℕ) (image : List ℕ) → j < z.slots → logOf z L image ≡ logOf z L (m .cache) → restampStore (logStart z L) j c (m .cache) ≡ restampStore (logStart z L) j c image
+  restamp-same : (j c : ℕ) (image : List ℕ) → j < z.slots → logOf z L image ≡ logOf z L (m .cache)
+      → restampStore (logStart z L) j c (m .cache) ≡ restampStore (logStart z L) j c image
   unfolding restampStore
   restamp-same j c image h e =
       let d : getD (m .cache) (logStart z L + 2 * j) 0 ≡ getD image (logStart z L + 2 * j) 0
       = sym (getD-log z L (m .cache) (2 * j) (omega arith)) ∙ ap (λ (k : List ℕ). getD k (2 * j) 0) (sym e) ∙ getD-log z L image (2 * j) (omega arith) in
       rw d
 
-  commit-now : (x : Logged) {h : List Past} {gs : List Seq} → PhaseOf z.slots (Holds x) gs → Written z (baseOf (m .cache)) (m .state .clock) (logOf z L (m .cache)) h gs
+  commit-now : (x : Logged) {h : List Past} {gs : List Seq} → PhaseOf z.slots (Holds x) gs
+      → Written z (baseOf (m .cache)) (m .state .clock) (logOf z L (m .cache)) h gs
       → (image : List ℕ) → length image ≡ imageLength z → logOf z L image ≡ logOf z L (m .cache)
       → Written z (baseOf (m .cache)) (m .state .clock + 2)
       (logOf z L (set image (restampStore (logStart z L) (circular z.slots (x .first + x .count)) (m .state .clock + 2) (m .cache) .at)
@@ -273,7 +281,8 @@ module _ (z : Sizes) (L : ℕ) (lane : L < z.lanes) (m : Machine) (t : Track) (s
               (commit-now x its (l .now) (stored (pairStores ps) (m .cache)) (length-stored (pairStores ps) (m .cache) ∙ s .in-cache) pairs-log);
           before = rw committed-base (written-later z (baseOf (m .cache)) (m .state .clock) (m .state .clock + 2) (omega arith) (l .now));
           since = commit-since (m .state .clock + 2) x (t .hist) (below-new (m .state .clock) (l .now .upto)) its;
-          mem = mem-stored-own z L lane (logOf z L (m .cache)) (m .cache) (m .flags) (m .nvm) (s .in-cache) (s .in-flags) (s .in-nvm) (commitStores z L ps m) same;
+          mem = mem-stored-own z L lane (logOf z L (m .cache)) (m .cache) (m .flags)
+              (m .nvm) (s .in-cache) (s .in-flags) (s .in-nvm) (commitStores z L ps m) same;
           cursor = rw (a .here, length-sealHist (m .state .clock + 2) (t .hist) (t .gs)) (l .cursor);
           floor = rw (a .here) (level-floor ∙ commit-floor (m .state .clock + 2) x its);
           holding = rw (a .here) idle;
@@ -281,17 +290,19 @@ module _ (z : Sizes) (L : ℕ) (lane : L < z.lanes) (m : Machine) (t : Track) (s
 
 -- ---- the calls of the lane itself: each drains first
 module _ (z : Sizes) (L : ℕ) (lane : L < z.lanes) (m : Machine) (t : Track) (s : Shape z m) (l : LaneLog z L m t) where
-  pub lane-appends : (ws : List Write) → length ws ≤ 16 → All (λ w. w .word < z.words) ws → (phase : Phase) (redo : List Pair)
+  pub lane-appends : (ws : List Write) → length ws ≤ maxWrites → All (λ w. w .word < z.words) ws → (phase : Phase) (redo : List Pair)
       → PhaseOf z.slots phase (next (t .hist) (oldsOf ws) (m .state .clock + 2) ∷ t .gs)
       → LaneLog z L (appended z L ws phase redo (drained z L m)) (extended z L m ws (m .state .clock + 2) t)
   unfolding drained withLane
   lane-appends ws few low phase redo held =
-      append-level z L lane (drained z L m) t (shape-drained z m s L lane) (lane-drains z L m t s l lane) (lane-same z L m t s l lane) ws few low phase redo held
+      append-level z L lane (drained z L m) t (shape-drained z m s L lane)
+      (lane-drains z L m t s l lane) (lane-same z L m t s l lane) ws few low phase redo held
 
   -- Log
-  pub lane-logs : (ws : List Write) → length ws ≤ 16 → All (λ w. w .word < z.words) ws → LaneLog z L (logged z L ws (drained z L m)) (extended z L m ws (m .state .clock + 2) t)
+  pub lane-logs : (ws : List Write) → length ws ≤ maxWrites → All (λ w. w .word < z.words) ws
+      → LaneLog z L (logged z L ws (drained z L m)) (extended z L m ws (m .state .clock + 2) t)
   unfolding logged drained withLane
-  lane-logs ws few low = lane-appends ws few low _ (pairsOf 16 ws) (holds first (sym (length-olds ws)) refl)
+  lane-logs ws few low = lane-appends ws few low _ (pairsOf maxWrites ws) (holds first (sym (length-olds ws)) refl)
     where
       n : ℕ
       n = length (oldsOf ws)

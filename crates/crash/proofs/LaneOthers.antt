@@ -40,7 +40,14 @@ module _ (z : Sizes) (M : ℕ) (m : Machine) (s : Shape z m) where
       go : {gs : List Seq} → Written z (baseOf (m .cache)) (m .state .clock) (logOf z M (m .cache)) (t .hist) gs → PhaseOf z.slots (Holds x) gs
           → x .first + x .count < 2 * z.slots
       go w (holds {g = g} f c q) =
-          omega (arith, f, c, stands z.words z.slots (w .history) here .ok .few, mod-lt (g .end - length (g .entries)) (let p : 0 < z.slots = omega (arith, s .sizes .slots-low) in p), s .sizes .slots-low)
+          omega (
+            arith,
+            f,
+            c,
+            stands z.words z.slots (w .history) here .ok .few,
+            mod-lt (g .end - length (g .entries)) (let p : 0 < z.slots = omega (arith, s .sizes .slots-low) in p),
+            s .sizes .slots-low,
+          )
 
   slot-inside : (j : ℕ) → j < z.slots → Inside z M (logStart z M + 2 * j + 1)
   slot-inside j h = (omega arith, omega arith)
@@ -101,7 +108,8 @@ module _ (z : Sizes) (L : ℕ) (lane : L < z.lanes) (m : Machine) (t : Track) (s
           holding = rw a (l .holding);
         }
 
-    pub lane-appends-other : (ws : List Write) (phase : Phase) (redo : List Pair) → laneAt (m .state) M .next < z.slots → LaneLog z L (appended z M ws phase redo m) t
+    pub lane-appends-other : (ws : List Write) (phase : Phase) (redo : List Pair) → laneAt (m .state) M .next < z.slots
+        → LaneLog z L (appended z M ws phase redo m) t
     unfolding appended changed withLane withClock cursorOf
     lane-appends-other ws phase redo next =
         let i = append-inside z M other (omega (arith, s .sizes .slots-low)) (m .state .clock + 2) (cursorOf (laneAt (m .state) M)) ws next in

@@ -61,7 +61,8 @@ module _ (z : Sizes) (L : ℕ) (m : Machine) (t : Track) (s : Shape z m) (l : La
   lane-held x e = held-of z.slots x (rw e at (l .holding))
 
   -- its entries stand in the log
-  entry-there : (g : Seq) (rest : List Seq) → Written z (baseOf (m .cache)) (m .state .clock) (logOf z L (m .cache)) (t .hist) (g ∷ rest) → (i : ℕ) → i < length (g .entries)
+  entry-there : (g : Seq) (rest : List Seq)
+      → Written z (baseOf (m .cache)) (m .state .clock) (logOf z L (m .cache)) (t .hist) (g ∷ rest) → (i : ℕ) → i < length (g .entries)
       → slotAt z.words (logOf z L (m .cache)) (circular z.slots ((g .end - length (g .entries)) % z.slots + i))
       ≡ Entry (getD (g .entries) i noOld .word) (getD (g .entries) i noOld .old) (wrapOf z.slots (g .end - length (g .entries) + i))
   unfolding Window contentOf addressAt valueAt
@@ -73,7 +74,8 @@ module _ (z : Sizes) (L : ℕ) (m : Machine) (t : Track) (s : Shape z m) (l : La
       let below : a < length (t .hist) = omega (arith, k .below, k .late) in
       let x = w .window a (omega (arith, newest-end z.words z.slots (w .history), k .ok .few, k .late, s .sizes .slots-low)) below in
       ap (slotAt z.words (logOf z L (m .cache))) (circular-abs z.slots pos (g .end - n) i (omega (arith, k .ok .few, s .sizes .slots-low)))
-      ∙ exact-reads z.words z.slots (s .sizes .words-high) pos (at (t .hist)) (length (t .hist)) (hist-fits z.words z.slots (w .history)) (logOf z L (m .cache)) a below (x .address) (x .value)
+      ∙ exact-reads z.words z.slots (s .sizes .words-high) pos (at (t .hist)) (length (t .hist))
+      (hist-fits z.words z.slots (w .history)) (logOf z L (m .cache)) a below (x .address) (x .value)
       ∙ ap (contentOf (wrapOf z.slots a)) (newest-entry z.words z.slots (w .history) i h)
 
   -- so, where they are the old values of some writes, these are what Validate compares with
@@ -86,7 +88,8 @@ module _ (z : Sizes) (L : ℕ) (m : Machine) (t : Track) (s : Shape z m) (l : La
       let n : length (g .entries) ≡ length ws = ap length e ∙ length-olds ws in
       let few = stands z.words z.slots (w .history) here .ok .few in
       rw (h .first)
-      (entries-from z.words z.slots (logOf z L (m .cache)) ((g .end - length (g .entries)) % z.slots) ws (mod-lt (g .end - length (g .entries)) pos) (omega (arith, few, n, s .sizes .slots-low))
+      (entries-from z.words z.slots (logOf z L (m .cache)) ((g .end - length (g .entries)) % z.slots) ws
+      (mod-lt (g .end - length (g .entries)) pos) (omega (arith, few, n, s .sizes .slots-low))
       (λ i k.
       let o = olds-at ws i k in
       let f = entry-there g (h .rest) w i (omega (arith, n)) in (
@@ -96,13 +99,15 @@ module _ (z : Sizes) (L : ℕ) (m : Machine) (t : Track) (s : Shape z m) (l : La
 
   -- ---- refusal 9
   -- a whole sequence at or above the lower bound stays whole
-  pub lane-room : (n b : ℕ) → wouldHit z L n m ≡ false → boundOf z (drained z L m .state) ≡ At b → {g : Seq} → In g (t .gs) → Whole z.slots (t .hist) g → b ≤ g .stamp
+  pub lane-room : (n b : ℕ) → wouldHit z L n m ≡ false → boundOf z (drained z L m .state) ≡ At b
+      → {g : Seq} → In g (t .gs) → Whole z.slots (t .hist) g → b ≤ g .stamp
       → length (t .hist) + n + length (g .entries) ≤ g .end + z.slots
   unfolding wouldHit hits completeIn
   lane-room n b e f i w k =
       written-room z (s .sizes) (baseOf (m .cache)) (m .state .clock) (logOf z L (m .cache)) L (l .now) n b (rw (f, next-slot z L m t s l) at e) i w k
 
-  pub lane-stays-whole : (ws : List Write) (b c : ℕ) → wouldHit z L (length ws + 1) m ≡ false → boundOf z (drained z L m .state) ≡ At b → {g : Seq} → In g (t .gs)
+  pub lane-stays-whole : (ws : List Write) (b c : ℕ)
+      → wouldHit z L (length ws + 1) m ≡ false → boundOf z (drained z L m .state) ≡ At b → {g : Seq} → In g (t .gs)
       → Whole z.slots (t .hist) g → b ≤ g .stamp → Whole z.slots (t .hist ++ pastOf (oldsOf ws) c) g
   lane-stays-whole ws b c e f i w k =
       omega (arith, lane-room (length ws + 1) b e f i w k, length-new (t .hist) (oldsOf ws) c, length-olds ws)

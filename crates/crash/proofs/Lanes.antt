@@ -1,4 +1,5 @@
--- The record's lanes and the history's pages after each move: lane L becomes another, the rest stay; the lanes of a start; and the least floor of both. Assumes nothing.
+-- The record's lanes and the history's pages after each move: lane L becomes another, the rest stay; the lanes of a start;
+-- and the least floor of both. Assumes nothing.
 use mathlib.Core.Path.{_≡_, refl, ap₂, sym, subst}
 use mathlib.Core.Logic.{_≢_}
 use mathlib.Core.List.{List, [], _∷_}
@@ -10,6 +11,7 @@ use native.Mathlib.Nat.{le-of-suc-le-suc, zero-lt-suc, le-trans}
 use lib.ListN.{length, getD, take, length-set, getD-replicate}
 use lib.Seq.{getD-set-same, getD-set-other}
 use Rattle.txn.specs.declared.Write.{Write}
+use Rattle.image.specs.Image.{maxLanes}
 use Rattle.image.specs.declared.Sizes.{Sizes}
 use Rattle.log.specs.Log.{latestIn, contribution}
 use Rattle.log.specs.Append.{advance}
@@ -17,7 +19,8 @@ use Rattle.log.specs.declared.Timestamp.{Timestamp}
 use Rattle.log.specs.declared.Timestamp.the-variants.{None, At}
 use Rattle.log.specs.declared.Latest.{Latest}
 use Rattle.log.specs.declared.Latest.the-variants.{Nothing, Is}
-use Rattle.record.specs.Record.{noLane, laneAt, cursorOf, lesser, leastFloor, boundOf, floorAfterDrain, floorAfterAppend, withLane, withClock, withLast, drainedLane, appendedLane, idleLane, startLane, startRecord}
+use Rattle.record.specs.Record.{noLane, laneAt, cursorOf, lesser, leastFloor, boundOf, floorAfterDrain, floorAfterAppend}
+use Rattle.record.specs.Record.{withLane, withClock, withLast, drainedLane, appendedLane, idleLane, startLane, startRecord}
 use Rattle.record.specs.declared.Pair.{Pair}
 use Rattle.record.specs.declared.Phase.{Phase}
 use Rattle.record.specs.declared.Lane.{Lane}
@@ -48,9 +51,9 @@ pub lane-cases : (P : ℕ → Type 0) (L : ℕ) → P L → ((M : ℕ) → M ≢
 lane-cases P L here others M = elim (ℕ-discrete M L) [ yes e ↦ subst P (sym e) here | no d ↦ others M d ]
 
 -- every lane in use at a start
-pub lane-start : (z : Sizes) (base : ℕ) → z.lanes ≤ 8 → (L : ℕ) → L < z.lanes → laneAt (startRecord base) L ≡ startLane
+pub lane-start : (z : Sizes) (base : ℕ) → z.lanes ≤ maxLanes → (L : ℕ) → L < z.lanes → laneAt (startRecord base) L ≡ startLane
 unfolding laneAt startRecord
-lane-start z base h L i = getD-replicate 8 L startLane noLane (le-trans i h)
+lane-start z base h L i = getD-replicate maxLanes L startLane noLane (le-trans i h)
 
 -- ---- each move
 module _ (z : Sizes) (L : ℕ) (m : Machine) (h : L < length (m .state .lanes)) where
@@ -85,7 +88,8 @@ pub record PageTo (g h : History) (L : ℕ) (p : Page) : Type 0 where
   pub pages : length (h .pages) ≡ length (g .pages)
 
 module _ (L : ℕ) (h : History) (i : L < length (h .pages)) where
-  pub page-settled : PageTo h (settled L h) L (record { held = pageAt h L .held; newest = pageAt h L .newest; floor = floorOr (pageAt h L .newest) (pageAt h L .floor) })
+  pub page-settled : PageTo h (settled L h) L
+      (record { held = pageAt h L .held; newest = pageAt h L .newest; floor = floorOr (pageAt h L .newest) (pageAt h L .floor) })
   unfolding settled pageAt
   page-settled =
       record {

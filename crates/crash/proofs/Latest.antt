@@ -68,8 +68,18 @@ latest-greatest (p ∷ qs) r e = go (later-cases (sequenceOf p) (latest qs)) (λ
     go : Later (sequenceOf p) (latest qs) → ((s : Sequence) → latest qs ≡ Is s → Greatest qs s) → Greatest (p ∷ qs) r
     go (first f g) ih =
         let k : sequenceOf p ≡ r = is-one (sym f ∙ e) in
-        record { by = p; found = here; is = k; above = λ {q} i. let b : q .stamp ≤ p .stamp = below (latest qs) refl g ih i in omega (arith, ap (λ (s : Sequence). s .stamp) k) }
+        record {
+          by = p;
+          found = here;
+          is = k;
+          above = λ {q} i. let b : q .stamp ≤ p .stamp = below (latest qs) refl g ih i in omega (arith, ap (λ (s : Sequence). s .stamp) k);
+        }
     go (second s f g m) ih =
         let k : s ≡ r = is-one (sym g ∙ e) in
         let t = ih s f in
-        record { by = t .by; found = there (t .found); is = t .is ∙ k; above = λ {q} i. let b : q .stamp ≤ s .stamp = up s m t i in omega (arith, ap (λ (s : Sequence). s .stamp) k) }
+        record {
+          by = t .by;
+          found = there (t .found);
+          is = t .is ∙ k;
+          above = λ {q} i. let b : q .stamp ≤ s .stamp = up s m t i in omega (arith, ap (λ (s : Sequence). s .stamp) k);
+        }

@@ -23,7 +23,8 @@ pub record Mem (z : Sizes) (L : ℕ) (was cache flags nvm : List ℕ) : Type 0 w
   -- each word is the cached one or that of the last drain
   pub mix : (j : ℕ) → j < 2 * z.slots → (getD nvm (logStart z L + j) 0 ≡ getD cache (logStart z L + j) 0) ⊎ (getD nvm (logStart z L + j) 0 ≡ getD was j 0)
   -- each word is the cached one or flushed by the lane
-  pub cover : (j : ℕ) → j < 2 * z.slots → (getD nvm (logStart z L + j) 0 ≡ getD cache (logStart z L + j) 0) ⊎ (flushed L (getD flags (logStart z L + j) 0) ≡ true)
+  pub cover : (j : ℕ) → j < 2 * z.slots
+      → (getD nvm (logStart z L + j) 0 ≡ getD cache (logStart z L + j) 0) ⊎ (flushed L (getD flags (logStart z L + j) 0) ≡ true)
 
 -- the same as lists of their own
 pub mix-log : (z : Sizes) (L : ℕ) {was cache flags nvm : List ℕ} → Mem z L was cache flags nvm → (j : ℕ) → j < 2 * z.slots
@@ -61,7 +62,8 @@ module _ (z : Sizes) (L : ℕ) (lane : L < z.lanes) (was cache flags nvm : List 
   pub mem-drained-other : (M : ℕ) → L ≢ M → Mem z L was cache flags nvm → Mem z L was cache (drainedFlags M flags) (drainedNvm M flags cache nvm)
   mem-drained-other M d m = record { mix = mix′; cover = cover′ }
     where
-      mix′ : (j : ℕ) → j < 2 * z.slots → (getD (drainedNvm M flags cache nvm) (k j) 0 ≡ getD cache (k j) 0) ⊎ (getD (drainedNvm M flags cache nvm) (k j) 0 ≡ getD was j 0)
+      mix′ : (j : ℕ) → j < 2 * z.slots
+          → (getD (drainedNvm M flags cache nvm) (k j) 0 ≡ getD cache (k j) 0) ⊎ (getD (drainedNvm M flags cache nvm) (k j) 0 ≡ getD was j 0)
       mix′ j h =
           rw (getD-drainedNvm M flags cache nvm (k j) (in-flags j h) (in-cache j h) (in-nvm j h))
           (split (flushed M (getD flags (k j) 0)) (λ e. rw e (inl refl)) (λ e. rw e (m .mix j h)))
@@ -69,7 +71,11 @@ module _ (z : Sizes) (L : ℕ) (lane : L < z.lanes) (was cache flags nvm : List 
       cover′ : (j : ℕ) → j < 2 * z.slots
           → (getD (drainedNvm M flags cache nvm) (k j) 0 ≡ getD cache (k j) 0) ⊎ (flushed L (getD (drainedFlags M flags) (k j) 0) ≡ true)
       cover′ j h =
-          rw (getD-drainedNvm M flags cache nvm (k j) (in-flags j h) (in-cache j h) (in-nvm j h), getD-drainedFlags M flags (k j), unflush-other L M (getD flags (k j) 0) d)
+          rw (
+            getD-drainedNvm M flags cache nvm (k j) (in-flags j h) (in-cache j h) (in-nvm j h),
+            getD-drainedFlags M flags (k j),
+            unflush-other L M (getD flags (k j) 0) d,
+          )
           (split (flushed M (getD flags (k j) 0)) (λ e. rw e (inl refl)) (λ e. rw e (m .cover j h)))
 
   -- the lane itself drains: its log is as cached

@@ -8,13 +8,15 @@ use lib.Dec.{eqb, leb}
 use lib.ListN.{length}
 use borrow.Author.Tests.{eqb-true, eqb-false, leb-false, not-false, le-leb}
 use Rattle.laws.specs.Tests.{split, clash}
-use Rattle.txn.specs.Txn.{txnOk}
+use Rattle.txn.specs.Txn.{maxWrites, txnOk}
 use Rattle.image.specs.Image.{buffersOk}
 use Rattle.image.specs.declared.Sizes.{Sizes}
 use Rattle.record.specs.Record.{laneAt, isLogged, recordOk, spent, pairsOf}
 use Rattle.record.specs.declared.Phase.the-variants.{Idle}
 use Rattle.store.specs.Machine.{Machine, Step, Cause, firstCause, unless}
-use Rattle.store.specs.Calls.{badBuffers, badRecord, badLane, badTxn, notLogged, clockSpent, drained, wouldHit, writesOn, appended, logged, committed, isStale, redoPairs, matches, released, drainRefusal, drainStep, logRefusal, logStep, redoRefusal, redoStep, validateRefusal, validateStep, markRefusal, markStep}
+use Rattle.store.specs.Calls.{badBuffers, badRecord, badLane, badTxn, notLogged, clockSpent, drained, wouldHit, writesOn}
+use Rattle.store.specs.Calls.{appended, logged, committed, isStale, redoPairs, matches, released, drainRefusal, drainStep}
+use Rattle.store.specs.Calls.{logRefusal, logStep, redoRefusal, redoStep, validateRefusal, validateStep, markRefusal, markStep}
 use Rattle.store.specs.declared.Answer.{Answer}
 use Rattle.store.specs.declared.Answer.the-variants.{Refused, Done, NoWrites, Logged, Committed, Stale, Changed, Marked}
 use Rattle.crash.specs.Events.{Call, log, redo, validate, mark, drain, laneOf, callStep}
@@ -47,7 +49,7 @@ refusalOf z (drain L) m = drainRefusal z L m
 -- ---- the moves
 -- the calls that only drain: a Log that writes nothing, a Redo that is stale, a Drain
 pub data Drains (z : Sizes) (m : Machine) : Call → Answer → Type 0 where
-  quiet : (L : ℕ) (f : List ℕ) → txnOk 16 z.words f ≡ true → isLogged (laneAt (m .state) L .phase) ≡ false → length (writesOn z f m) ≡ 0
+  quiet : (L : ℕ) (f : List ℕ) → txnOk maxWrites z.words f ≡ true → isLogged (laneAt (m .state) L .phase) ≡ false → length (writesOn z f m) ≡ 0
       → Drains z m (log L f) NoWrites
   late : (L : ℕ) → Ready m L → isStale L m ≡ true → Drains z m (redo L) Stale
   plain : (L : ℕ) → Drains z m (drain L) Done
@@ -55,7 +57,7 @@ pub data Drains (z : Sizes) (m : Machine) : Call → Answer → Type 0 where
 pub data Move (z : Sizes) (m : Machine) : Call → Step → Type 0 where
   refusing : {c : Call} (n : ℕ) → refusalOf z c m ≡ n → (n ≡ 0 → ⊥) → Move z m c (record { answer = Refused n; machine = m })
   draining : {c : Call} {a : Answer} → Known z m (laneOf c) → Drains z m c a → Move z m c (record { answer = a; machine = drained z (laneOf c) m })
-  logging : (L : ℕ) (f : List ℕ) → Known z m L → txnOk 16 z.words f ≡ true → isLogged (laneAt (m .state) L .phase) ≡ false
+  logging : (L : ℕ) (f : List ℕ) → Known z m L → txnOk maxWrites z.words f ≡ true → isLogged (laneAt (m .state) L .phase) ≡ false
       → 0 < length (writesOn z f m) → Room z m L (length (writesOn z f m) + 1)
       → Move z m (log L f)
       (record {
@@ -64,13 +66,13 @@ pub data Move (z : Sizes) (m : Machine) : Call → Step → Type 0 where
       })
   redoing : (L : ℕ) → Known z m L → Ready m L → isStale L m ≡ false
       → Move z m (redo L) (record { answer = Committed (m .state .clock + 2); machine = committed z L (redoPairs L m) (drained z L m) })
-  validating : (L : ℕ) (f : List ℕ) → Known z m L → txnOk 16 z.words f ≡ true → Ready m L → matches z L (writesOn z f m) m ≡ true
+  validating : (L : ℕ) (f : List ℕ) → Known z m L → txnOk maxWrites z.words f ≡ true → Ready m L → matches z L (writesOn z f m) m ≡ true
       → Move z m (validate L f)
       (record {
         answer = Committed (m .state .clock + 2);
         machine = committed z L (pairsOf (length (writesOn z f m)) (writesOn z f m)) (drained z L m);
       })
-  giving-up : (L : ℕ) (f : List ℕ) → Known z m L → txnOk 16 z.words f ≡ true → Ready m L → matches z L (writesOn z f m) m ≡ false
+  giving-up : (L : ℕ) (f : List ℕ) → Known z m L → txnOk maxWrites z.words f ≡ true → Ready m L → matches z L (writesOn z f m) m ≡ false
       → Move z m (validate L f) (record { answer = Changed; machine = released L (drained z L m) })
   marking : (L : ℕ) → Known z m L → Room z m L 1
       → Move z m (mark L)
@@ -106,7 +108,8 @@ positive n h = omega arith
 module _ (z : Sizes) (m : Machine) (L : ℕ) where
   -- causes 1, 2 and 3, and what is left of the list
   first-three : (cs : List Cause)
-      → firstCause (record { number = 1; holds = not (buffersOk z (length (m .cache)) (length (m .nvm)) (length (m .flags))) } ∷ record { number = 2; holds = not (recordOk z (m .state)) } ∷ record { number = 3; holds = leb z.lanes L } ∷ cs) ≡ 0
+      → firstCause (record { number = 1; holds = not (buffersOk z (length (m .cache)) (length (m .nvm)) (length (m .flags))) }
+      ∷ record { number = 2; holds = not (recordOk z (m .state)) } ∷ record { number = 3; holds = leb z.lanes L } ∷ cs) ≡ 0
       → Known z m L × (firstCause cs ≡ 0)
   first-three cs e =
       let c₁ = none-holds _ _ _ e in
@@ -150,7 +153,7 @@ module _ (z : Sizes) (m : Machine) (L : ℕ) where
         let c₆ = none-holds _ _ _ (c₅ .1) in
         let c₈ = none-holds _ _ _ (c₆ .1) in
         let c₉ = none-holds _ _ _ (c₈ .1) in
-        let ok = not-false (txnOk 16 z.words f) (c₅ .0) in
+        let ok = not-false (txnOk maxWrites z.words f) (c₅ .0) in
         cond-by (Move z m (log L f)) (eqb n 0) _ _ (λ t. draining (k .0) (quiet L f ok (c₆ .0) (eqb-true n 0 t)))
         (λ t.
         let p : 0 < n = positive n (eqb-false n 0 t) in
@@ -169,7 +172,7 @@ module _ (z : Sizes) (m : Machine) (L : ℕ) where
         let c₅ = none-holds _ _ _ (k .1) in
         let c₇ = none-holds _ _ _ (c₅ .1) in
         let c₈ = none-holds _ _ _ (c₇ .1) in
-        let ok = not-false (txnOk 16 z.words f) (c₅ .0) in
+        let ok = not-false (txnOk maxWrites z.words f) (c₅ .0) in
         let r : Ready m L = record { held = not-false (isLogged (laneAt (m .state) L .phase)) (c₇ .0); clock = c₈ .0 } in
         cond-by (Move z m (validate L f)) (matches z L (writesOn z f m) m) _ _ (λ t. validating L f (k .0) ok r t) (λ t. giving-up L f (k .0) ok r t))
 

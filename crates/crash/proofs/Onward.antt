@@ -31,7 +31,8 @@ last-append base [] c = refl
 last-append base (d ∷ cs) c = last-append (d .stamp) cs c
 
 -- commits up to a clock, and then commits above it
-pub rising-append : (clock : ℕ) {cs ds : List Commit} → Rising cs → All (λ c. c .stamp ≤ clock) cs → Rising ds → All (λ d. clock < d .stamp) ds → Rising (cs ++ ds)
+pub rising-append : (clock : ℕ) {cs ds : List Commit}
+    → Rising cs → All (λ c. c .stamp ≤ clock) cs → Rising ds → All (λ d. clock < d .stamp) ds → Rising (cs ++ ds)
 rising-append clock last nil r f = r
 rising-append clock (then {c = c} a q) (more h hs) r f = then (All-append a (All-map (λ d k. omega arith) f)) (rising-append clock q hs r f)
 

@@ -11,6 +11,7 @@ use lib.Seq.{getD-take}
 use borrow.Author.Tests.{leb-true, eq-eqb, le-leb, lt-ltb}
 use Rattle.laws.specs.Tests.{and-left, and-right, and-both}
 use Rattle.laws.specs.Lists.{All, none as nil, more}
+use Rattle.txn.specs.Txn.{maxWrites}
 use Rattle.txn.specs.declared.Write.{Write}
 use Rattle.image.specs.declared.Sizes.{Sizes}
 use Rattle.log.specs.declared.Timestamp.{Timestamp}
@@ -85,10 +86,10 @@ phase-later z c d redo Idle h e = refl
 phase-later z c d redo (Holds g) h e =
     let e₁ = and-right (ltb (g .first) z.slots) _ e in
     let e₂ = and-right (leb 1 (g .count)) _ e₁ in
-    let e₃ = and-right (leb (g .count) 16) _ e₂ in
+    let e₃ = and-right (leb (g .count) maxWrites) _ e₂ in
     let s = and-left (stampOk c (g .stamp)) (pairsOk z.words (take (g .count) redo)) e₃ in
     let p = and-right (stampOk c (g .stamp)) (pairsOk z.words (take (g .count) redo)) e₃ in
-    rw (and-left (ltb (g .first) z.slots) _ e, and-left (leb 1 (g .count)) _ e₁, and-left (leb (g .count) 16) _ e₂, stamp-later c d (g .stamp) h s, p)
+    rw (and-left (ltb (g .first) z.slots) _ e, and-left (leb 1 (g .count)) _ e₁, and-left (leb (g .count) maxWrites) _ e₂, stamp-later c d (g .stamp) h s, p)
 
 pub lane-later : (z : Sizes) (c d : ℕ) (l : Lane) → c ≤ d → LaneIn z c l → LaneIn z d l
 lane-later z c d l h r =
@@ -106,9 +107,9 @@ pairs-low W zero pos a = refl
 pairs-low W (suc n) pos nil = and-both (ltb 0 W) _ (lt-ltb 0 W pos) (pairs-low W n pos nil)
 pairs-low W (suc n) pos (more {x = w} h hs) = and-both (ltb (w .word) W) _ (lt-ltb (w .word) W h) (pairs-low W n pos hs)
 
-pub phase-logged : (z : Sizes) (clock first : ℕ) (ws : List Write) → 0 < z.words → first < z.slots → 1 ≤ length ws → length ws ≤ 16 → clock % 2 ≡ 0
-    → All (λ w. w .word < z.words) ws → take (length ws) (pairsOf 16 ws) ≡ pairsOf (length ws) ws
-    → phaseOk z clock (pairsOf 16 ws) (Holds (record { first = first; count = length ws; stamp = clock })) ≡ true
+pub phase-logged : (z : Sizes) (clock first : ℕ) (ws : List Write) → 0 < z.words → first < z.slots → 1 ≤ length ws → length ws ≤ maxWrites → clock % 2 ≡ 0
+    → All (λ w. w .word < z.words) ws → take (length ws) (pairsOf maxWrites ws) ≡ pairsOf (length ws) ws
+    → phaseOk z clock (pairsOf maxWrites ws) (Holds (record { first = first; count = length ws; stamp = clock })) ≡ true
 unfolding phaseOk
 phase-logged z clock first ws pos f lo hi even low e =
-    rw (lt-ltb first z.slots f, le-leb 1 (length ws) lo, le-leb (length ws) 16 hi, stamp-now clock even, e) (pairs-low z.words (length ws) pos low)
+    rw (lt-ltb first z.slots f, le-leb 1 (length ws) lo, le-leb (length ws) maxWrites hi, stamp-now clock even, e) (pairs-low z.words (length ws) pos low)

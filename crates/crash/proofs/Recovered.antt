@@ -27,7 +27,8 @@ pub record CutAt (z : Sizes) (c start : List ℕ) (cs : List Commit) (b : ℕ) :
   pub words : length start ≡ z.words
   pub bound : boundary z c ≡ At b
   pub order : Rising cs
-  pub olds : (w : ℕ) → w < z.words → (q : Complete) → In q (completeOf z c z.lanes) → b ≤ q .stamp → OldIn w (valueBelow z.words w start cs) (completeOf z c z.lanes) q
+  pub olds : (w : ℕ) → w < z.words → (q : Complete) → In q (completeOf z c z.lanes) → b ≤ q .stamp
+      → OldIn w (valueBelow z.words w start cs) (completeOf z c z.lanes) q
   -- a word that no sequence found from b on and below s names, no commit from b on and below s writes
   pub found : (w : ℕ) → w < z.words → (s : ℕ) → b ≤ s → NoneBetween w b s (completeOf z c z.lanes) → Untouched z.words w b s start cs
   -- a word that no sequence found from b on names is that of all commits
@@ -89,7 +90,8 @@ word-rest z c start cs b w (named q i l t) n = clash (writes (q .entries) w) t (
 
 -- so, in these terms
 pub cut-at : (z : Sizes) (c start : List ℕ) (cs : List Commit) (b : ℕ) → length c ≡ imageLength z → length start ≡ z.words → boundary z c ≡ At b → Rising cs
-    → ((w : ℕ) → w < z.words → (q : Complete) → In q (completeOf z c z.lanes) → b ≤ q .stamp → OldIn w (valueBelow z.words w start cs) (completeOf z c z.lanes) q)
+    → ((w : ℕ) → w < z.words → (q : Complete) → In q (completeOf z c z.lanes) → b ≤ q .stamp
+    → OldIn w (valueBelow z.words w start cs) (completeOf z c z.lanes) q)
     → Backed z.words b (completeOf z c z.lanes) start cs
     → ((w : ℕ) → w < z.words → Word z c start cs b w)
     → CutAt z c start cs b

@@ -15,7 +15,8 @@ use Rattle.log.specs.declared.Timestamp.{Timestamp}
 use Rattle.log.specs.declared.Timestamp.the-variants.{None, At}
 use Rattle.record.specs.Record.{laneAt, isLogged, recordOk, spent, boundOf}
 use Rattle.store.specs.Machine.{Machine, Step, Cause, firstCause, unless, said}
-use Rattle.store.specs.Calls.{badBuffers, badRecord, badLane, badTxn, notLogged, clockSpent, drained, wouldHit, writesOn, drainRefusal, drainStep, logRefusal, logStep, redoRefusal, redoStep, isStale, validateRefusal, validateStep, matches, markRefusal, markStep}
+use Rattle.store.specs.Calls.{badBuffers, badRecord, badLane, badTxn, notLogged, clockSpent, drained, wouldHit, writesOn, drainRefusal, drainStep}
+use Rattle.store.specs.Calls.{logRefusal, logStep, redoRefusal, redoStep, isStale, validateRefusal, validateStep, matches, markRefusal, markStep}
 use Rattle.crash.specs.Events.{Call, log, redo, validate, mark, drain, laneOf, callStep}
 use Rattle.crash.specs.History as book
 use Rattle.crash.specs.History.{History, settled, leastFloorOf, writesNow, holdsOne, causesBy, slotsBy}

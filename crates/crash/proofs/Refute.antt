@@ -1,4 +1,5 @@
--- How the crash theorem is shown to be false of a wrong store: a list of events, computed, at whose end the store has other numbers than the theorem gives. Assumes nothing.
+-- How the crash theorem is shown to be false of a wrong store: a list of events, computed,
+-- at whose end the store has other numbers than the theorem gives. Assumes nothing.
 use Prim.Native.Nat.{ℕ}
 use mathlib.Core.Path.{_≡_, refl, ap, sym, _∙_}
 use mathlib.Core.Bool.{Bool, true, false, not, _&&_}
@@ -16,7 +17,8 @@ use Rattle.store.specs.declared.Answer.{Answer}
 use Rattle.recovery.specs.Recovery.{boundary, told}
 use Rattle.recovery.specs.declared.Recovered.{Recovered}
 use Rattle.recovery.specs.declared.Recovered.the-variants.{Refused, Cut, Finished}
-use Rattle.crash.specs.Events.{Call, Junk, Event, format, call, recover, System, live, down, nvmOf, Reply, answered, recovered, failed, ignored, Design, happens}
+use Rattle.crash.specs.Events.{Call, Junk, Event, format, call, recover, System, live, down, nvmOf}
+use Rattle.crash.specs.Events.{Reply, answered, recovered, failed, ignored, Design, happens}
 use Rattle.crash.specs.History.{History, opened, fed, present, wordsBelow}
 use Rattle.crash.specs.Theorem.{InStep, answerBy, recoveryAnswer, Finishes, Replied, Agrees, Holds, CrashTheorem}
 use Rattle.crash.proofs.Everything.{everything}
@@ -201,13 +203,15 @@ module _ (d : Design) (z : Sizes) (start : List ℕ) (es : List Event) where
     wrong-clock has due t c = apart _ has due t (clock-due z _ _ (agrees e _ has due t c .store))
 
   -- by the answer to call c
-  pub wrong-answer : (c : Call) (has due : List ℕ) → differs (answerSides z (was .history) c (was .system) (happens d z (was .system) (call c) .reply)) has due ≡ true
+  pub wrong-answer : (c : Call) (has due : List ℕ)
+      → differs (answerSides z (was .history) c (was .system) (happens d z (was .system) (call c) .reply)) has due ≡ true
       → CrashTheorem d → ⊥
   wrong-answer c has due t k = apart _ has due t (answer-due z _ (was .system) _ _ c (was .system) _ (agrees (call c) _ has due t k .reply))
 
   -- by what a recovery answers, and leaves
   module _ (limit : ℕ) (j : Junk) where
-    pub wrong-count : (has due : List ℕ) → differs (countSides z limit (nvmOf (was .system)) (happens d z (was .system) (recover limit j) .reply)) has due ≡ true
+    pub wrong-count : (has due : List ℕ)
+        → differs (countSides z limit (nvmOf (was .system)) (happens d z (was .system) (recover limit j) .reply)) has due ≡ true
         → CrashTheorem d → ⊥
     wrong-count has due t k = apart _ has due t (count-due z (was .history) (was .system) _ _ limit j _ (agrees (recover limit j) _ has due t k .reply))
 

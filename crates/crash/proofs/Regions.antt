@@ -52,7 +52,8 @@ stored-base image none = refl
 stored-base image (more {x = x} p h) = stored-base (set image (x .at) (x .value)) h ∙ getD-set-other image (x .at) 0 (x .value) 0 (λ e. omega arith)
 
 -- none of the log's words is among the places
-pub among-apart : (z : Sizes) (L : ℕ) {xs : List Store} (j : ℕ) → j < 2 * z.slots → All (λ x. Apart z L (x .at)) xs → among (logStart z L + j) (places xs) ≡ false
+pub among-apart : (z : Sizes) (L : ℕ) {xs : List Store} (j : ℕ) → j < 2 * z.slots → All (λ x. Apart z L (x .at)) xs
+    → among (logStart z L + j) (places xs) ≡ false
 unfolding among places
 among-apart z L j l none = refl
 among-apart z L j l (more {x = x} p h) = rw (ne-eqb (x .at) (logStart z L + j) (off p)) (among-apart z L j l h)

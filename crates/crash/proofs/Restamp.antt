@@ -32,7 +32,8 @@ module _ (N : ℕ) (pos : 0 < N) (h : List Past) (e k s c : ℕ) (is : at h e �
           record {
             address = getD-set-other log (2 * (e % N) + 1) (2 * (e % N)) _ 0 (λ q. omega arith) ∙ w e new old .address ∙ ap (addressOf (wrapOf N e)) is
                 ∙ ap (addressOf (wrapOf N e)) (sym (getD-set-same h e (sta k c) blank old));
-            value = getD-set-same log (2 * (e % N) + 1) _ 0 (omega (arith, mod-lt e pos)) ∙ ap (valueOf (wrapOf N e)) (sym (getD-set-same h e (sta k c) blank old));
+            value = getD-set-same log (2 * (e % N) + 1) _ 0 (omega (arith, mod-lt e pos))
+                ∙ ap (valueOf (wrapOf N e)) (sym (getD-set-same h e (sta k c) blank old));
           }
 
       other : a ≢ e → Exact N (set h e (sta k c)) (set log (2 * (e % N) + 1) (c + wrapOf N e)) a
@@ -41,7 +42,8 @@ module _ (N : ℕ) (pos : 0 < N) (h : List Past) (e k s c : ℕ) (is : at h e �
           let u : length h ≤ a + N = omega (arith, length-set h e (sta k c)) in
           let o = w a u l in
           let apart : a % N ≢ e % N = λ q.
-          d (split (ltb a e) (λ t. window N pos a e q (omega (arith, ltb-true a e t)) (omega arith)) (λ t. sym (window N pos e a (sym q) (ltb-false a e t) (omega arith)))) in
+          d (split (ltb a e) (λ t. window N pos a e q (omega (arith, ltb-true a e t)) (omega arith))
+          (λ t. sym (window N pos e a (sym q) (ltb-false a e t) (omega arith)))) in
           record {
             address = getD-set-other log (2 * (e % N) + 1) (2 * (a % N)) _ 0 (λ q. omega arith) ∙ o .address
                 ∙ ap (addressOf (wrapOf N a)) (sym (getD-set-other h e a (sta k c) blank d));

@@ -111,7 +111,8 @@ pub data Restarts (z : Sizes) (limit : ℕ) (found : List ℕ) (m : Machine) : R
   finished : {a : Finished} → Recovered.Finished a ≡ recoveryAnswer z limit (m .nvm)
       → Restarts z limit found m (record { answer = Recovered.Finished a; machine = started z (newBase z found) (recoveredImage z found) })
 
-pub restarts : (z : Sizes) (limit : ℕ) {found : List ℕ} (m : Machine) → Leads z (m .nvm) found → recoverRefusal z m ≡ 0 → Restarts z limit found m (recoverStep z limit m)
+pub restarts : (z : Sizes) (limit : ℕ) {found : List ℕ} (m : Machine) → Leads z (m .nvm) found → recoverRefusal z m ≡ 0
+    → Restarts z limit found m (recoverStep z limit m)
 restarts z limit {found} m l r =
     split (allMade z limit (m .nvm))
     (λ e. rw (finished-step z limit m r e, leads-base z l, l .same) (finished (answer-finished z limit (m .nvm) e)))

@@ -58,7 +58,12 @@ module _ (W N : ℕ) (pos : 0 < N) (con : ℕ → Past) (log : List ℕ) (b : �
   unfolding entriesBack entriesBefore
   entries-all zero h r = refl
   entries-all (suc k) h r =
-      rw (back-abs N pos b (suc k) h hb, backWrap-abs N pos b (suc k) h hb, r (b - suc k) (omega arith) (omega arith), entries-all k (omega arith) (λ c l m. r c (omega arith) m))
+      rw (
+        back-abs N pos b (suc k) h hb,
+        backWrap-abs N pos b (suc k) h hb,
+        r (b - suc k) (omega arith) (omega arith),
+        entries-all k (omega arith) (λ c l m. r c (omega arith) m),
+      )
 
   module _ (base L k s : ℕ) (small : k ≤ N) (reads : (c : ℕ) → b ≤ c + k → c ≤ b → slotAt W log (c % N) ≡ contentOf (wrapOf N c) (con c))
       (ends : con b ≡ sta k s) (whole : length (entriesBefore N con b k) ≡ k) (new : base < s) where
@@ -68,7 +73,13 @@ module _ (W N : ℕ) (pos : 0 < N) (con : ℕ → Past) (log : List ℕ) (b : �
     closes-mine : In mine (closes W N base log L (b % N) (slotAt W log (b % N)))
     unfolding closes contentOf
     closes-mine =
-        rw (reads b (omega arith) (le-refl b), ends, entries-all k small (λ c l m. reads c l (omega arith)), lt-ltb base s new, eq-eqb (length (entriesBefore N con b k)) k whole) here
+        rw (
+          reads b (omega arith) (le-refl b),
+          ends,
+          entries-all k small (λ c l m. reads c l (omega arith)),
+          lt-ltb base s new,
+          eq-eqb (length (entriesBefore N con b k)) k whole,
+        ) here
 
     pub is-found : (m : ℕ) → b % N < m → In mine (completeBelow W N base log L m)
     unfolding completeBelow

@@ -12,8 +12,9 @@ use lib.Dec.{eqb}
 use lib.ListN.{length, replicate, length-replicate, getD-replicate}
 use borrow.Author.Tests.{eq-eqb, ne-eqb}
 use Rattle.laws.specs.Lists.{All}
+use Rattle.txn.specs.Txn.{maxWrites}
 use Rattle.txn.specs.declared.Write.{Write}
-use Rattle.image.specs.Image.{imageLength, baseOf, logOf}
+use Rattle.image.specs.Image.{maxLanes, imageLength, baseOf, logOf}
 use Rattle.image.specs.ImageLaws.{InRange}
 use Rattle.image.specs.Flush.{writtenBack}
 use Rattle.image.specs.declared.Sizes.{Sizes}
@@ -31,7 +32,8 @@ use Rattle.crash.proofs.Seqs.{level}
 use Rattle.crash.proofs.Memory.{mem-same}
 use Rattle.crash.proofs.Written.{newestIn, written-start}
 use Rattle.crash.proofs.Shape.{Shape, withNvm, shape-drained, shape-appended, shape-committed, shape-released, shape-writtenBack}
-use Rattle.crash.proofs.LaneLog.{Track, idle, LaneLog, levelled, extended, restampedBy, next-low, lane-drains, lane-logs, lane-marks, lane-commits, lane-releases}
+use Rattle.crash.proofs.LaneLog.{Track, idle}
+use Rattle.crash.proofs.LaneLog.{LaneLog, levelled, extended, restampedBy, next-low, lane-drains, lane-logs, lane-marks, lane-commits, lane-releases}
 use Rattle.crash.proofs.LaneOthers.{commit-low, lane-writtenBack, lane-drains-other, lane-appends-other, lane-commits-other, lane-releases-other}
 
 pub record Running (z : Sizes) (m : Machine) (ts : ℕ → Track) : Type 0 where
@@ -85,7 +87,7 @@ module _ (z : Sizes) (r : InRange z) (base : ℕ) (image : List ℕ) (even : bas
           in-cache = len;
           in-nvm = len;
           in-flags = length-replicate (imageLength z) 0;
-          lanes = rw (length-replicate 8 startLane) (r .lanes-high);
+          lanes = rw (length-replicate maxLanes startLane) (r .lanes-high);
           clock = even;
           even = rw at even;
           low = rw at (le-refl base);
@@ -129,7 +131,7 @@ module _ (z : Sizes) (m : Machine) (ts : ℕ → Track) (v : Running z m ts) whe
     pub running-drains : Running z (drained z M m) (updated M (levelled z M m (ts M)) ts)
     running-drains = each M (drained z M m) (levelled z M m (ts M)) drained-shape drained-mine drained-other
 
-    pub running-logs : (ws : List Write) → length ws ≤ 16 → All (λ w. w .word < z.words) ws
+    pub running-logs : (ws : List Write) → length ws ≤ maxWrites → All (λ w. w .word < z.words) ws
         → Running z (logged z M ws (drained z M m)) (updated M (extended z M m ws (m .state .clock + 2) (ts M)) ts)
     unfolding logged
     running-logs ws few low =
@@ -138,7 +140,8 @@ module _ (z : Sizes) (m : Machine) (ts : ℕ → Track) (v : Running z m ts) whe
         (lane-logs z M lane m (ts M) (v .shape) mine ws few low)
         (λ L h d. lane-appends-other z L h (drained z M m) (ts L) drained-shape (drained-other L h d) M lane d ws _ _ next-there)
 
-    pub running-marks : (redo : List Pair) → Running z (appended z M [] Idle redo (drained z M m)) (updated M (extended z M m [] (m .state .clock + 2) (ts M)) ts)
+    pub running-marks : (redo : List Pair)
+        → Running z (appended z M [] Idle redo (drained z M m)) (updated M (extended z M m [] (m .state .clock + 2) (ts M)) ts)
     running-marks redo =
         each M (appended z M [] Idle redo (drained z M m)) (extended z M m [] (m .state .clock + 2) (ts M))
         (shape-appended z (drained z M m) drained-shape M lane [] Idle redo next-there)
@@ -152,7 +155,8 @@ module _ (z : Sizes) (m : Machine) (ts : ℕ → Track) (v : Running z m ts) whe
         each M (committed z M ps (drained z M m)) (restampedBy z M m (m .state .clock + 2) (ts M))
         (shape-committed z (drained z M m) drained-shape M lane ps low)
         (lane-commits z M lane m (ts M) (v .shape) mine ps low x e)
-        (λ L h d. lane-commits-other z L h (drained z M m) (ts L) drained-shape (drained-other L h d) M lane d ps low x held (commit-low z M (drained z M m) drained-shape drained-mine x held))
+        (λ L h d. lane-commits-other z L h (drained z M m) (ts L) drained-shape
+        (drained-other L h d) M lane d ps low x held (commit-low z M (drained z M m) drained-shape drained-mine x held))
       where
         held : laneAt (drained z M m .state) M .phase ≡ Holds x
         held = rw (lane-drained z M m (le-trans lane (v .shape .lanes)) .here) e

@@ -12,6 +12,7 @@ use lib.Seq.{drop-cons, drop-length, getD-append-add, getD-append-seam, set-at}
 use borrow.Author.Tests.{ltb-true, ltb-false, eq-eqb}
 use Rattle.laws.specs.Tests.{split}
 use Rattle.laws.specs.Lists.{All, none, more}
+use Rattle.slot.specs.Slot.{maxEntries}
 use Rattle.log.specs.Log.{Old, entryIn}
 use Rattle.laws.specs.Members.{In, here, there}
 use Rattle.crash.proofs.Absolute.{wrapOf}
@@ -40,9 +41,9 @@ next h es s = record { entries = es; stamp = s; end = length h + length es }
 abbrev pub restamped : ℕ → Seq → Seq
 restamped c g = record { entries = g .entries; stamp = c; end = g .end }
 
--- what is logged: at most 16 entries of data words, and an even timestamp
+-- what is logged: at most maxEntries entries of data words, and an even timestamp
 pub record Loggable (W : ℕ) (es : List Old) (s : ℕ) : Type 0 where
-  pub few : length es ≤ 16
+  pub few : length es ≤ maxEntries
   pub low : All (λ e. e .word < W) es
   pub even : s % 2 ≡ 0
 
@@ -55,7 +56,8 @@ pub data Hist (W N : ℕ) : List Past → List Seq → Type 0 where
 pub data Since : (prior hist : List Past) (priors gs : List Seq) → Type 0 where
   level : {h : List Past} {gs : List Seq} → Since h h gs gs
   grown : {h : List Past} {gs : List Seq} (es : List Old) (s : ℕ) → Since h (h ++ pastOf es s) gs (next h es s ∷ gs)
-  sealed : {h : List Past} {gs : List Seq} (g : Seq) (c : ℕ) → g .stamp < c → Since h (set h (g .end) (sta (length (g .entries)) c)) (g ∷ gs) (restamped c g ∷ gs)
+  sealed : {h : List Past} {gs : List Seq} (g : Seq) (c : ℕ) → g .stamp < c
+      → Since h (set h (g .end) (sta (length (g .entries)) c)) (g ∷ gs) (restamped c g ∷ gs)
 
 length-as : (es : List Old) → length (entriesAs es) ≡ length es
 unfolding entriesAs
@@ -138,7 +140,8 @@ module _ (h : List Past) (es : List Old) (s : ℕ) where
 blank-at : (N b : ℕ) → at (replicate N blank) b ≡ blank
 blank-at N b =
     split (ltb b N) (λ t. getD-replicate N b blank blank (ltb-true b N t))
-    (λ t. List·getD-eq-default (replicate N blank) blank (let l : length (replicate N blank) ≤ b = omega (arith, ltb-false b N t, length-replicate N blank) in l))
+    (λ t. List·getD-eq-default (replicate N blank) blank
+    (let l : length (replicate N blank) ≤ b = omega (arith, ltb-false b N t, length-replicate N blank) in l))
 
 not-blank : {k s : ℕ} {C : Type 0} (c : Past) → c ≡ sta k s → c ≡ blank → C
 not-blank c e p = absurd (let z : _≡_ {A = ℕ} 0 1 = cc in omega arith)
@@ -184,7 +187,8 @@ module _ (W N : ℕ) where
   lookup start b k s l e = not-blank (at (replicate N blank) b) e (blank-at N b)
   lookup (add {h = h} {gs = gs} H es t ok) b k s l e = go (place h es t b) (λ m. lookup H b k s l (sym (at-old h es t b m) ∙ e))
     where
-      mine : b ≡ length h + length es → (k ≡ length es) × (s ≡ t) → In (record { entries = entriesBefore N (at (new h es t)) b k; stamp = s; end = b }) (next h es t ∷ gs)
+      mine : b ≡ length h + length es → (k ≡ length es) × (s ≡ t)
+          → In (record { entries = entriesBefore N (at (new h es t)) b k; stamp = s; end = b }) (next h es t ∷ gs)
       mine p (u, v) = rw (p, u, v, before-own h es t N) here
 
       go : Place h es t b → (b < length h → In (record { entries = entriesBefore N (at h) b k; stamp = s; end = b }) gs)
@@ -231,5 +235,6 @@ module _ (W N : ℕ) where
       put : set (h ++ pastOf es t) (length h + length es) (sta (length es) c) ≡ h ++ pastOf es c
       put =
           ap (λ l. set l (length h + length es) (sta (length es) c)) (sym (append-assoc h (entriesAs es) (sta (length es) t ∷ [])))
-          ∙ set-at (h ++ entriesAs es) (sta (length es) t) [] (sta (length es) c) (length h + length es) (length-append h (entriesAs es) ∙ ap (λ n. length h + n) (length-as es))
+          ∙ set-at (h ++ entriesAs es) (sta (length es) t) [] (sta (length es) c) (length h + length es)
+          (length-append h (entriesAs es) ∙ ap (λ n. length h + n) (length-as es))
           ∙ append-assoc h (entriesAs es) (sta (length es) c ∷ [])

@@ -72,7 +72,8 @@ module _ (z : Sizes) (m : Machine) (s : Shape z m) where
       }
 
   -- the base after a write-back of any word
-  written-base : (i : ℕ) (nvm : List ℕ) → length nvm ≡ imageLength z → baseOf nvm ≡ baseOf (m .cache) → baseOf (writtenBack i (m .cache) nvm) ≡ baseOf (m .cache)
+  written-base : (i : ℕ) (nvm : List ℕ) → length nvm ≡ imageLength z → baseOf nvm ≡ baseOf (m .cache)
+      → baseOf (writtenBack i (m .cache) nvm) ≡ baseOf (m .cache)
   unfolding baseOf
   written-base i nvm l e =
       getD-writtenBack i (m .cache) nvm 0 (image-filled z (length nvm) l) ∙ split (eqb i 0) (λ t. rw t) (λ t. rw t e)
@@ -128,7 +129,8 @@ module _ (z : Sizes) (m : Machine) (s : Shape z m) where
     unfolding appended changed withLane withClock cursorOf
     shape-appended ws phase redo next =
         shape-changed (appendStores (logStart z L) z.slots (m .state .clock + 2) (cursorOf (laneAt (m .state) L)) ws) _
-        (All-map (λ x i. le-trans (let e : 1 ≤ 1 + z.words = omega arith in e) (inside-late z L (x .at) i)) (append-inside z L lane (omega arith) (m .state .clock + 2) (cursorOf (laneAt (m .state) L)) ws next))
+        (All-map (λ x i. le-trans (let e : 1 ≤ 1 + z.words = omega arith in e) (inside-late z L (x .at) i))
+        (append-inside z L lane (omega arith) (m .state .clock + 2) (cursorOf (laneAt (m .state) L)) ws next))
         (as-many (lane-appended z L m inside ws phase redo .lanes) (s .lanes)) (omega arith) (omega (arith, s .clock))
 
     -- a commit's stores: data words, and the value word of a slot

@@ -10,6 +10,8 @@ use lib.ListN.{length}
 use borrow.Author.Tests.{ltb-true, ltb-false}
 use Rattle.laws.specs.Tests.{split}
 use Rattle.laws.specs.Lists.{All, All-map}
+use Rattle.slot.specs.Slot.{maxEntries}
+use Rattle.image.specs.Image.{maxWords, minSlots}
 use Rattle.image.specs.declared.Sizes.{Sizes}
 use Rattle.log.specs.Log.{Complete, slotAt, completeBelow}
 use Rattle.laws.specs.Members.{In}
@@ -37,10 +39,11 @@ pub record Listed (N : ℕ) (gs : List Seq) (q : Complete) : Type 0 where
   pub among : In (record { entries = q .entries; stamp = q .stamp; end = end }) gs
   pub slot : end % N ≡ q .slot
 
-module _ (z : Sizes) (low : z.words ≤ 1024) (large : 33 ≤ z.slots) {log : List ℕ} {h : List Past} {gs : List Seq} {u : ℕ} (s : Shown z log h gs u) where
+module _ (z : Sizes) (low : z.words ≤ maxWords) (large : minSlots ≤ z.slots)
+    {log : List ℕ} {h : List Past} {gs : List Seq} {u : ℕ} (s : Shown z log h gs u) where
   count : (b k t : ℕ) → b < length h → at h b ≡ sta k t → k ≤ b
   count b k t l e =
-      let f : (k ≤ 16) × (t % 2 ≡ 0) = rw e at (hist-fits z.words z.slots (s .history) b l) in
+      let f : (k ≤ maxEntries) × (t % 2 ≡ 0) = rw e at (hist-fits z.words z.slots (s .history) b l) in
       split (ltb b z.slots)
       (λ q. absurd (let p = early z.words z.slots (s .history) b (ltb-true b z.slots q) in let c : _≡_ {A = ℕ} 0 1 = cc in omega arith))
       (λ q. omega (arith, ltb-false b z.slots q))
@@ -49,14 +52,16 @@ module _ (z : Sizes) (low : z.words ≤ 1024) (large : 33 ≤ z.slots) {log : Li
     pub shown-found : All (Listed z.slots gs) (completeBelow z.words z.slots base log L z.slots)
     shown-found =
         All-map one
-        (found z.words z.slots low large (at h) (length h) (hist-big z.words z.slots (s .history)) (hist-fits z.words z.slots (s .history)) (early z.words z.slots (s .history)) log
+        (found z.words z.slots low large (at h) (length h) (hist-big z.words z.slots (s .history))
+        (hist-fits z.words z.slots (s .history)) (early z.words z.slots (s .history)) log
         (s .shows .held) base L z.slots (omega arith))
       where
         one : (q : Complete) → Genuine z.slots (at h) (length h) q → Listed z.slots gs q
         one q g =
             record {
               end = g .end;
-              among = rw (g .entries) (lookup z.words z.slots (s .history) (g .end) (g .count) (q .stamp) (count (g .end) (g .count) (q .stamp) (g .below) (g .stamp)) (g .stamp));
+              among = rw (g .entries)
+                  (lookup z.words z.slots (s .history) (g .end) (g .count) (q .stamp) (count (g .end) (g .count) (q .stamp) (g .below) (g .stamp)) (g .stamp));
               slot = g .slot;
             }
 
@@ -69,7 +74,10 @@ module _ (z : Sizes) (low : z.words ≤ 1024) (large : 33 ≤ z.slots) {log : Li
         let k : ℕ = length (g .entries) in
         let reads : (c : ℕ) → g .end ≤ c + k → c ≤ g .end → slotAt z.words log (c % z.slots) ≡ contentOf (wrapOf z.slots c) (at h c)
         = λ c lo hi. let x = s .shows .settled c (omega arith) (omega (arith, r .below)) (omega arith) in
-        exact-reads z.words z.slots low (omega arith) (at h) (length h) (hist-fits z.words z.slots (s .history)) log c (omega (arith, r .below)) (x .address) (x .value) in
-        subst (λ es. In (record { stamp = g .stamp; lane = L; slot = g .end % z.slots; entries = es }) (completeBelow z.words z.slots base log L z.slots)) (r .entries)
-        (is-found z.words z.slots (omega arith) (at h) log (g .end) (omega (arith, r .late)) base L k (g .stamp) (omega (arith, r .ok .few)) reads (r .closes) (ap length (r .entries)) new
+        exact-reads z.words z.slots low (omega arith) (at h) (length h)
+        (hist-fits z.words z.slots (s .history)) log c (omega (arith, r .below)) (x .address) (x .value) in
+        subst (λ es. In (record { stamp = g .stamp; lane = L; slot = g .end % z.slots; entries = es }) (completeBelow z.words z.slots base log L z.slots))
+        (r .entries)
+        (is-found z.words z.slots (omega arith) (at h) log (g .end) (omega (arith, r .late)) base L k
+        (g .stamp) (omega (arith, r .ok .few)) reads (r .closes) (ap length (r .entries)) new
         z.slots (mod-lt (g .end) (omega arith)))

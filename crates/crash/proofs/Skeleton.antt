@@ -2,7 +2,7 @@
 use mathlib.Core.Path.{_≡_, refl, ap, _∙_, sym, subst}
 use mathlib.Core.Bool.{true, cond}
 use mathlib.Core.List.{List, [], _∷_}
-use mathlib.Core.Option.{Option, none}
+use mathlib.Core.Option.{Option}
 use Prim.Native.Nat.{ℕ, _≤_, _<_, _%_}
 use lib.Dec.{eqb, leb}
 use lib.ListN.{length, getD}
@@ -17,8 +17,11 @@ use Rattle.store.specs.Machine.{Machine, Step, firstCause, unless, said}
 use Rattle.store.specs.Calls.{badBuffers, started, startImage, drained, formatRefusal, formatStep, writeBackRefusal, writeBackStep}
 use Rattle.store.specs.declared.Answer.the-variants as answer
 use Rattle.recovery.specs.Recovery.{boundary, newBase, recoveredNvm, Restarted, told}
-use Rattle.crash.specs.Events.{Call, drain, Junk, Event, format, writeBack, call, recover, fails, failsInDrain, failsAfterDrain, failsInRecovery, System, live, down, nvmOf, vandzulge, happens, laneOf, callStep, isTaken, fit, partlyDrained, bare, foundOr, afterStep, afterFormat, recoveredSystem, afterRecovery, afterFailure, notOffered}
-use Rattle.crash.specs.History.{History, opened, wordsBelow, settled, restarted, taken, afterCall, afterRecovered, fedAnswer, fedFailure, fed, leastFloorOf}
+use Rattle.crash.specs.Events.{Call, drain, Junk, Event, format, writeBack, call, recover, fails, failsInDrain, failsAfterDrain, failsInRecovery}
+use Rattle.crash.specs.Events.{System, live, down, nvmOf, vandzulge, happens, laneOf, callStep, isTaken, fit, partlyDrained}
+use Rattle.crash.specs.Events.{bare, foundOr, afterStep, afterFormat, recoveredSystem, afterRecovery, afterFailure, notOffered}
+use Rattle.crash.specs.History.{History, opened, wordsBelow, settled, restarted, taken, afterCall}
+use Rattle.crash.specs.History.{afterRecovered, fedAnswer, fedFailure, fed, leastFloorOf}
 use Rattle.crash.specs.Theorem.{Live, InStep, Answers, formatAnswer, writeBackAnswer, NotBelow, RecoveryReply, Replied, Holds, CrashTheorem}
 use Rattle.crash.proofs.Moves.{none-holds, Known}
 use Rattle.recovery.specs.AgainLaws.{recoveredImage}
@@ -49,7 +52,9 @@ pub record Laws (z : Sizes) (Inv : Machine → History → Type 0) (AtCut : List
 
 -- ---- Format: refused for the start words alone
 format-answer : (z : Sizes) (start : List ℕ) (m : Machine) → buffersOk z (length (m .cache)) (length (m .nvm)) (length (m .flags)) ≡ true
-    → formatStep z start m ≡ cond (eqb (length start) (z .words)) (record { answer = answer.Done; machine = started z 0 (startImage z start) }) (record { answer = answer.Refused 1; machine = m })
+    → formatStep z start m
+    ≡ cond (eqb (length start) (z .words)) (record { answer = answer.Done; machine = started z 0 (startImage z start) })
+    (record { answer = answer.Refused 1; machine = m })
 unfolding formatStep formatRefusal badBuffers firstCause unless
 format-answer z start m b = split (eqb (length start) (z .words)) (λ e. rw (b, e)) (λ e. rw (b, e))
 
@@ -70,12 +75,14 @@ abbrev written : ℕ → Machine → Machine
 written i m = record { state = m .state; cache = m .cache; nvm = writtenBack i (m .cache) (m .nvm); flags = m .flags }
 
 write-answer : (z : Sizes) (i : ℕ) (m : Machine) → buffersOk z (length (m .cache)) (length (m .nvm)) (length (m .flags)) ≡ true
-    → writeBackStep z i m ≡ cond (leb (imageLength z) i) (record { answer = answer.Refused 4; machine = m }) (record { answer = answer.Done; machine = written i m })
+    → writeBackStep z i m
+    ≡ cond (leb (imageLength z) i) (record { answer = answer.Refused 4; machine = m }) (record { answer = answer.Done; machine = written i m })
 unfolding writeBackStep writeBackRefusal badBuffers firstCause unless
 write-answer z i m b = split (leb (imageLength z) i) (λ e. rw (b, e)) (λ e. rw (b, e))
 
 write-reply : (z : Sizes) (i : ℕ) (m : Machine)
-    → cond {A = Step} (leb (imageLength z) i) (record { answer = answer.Refused 4; machine = m }) (record { answer = answer.Done; machine = written i m }) .answer ≡ writeBackAnswer z i
+    → cond {A = Step} (leb (imageLength z) i) (record { answer = answer.Refused 4; machine = m })
+    (record { answer = answer.Done; machine = written i m }) .answer ≡ writeBackAnswer z i
 write-reply z i m = split (leb (imageLength z) i) (λ e. rw e) (λ e. rw e)
 
 -- a word that is not in the image has no cell
@@ -151,7 +158,8 @@ module _ (z : Sizes) (ok : sizesOk z ≡ true) (Inv : Machine → History → Ty
     )
 
   -- Format by a machine whose buffers are right
-  module _ (start : List ℕ) (m : Machine) (y : System) (h : History) (g : Good y h) (b : buffersOk z (length (m .cache)) (length (m .nvm)) (length (m .flags)) ≡ true) where
+  module _ (start : List ℕ) (m : Machine) (y : System) (h : History) (g : Good y h)
+      (b : buffersOk z (length (m .cache)) (length (m .nvm)) (length (m .flags)) ≡ true) where
     formatted : (formatStep z start m .answer ≡ formatAnswer z start)
         × Good (cond (said (formatStep z start m .answer) .refused) y (live (formatStep z start m .machine)))
         (cond (said (formatStep z start m .answer) .refused) h (opened z start 0))
@@ -252,7 +260,8 @@ module _ (z : Sizes) (ok : sizesOk z ≡ true) (Inv : Machine → History → Ty
     unfolding happens vandzulge afterRecovery fed nvmOf bare Good
     down-recover limit i =
         let b = bare-fits nvm j (foundOr nvm found) h l in
-        let r = recovers limit (bare nvm j) (down nvm j found) i (foundOr nvm found) h (l .cut) (restarts z limit (bare nvm j) (l .leads) (recover-taken z (bare nvm j) b (l .leads .even))) in
+        let r = recovers limit (bare nvm j) (down nvm j found) i (foundOr nvm found) h (l .cut)
+        (restarts z limit (bare nvm j) (l .leads) (recover-taken z (bare nvm j) b (l .leads .even))) in
         record { reply = r .0; good = r .1 }
 
     down-fails : (i : Junk) → Kept (down nvm j found) h (fails i)
@@ -295,7 +304,10 @@ module _ (z : Sizes) (ok : sizesOk z ≡ true) (Inv : Machine → History → Ty
   all-events y h [] v = tt
   all-events y h (e ∷ es) v =
       let k = event y h e v in (
-        record { reply = k .reply; store = in-step (happens vandzulge z y e .system) (fed z e (happens vandzulge z y e .reply) (happens vandzulge z y e .found) h) (k .good) },
+        record {
+          reply = k .reply;
+          store = in-step (happens vandzulge z y e .system) (fed z e (happens vandzulge z y e .reply) (happens vandzulge z y e .found) h) (k .good);
+        },
         all-events (happens vandzulge z y e .system) (fed z e (happens vandzulge z y e .reply) (happens vandzulge z y e .found) h) es (k .good),
       )
 
@@ -311,7 +323,8 @@ crash-theorem-from Inv AtCut laws z start m h e es =
     let at = sym (formats-at z start m (f .0) (f .1)) in (
       record {
         reply = ap (λ (s : Step). s .answer) (formats-at z start m (f .0) (f .1)) ∙ rw (eq-eqb (length start) (z .words) (f .1));
-        store = subst (λ (s : Step). InStep z (cond (said (s .answer) .refused) h (opened z start 0)) (cond (said (s .answer) .refused) (live m) (live (s .machine)))) at
+        store = subst (λ (s : Step).
+            InStep z (cond (said (s .answer) .refused) h (opened z start 0)) (cond (said (s .answer) .refused) (live m) (live (s .machine)))) at
             (laws z ok .lives (started z 0 (startImage z start)) (opened z start 0) v);
       },
       subst

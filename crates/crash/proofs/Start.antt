@@ -8,7 +8,7 @@ use native.Mathlib.Nat.{le-refl}
 use lib.ListN.{length, getD, replicate, length-replicate, getD-replicate}
 use lib.Seq.{take-at, getD-append-add, ext-getD}
 use Rattle.laws.specs.Lists.{none as nil}
-use Rattle.image.specs.Image.{sizesOk, imageLength, baseOf, dataOf, logStart, logOf}
+use Rattle.image.specs.Image.{maxLanes, sizesOk, imageLength, baseOf, dataOf, logStart, logOf}
 use Rattle.image.specs.ImageLaws.{sizes-in, getD-log, length-log, buffers-good}
 use Rattle.image.specs.BulkLaws.{getD-zeros}
 use Rattle.image.specs.declared.Sizes.{Sizes}
@@ -28,8 +28,9 @@ use Rattle.crash.proofs.Ranges.{RecordRange, record-ranged, stamp-now}
 use Rattle.crash.proofs.Agree.{lastOf, Book}
 
 -- ---- the book
-module _ (z : Sizes) (base : ℕ) (image words : List ℕ) (ok : sizesOk z ≡ true) (even : base % 2 ≡ 0) (long : length image ≡ imageLength z) (same : dataOf z image ≡ words) where
-  eight : z.lanes ≤ 8
+module _ (z : Sizes) (base : ℕ) (image words : List ℕ) (ok : sizesOk z ≡ true)
+    (even : base % 2 ≡ 0) (long : length image ≡ imageLength z) (same : dataOf z image ≡ words) where
+  eight : z.lanes ≤ maxLanes
   eight = sizes-in z ok .lanes-high
 
   page-start : (M : ℕ) → M < z.lanes → pageAt (opened z words base) M ≡ blankPage
@@ -40,9 +41,9 @@ module _ (z : Sizes) (base : ℕ) (image words : List ℕ) (ok : sizesOk z ≡ t
   unfolding startLane floorOk phaseOk
   start-range = record { next = let k = sizes-in z ok .slots-low in omega arith; wrap = omega arith; floor = refl; phase = refl }
 
-  eight-lanes : length (startRecord base .lanes) ≡ 8
+  eight-lanes : length (startRecord base .lanes) ≡ maxLanes
   unfolding startRecord
-  eight-lanes = length-replicate 8 startLane
+  eight-lanes = length-replicate maxLanes startLane
 
   ranges-start : RecordRange z (startRecord base)
   unfolding startRecord
@@ -125,7 +126,8 @@ module _ (z : Sizes) (start : List ℕ) (words : length start ≡ z.words) where
   pub image-log : (L : ℕ) → L < z.lanes → logOf z L (startImage z start) ≡ replicate (2 * z.slots) 0
   image-log L h =
       ext-getD 0 (logOf z L (startImage z start)) (replicate (2 * z.slots) 0) (len ∙ sym (length-replicate (2 * z.slots) 0))
-      (λ j g. let k : j < 2 * z.slots = rw len at g in getD-log z L (startImage z start) j k ∙ word-late (logStart z L + j) (late L j) ∙ sym (getD-zeros (2 * z.slots) j))
+      (λ j g. let k : j < 2 * z.slots = rw len at g in
+      getD-log z L (startImage z start) j k ∙ word-late (logStart z L + j) (late L j) ∙ sym (getD-zeros (2 * z.slots) j))
     where
       len : length (logOf z L (startImage z start)) ≡ 2 * z.slots
       len = length-log z L (startImage z start) (length-startImage z start words) h

@@ -2,7 +2,7 @@
 use mathlib.Core.Path.{_≡_}
 use mathlib.Core.Logic.{_≢_, _⊎_}
 use mathlib.Core.Bool.{true}
-use mathlib.Core.List.{List, [], _∷_}
+use mathlib.Core.List.{List, _∷_}
 use Prim.Native.Nat.{ℕ, _+_, _≤_, _<_}
 use lib.ListN.{length, getD}
 use Rattle.laws.specs.Lists.{All}
@@ -25,7 +25,8 @@ use Rattle.crash.proofs.Running.{Running}
 
 -- the first old value of each word that a sequence names is the word below its timestamp
 unfoldable pub TrueOf : (W : ℕ) → History → Seq → Type 0
-TrueOf W h g = (w : ℕ) → w < W → (x : ℕ) → writes (g .entries) w ≡ true → firstOld (g .entries) w x ≡ getD (replay W (At (g .stamp)) (h .commits) (h .start)) w 0
+TrueOf W h g = (w : ℕ) → w < W → (x : ℕ) → writes (g .entries) w ≡ true
+    → firstOld (g .entries) w x ≡ getD (replay W (At (g .stamp)) (h .commits) (h .start)) w 0
 
 -- a lane's newest sequence names word w, and no append has come since the lane's last drain
 pub record Names (t : Track) (w : ℕ) : Type 0 where
@@ -52,7 +53,8 @@ pub record NamedBy (z : Sizes) (ts : ℕ → Track) (s w : ℕ) : Type 0 where
 
 -- each word that a commit writes is named with its timestamp
 unfoldable pub Backed : Sizes → History → (ℕ → Track) → Commit → Type 0
-Backed z h ts c = (w : ℕ) → w < z .words → txnWrites (z .words) w (c .txn) (replay (z .words) (At (c .stamp)) (h .commits) (h .start)) ≡ true → NamedBy z ts (c .stamp) w
+Backed z h ts c = (w : ℕ) → w < z .words → txnWrites (z .words) w (c .txn) (replay (z .words) (At (c .stamp)) (h .commits) (h .start)) ≡ true
+    → NamedBy z ts (c .stamp) w
 
 pub record Ties (z : Sizes) (base : ℕ) (m : Machine) (h : History) : Type 0 where
   pub ts : ℕ → Track

@@ -11,7 +11,7 @@ use native.Mathlib.Nat.{le-trans}
 use lib.ListN.{length, getD}
 use Rattle.laws.specs.Tests.{clash}
 use Rattle.laws.specs.Lists.{All, more, All-map}
-use Rattle.txn.specs.Txn.{txnOk, run}
+use Rattle.txn.specs.Txn.{maxWrites, txnOk, run}
 use Rattle.txn.specs.TxnLaws.{Chain, chain-nil, run-chain, few-writes, run-low}
 use Rattle.txn.specs.declared.Write.{Write}
 use Rattle.image.specs.Image.{baseOf, dataOf, logStart}
@@ -47,7 +47,8 @@ use Rattle.crash.proofs.LaneLog.{Track, levelled, extended, next-low}
 use Rattle.crash.proofs.LaneReads.{lane-stays-whole}
 use Rattle.crash.proofs.Running.{Running, updated, updated-same, running-logs, running-marks}
 use Rattle.crash.proofs.Ties.{TrueOf, Ties}
-use Rattle.crash.proofs.TiesLaws.{AtMost, TrackTo, track-to, track-on, Cells, cells-changed, drained-mine, changed-mine, changed-others, all-onward, floor-first, given-now, Moving, TiesOf, ties-moved}
+use Rattle.crash.proofs.TiesLaws.{AtMost, TrackTo, track-to, track-on, Cells, cells-changed, drained-mine, changed-mine}
+use Rattle.crash.proofs.TiesLaws.{changed-others, all-onward, floor-first, given-now, Moving, TiesOf, ties-moved}
 use Rattle.crash.proofs.TiesLogs.{ties-logs}
 use Rattle.crash.proofs.TiesDrain.{drained-ties}
 
@@ -123,11 +124,13 @@ module _ (z : Sizes) (base : ℕ) (h : History) (m : Machine) (b : Book z base h
   unfolding writesOn
   logged-new f =
       let p = page-stamped L was (rw (book .pages) (k .lane)) (some f) [] in
-      writes-held z (new (some f)) L f (At stamp) (ap (λ (p : Page). p .held) (p .here)) (ap (λ (p : Page). p .newest) (p .here) ∙ ap (λ (c : ℕ). At (c + 2)) clock-was)
+      writes-held z (new (some f)) L f (At stamp) (ap (λ (p : Page). p .held) (p .here))
+      (ap (λ (p : Page). p .newest) (p .here) ∙ ap (λ (c : ℕ). At (c + 2)) clock-was)
       ∙ ap (run z.words f) (words-new (some f))
 
   -- ---- one sequence more
-  module _ (ws : List Write) (chain : Chain (dataOf z (m .cache)) ws) (room : Room z m L (length ws + 1)) (phase : Phase) (redo : List Pair) (held : Option (List ℕ)) where
+  module _ (ws : List Write) (chain : Chain (dataOf z (m .cache)) ws)
+      (room : Room z m L (length ws + 1)) (phase : Phase) (redo : List Pair) (held : Option (List ℕ)) where
     abbrev us : ℕ → Track
     us = updated L (extended z L m ws stamp (t .ts L)) (t .ts)
 
@@ -179,10 +182,12 @@ module _ (z : Sizes) (base : ℕ) (h : History) (m : Machine) (b : Book z base h
 
     -- the new sequence is whole by its position
     kept-new : Running z to us → (g : Seq) → (g ≡ next (t .ts L .hist) (oldsOf ws) stamp) ⊎ In g (t .ts L .gs)
-        → ((In g (drain .ties .ts L .gs)) × (AtMost (leastFloorOf (was .pages)) (g .stamp) → Whole z.slots (drain .ties .ts L .hist) g → Whole z.slots (t .ts L .hist ++ pastOf (oldsOf ws) stamp) g))
+        → ((In g (drain .ties .ts L .gs)) × (AtMost (leastFloorOf (was .pages)) (g .stamp) → Whole z.slots (drain .ties .ts L .hist) g
+        → Whole z.slots (t .ts L .hist ++ pastOf (oldsOf ws) stamp) g))
         ⊎ (Whole z.slots (t .ts L .hist ++ pastOf (oldsOf ws) stamp) g)
     kept-new runs g (inl e) =
-        let l = subst (λ u. Hist z.words z.slots (u .hist) (u .gs)) (updated-same L (extended z L m ws stamp (t .ts L)) (t .ts)) (runs .lanes L (k .lane) .now .history) in
+        let l = subst (λ u. Hist z.words z.slots (u .hist) (u .gs))
+        (updated-same L (extended z L m ws stamp (t .ts L)) (t .ts)) (runs .lanes L (k .lane) .now .history) in
         inr (rw e (newest-whole z (shape .sizes) l))
     kept-new runs g (inr j) =
         inl (rw (level-tracks .here) (j, λ a w. stays-whole (a .stamp) (a .is) g j (a .low) w))
@@ -218,13 +223,15 @@ module _ (z : Sizes) (base : ℕ) (h : History) (m : Machine) (b : Book z base h
       appended-ties = ties-moved z base L was (new held) from to book (drain .ties) us moving .ties
 
 -- ---- the calls
-pub ties-appends : (z : Sizes) (base : ℕ) (m : Machine) (h : History) (L : ℕ) (f : List ℕ) → Book z base h m → Ties z base m h → Known z m L → txnOk 16 z.words f ≡ true
+pub ties-appends : (z : Sizes) (base : ℕ) (m : Machine) (h : History) (L : ℕ) (f : List ℕ)
+    → Book z base h m → Ties z base m h → Known z m L → txnOk maxWrites z.words f ≡ true
     → isLogged (laneAt (m .state) L .phase) ≡ false → 0 < length (writesOn z f m) → Room z m L (length (writesOn z f m) + 1)
     → Ties z base (logged z L (writesOn z f m) (drained z L m)) (stamped L (some f) [] (settled L h))
 unfolding logged writesOn
 ties-appends z base m h L f b t k ok i p r =
     appended-ties z base h m b t L k (writesOn z f m) chain r _ _ (some f)
-    (running-logs z m (t .ts) (t .running) L (k .lane) (writesOn z f m) (few-writes 16 z.words f (dataOf z (m .cache)) ok) (run-low 16 z.words f (dataOf z (m .cache)) ok))
+    (running-logs z m (t .ts) (t .running) L (k .lane) (writesOn z f m)
+    (few-writes maxWrites z.words f (dataOf z (m .cache)) ok) (run-low maxWrites z.words f (dataOf z (m .cache)) ok))
     (λ x e. ap oldsOf (sym (logged-new z base h m b t L k f)))
   where
     chain : Chain (dataOf z (m .cache)) (writesOn z f m)
@@ -233,5 +240,6 @@ ties-appends z base m h L f b t k ok i p r =
 pub ties-marks : (z : Sizes) (base : ℕ) (m : Machine) (h : History) (L : ℕ) → Book z base h m → Ties z base m h → Known z m L → Room z m L 1
     → Ties z base (appended z L [] Idle (laneAt (m .state) L .redo) (drained z L m)) (stamped L none [] (settled L h))
 ties-marks z base m h L b t k r =
-    appended-ties z base h m b t L k [] chain-nil r Idle (laneAt (m .state) L .redo) none (running-marks z m (t .ts) (t .running) L (k .lane) (laneAt (m .state) L .redo))
+    appended-ties z base h m b t L k [] chain-nil r Idle (laneAt (m .state) L .redo) none
+    (running-marks z m (t .ts) (t .running) L (k .lane) (laneAt (m .state) L .redo))
     (λ x e. not-held Idle x refl e)

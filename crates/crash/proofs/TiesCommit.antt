@@ -12,7 +12,7 @@ use lib.ListN.{length, getD}
 use borrow.Author.Tests.{ne-eqb, le-ltb}
 use Rattle.laws.specs.Tests.{eqb-same}
 use Rattle.laws.specs.Lists.{All, none as nil, more, All-map, All-rest}
-use Rattle.txn.specs.Txn.{txnOk, run}
+use Rattle.txn.specs.Txn.{maxWrites, txnOk, run}
 use Rattle.txn.specs.TxnLaws.{run-low}
 use Rattle.txn.specs.declared.Write.{Write}
 use Rattle.image.specs.Image.{baseOf, dataOf, logStart}
@@ -28,7 +28,8 @@ use Rattle.record.specs.declared.Phase.the-variants.{Idle, Holds}
 use Rattle.record.specs.declared.Lane.{Lane}
 use Rattle.store.specs.Machine.{Machine}
 use Rattle.store.specs.Calls.{drained, changed, writesOn, pairStores, commitStores, committed, isStale, redoPairs, matches}
-use Rattle.crash.specs.History.{Commit, Page, History, pageAt, isBelow, wordsBelow, present, floorOr, settled, stamped, heldBy, writesLogged, leastFloorOf}
+use Rattle.crash.specs.History.{Commit, Page}
+use Rattle.crash.specs.History.{History, pageAt, isBelow, wordsBelow, present, floorOr, settled, stamped, heldBy, writesLogged, leastFloorOf}
 use Rattle.laws.specs.Members.{In, in-cases, here, there, In-append, In-All}
 use Rattle.recovery.specs.UndoneLaws.{writes, firstOld}
 use Rattle.crash.proofs.Data.{oldsOf, txnWrites, run-first, replay-all, replay-snoc}
@@ -47,7 +48,8 @@ use Rattle.crash.proofs.LaneReads.{HeldSeq, lane-held}
 use Rattle.crash.proofs.Running.{Running, updated, updated-same, running-commits}
 use Rattle.crash.proofs.Ties.{TrueOf, Backed, Ties}
 use Rattle.crash.proofs.TiesLogs.{ties-logs}
-use Rattle.crash.proofs.TiesLaws.{AtMost, floor-first, TrackTo, track-to, track-on, Cells, cells-changed, drained-mine, changed-mine, changed-others, all-onward, logged-onward, given-now, Moving, TiesOf, ties-moved}
+use Rattle.crash.proofs.TiesLaws.{AtMost, floor-first, TrackTo, track-to, track-on, Cells, cells-changed, drained-mine}
+use Rattle.crash.proofs.TiesLaws.{changed-mine, changed-others, all-onward, logged-onward, given-now, Moving, TiesOf, ties-moved}
 use Rattle.crash.proofs.TiesDrain.{drained-ties}
 
 -- ---- what a commit stores and flushes
@@ -103,7 +105,7 @@ seal-in c s g (there i) d e = there i
 -- ---- a commit of transaction f by a lane that has just drained: the sequence that it holds names what f writes now
 module _ (z : Sizes) (base : ℕ) (h : History) (m : Machine) (b : Book z base h m) (t : Ties z base m h) (L : ℕ) (lane : L < z.lanes)
     (clear : (w : ℕ) → w < z.words → flushed L (getD (m .flags) (1 + w) 0) ≡ false) (x : Logged) (held : laneAt (m .state) L .phase ≡ Holds x)
-    (f : List ℕ) (ok : txnOk 16 z.words f ≡ true) (same : oldsOf (writesOn z f m) ≡ oldsOf (writesLogged z L h))
+    (f : List ℕ) (ok : txnOk maxWrites z.words f ≡ true) (same : oldsOf (writesOn z f m) ≡ oldsOf (writesLogged z L h))
     (us : ℕ → Track) (to : TrackTo (t .ts) us L (restampedBy z L m (h .clock + 2) (t .ts L)))
     (runs : Running z (committed z L (pairsOf (length (writesOn z f m)) (writesOn z f m)) m) us) where
   abbrev ws : List Write
@@ -129,7 +131,7 @@ module _ (z : Sizes) (base : ℕ) (h : History) (m : Machine) (b : Book z base h
 
   low : All (λ w. w .word < z.words) ws
   unfolding writesOn
-  low = run-low 16 z.words f (dataOf z (m .cache)) ok
+  low = run-low maxWrites z.words f (dataOf z (m .cache)) ok
 
   words-at : wordsBelow z (At (h .clock + 2)) k ≡ dataOf z (m .cache)
   words-at = commit-below z L f h (b .upto) ∙ sym (b .live .words)
@@ -145,7 +147,8 @@ module _ (z : Sizes) (base : ℕ) (h : History) (m : Machine) (b : Book z base h
   all-now : All (TrueOf z.words k) (sealGs (h .clock + 2) (t .ts L .gs))
   all-now =
       subst (All (TrueOf z.words k)) (sym sealed)
-      (more true-now (all-onward z h k (onward-commit L f h) (All-rest (rw (it .newest) at (given-now z base h m b t L lane))) (All-rest (rw (it .newest) at (t .now L lane)))))
+      (more true-now (all-onward z h k (onward-commit L f h)
+      (All-rest (rw (it .newest) at (given-now z base h m b t L lane))) (All-rest (rw (it .newest) at (t .now L lane)))))
 
   -- the words that the lane has flushed
   flushes : (w : ℕ) → w < z.words → flushed L (getD (n .flags) (1 + w) 0) ≡ true → writes (g .entries) w ≡ true
@@ -162,7 +165,8 @@ module _ (z : Sizes) (base : ℕ) (h : History) (m : Machine) (b : Book z base h
   -- the commit is backed
   whole : Whole z.slots (sealHist (h .clock + 2) (t .ts L .hist) (t .ts L .gs)) (restamped (h .clock + 2) g)
   whole =
-      let w : Whole z.slots (t .ts L .hist) g = newest-whole z (t .running .shape .sizes) (subst (λ gs. Hist z.words z.slots (t .ts L .hist) gs) (it .newest) (t .running .lanes L lane .now .history)) in
+      let w : Whole z.slots (t .ts L .hist) g =
+      newest-whole z (t .running .shape .sizes) (subst (λ gs. Hist z.words z.slots (t .ts L .hist) gs) (it .newest) (t .running .lanes L lane .now .history)) in
       omega (arith, length-sealHist (h .clock + 2) (t .ts L .hist) (t .ts L .gs))
 
   backed : Backed z k us (record { stamp = h .clock + 2; txn = f })
@@ -179,7 +183,8 @@ module _ (z : Sizes) (base : ℕ) (h : History) (m : Machine) (b : Book z base h
 
   -- the newest is whole by its position, and the others stay
   kept : (s : Seq) → (s ≡ restamped (h .clock + 2) g) ⊎ In s (it .rest)
-      → ((In s (t .ts L .gs)) × (AtMost (leastFloorOf (h .pages)) (s .stamp) → Whole z.slots (t .ts L .hist) s → Whole z.slots (sealHist (h .clock + 2) (t .ts L .hist) (t .ts L .gs)) s))
+      → ((In s (t .ts L .gs)) × (AtMost (leastFloorOf (h .pages)) (s .stamp) → Whole z.slots (t .ts L .hist) s
+      → Whole z.slots (sealHist (h .clock + 2) (t .ts L .hist) (t .ts L .gs)) s))
       ⊎ (Whole z.slots (sealHist (h .clock + 2) (t .ts L .hist) (t .ts L .gs)) s)
   kept s (inl e) = inr (rw e whole)
   kept s (inr j) = inl (rw (it .newest) (there j), λ a w. rw (length-sealHist (h .clock + 2) (t .ts L .hist) (t .ts L .gs)) w)
@@ -251,13 +256,17 @@ unfolding drained
 restamped-to z L m ts vs c e p q =
     subst (λ (s : ℕ). TrackTo vs (updated L (restampedBy z L m c (ts L)) ts) L (restampedBy z L (drained z L m) s (vs L))) q
     (subst (λ (us : ℕ → Track). TrackTo us (updated L (restampedBy z L m c (ts L)) ts) L (restampedBy z L (drained z L m) c (us L))) (sym p)
-    (record { here = updated-same L (restampedBy z L m c (ts L)) ts ∙ ap (restampedBy z L (drained z L m) c) (sym (updated-same L (levelled z L m (ts L)) ts)); others = both .others }))
+    (record {
+      here = updated-same L (restampedBy z L m c (ts L)) ts ∙ ap (restampedBy z L (drained z L m) c) (sym (updated-same L (levelled z L m (ts L)) ts));
+      others = both .others;
+    }))
   where
     both : TrackTo (updated L (levelled z L m (ts L)) ts) (updated L (restampedBy z L m c (ts L)) ts) L (restampedBy z L m c (ts L))
     both = track-on (track-to L (levelled z L m (ts L)) ts) (track-to L (restampedBy z L m c (ts L)) ts)
 
 module _ (z : Sizes) (base : ℕ) (m : Machine) (h : History) (L : ℕ) (b : Book z base h m) (t : Ties z base m h) (k : Known z m L) where
-  pub ties-commits : (x : Logged) → laneAt (m .state) L .phase ≡ Holds x → (f : List ℕ) → txnOk 16 z.words f ≡ true → oldsOf (writesOn z f m) ≡ oldsOf (writesLogged z L h)
+  pub ties-commits : (x : Logged) → laneAt (m .state) L .phase ≡ Holds x → (f : List ℕ) → txnOk maxWrites z.words f ≡ true
+      → oldsOf (writesOn z f m) ≡ oldsOf (writesLogged z L h)
       → Ties z base (committed z L (pairsOf (length (writesOn z f m)) (writesOn z f m)) (drained z L m)) (stamped L none (f ∷ []) (settled L h))
   unfolding drained drainedLane writesOn settled withLane
   ties-commits x held f ok same =
@@ -266,11 +275,12 @@ module _ (z : Sizes) (base : ℕ) (m : Machine) (h : History) (L : ℕ) (b : Boo
       committed-ties z base (settled L h) (drained z L m) (book-drains z base h m b (ties-logs z base m h b t) L k) (d .ties) L (k .lane)
       (λ w l. drained-mine z m (t .running .shape) L (1 + w)) x
       (ap (λ (l : Lane). l .phase) (lane-drained z L m (le-trans (k .lane) (b .lanes)) .here) ∙ held) f ok
-      (same ∙ ap oldsOf (sym (logged-onward z h (settled L h) (onward-settled L h) base m L x (b .holding L x (k .lane) held) (ap (λ (p : Page). p .held) p) (ap (λ (p : Page). p .newest) p))))
+      (same ∙ ap oldsOf (sym (logged-onward z h (settled L h) (onward-settled L h) base m L x
+      (b .holding L x (k .lane) held) (ap (λ (p : Page). p .held) p) (ap (λ (p : Page). p .newest) p))))
       (updated L (restampedBy z L m (m .state .clock + 2) (t .ts L)) (t .ts))
       (restamped-to z L m (t .ts) (d .ties .ts) (m .state .clock + 2) (h .clock + 2) (d .tracks) (ap (λ (c : ℕ). c + 2) (b .live .clock)))
       (running-commits z m (t .ts) (t .running) L (k .lane) (pairsOf (length (writesOn z f m)) (writesOn z f m))
-      (pairs-low z.words (run-low 16 z.words f (dataOf z (m .cache)) ok)) x held)
+      (pairs-low z.words (run-low maxWrites z.words f (dataOf z (m .cache)) ok)) x held)
       .ties
 
 -- ---- Redo that is not stale, and Validate that matches
@@ -282,7 +292,8 @@ ties-redoes z base m h L b t k y e =
     rw (redo-pairs z base h m b l L k y e, redo-held z base h m b l L k y)
     (ties-commits z base m h L b t k _ (is-held (laneAt (m .state) L .phase) (y .held)) (v .txn) (v .ok) (ap oldsOf (sym (redo-now z base h m b l L k y e))))
 
-pub ties-validates : (z : Sizes) (base : ℕ) (m : Machine) (h : History) (L : ℕ) (f : List ℕ) → Book z base h m → Ties z base m h → Known z m L → txnOk 16 z.words f ≡ true
+pub ties-validates : (z : Sizes) (base : ℕ) (m : Machine) (h : History) (L : ℕ) (f : List ℕ)
+    → Book z base h m → Ties z base m h → Known z m L → txnOk maxWrites z.words f ≡ true
     → Ready m L → matches z L (writesOn z f m) m ≡ true
     → Ties z base (committed z L (pairsOf (length (writesOn z f m)) (writesOn z f m)) (drained z L m)) (stamped L none (f ∷ []) (settled L h))
 ties-validates z base m h L f b t k ok y e =

@@ -48,7 +48,8 @@ module _ (W b : ℕ) (qs : List Complete) where
   later-words c d cs ws h = rw (lt-ltb (c .stamp) (d .stamp) h)
 
   backed-all : {cs : List Commit} (ws : List ℕ) → Rising cs
-      → ((c : Commit) → In c cs → b ≤ c .stamp → (w : ℕ) → w < W → txnWrites W w (c .txn) (replay W (At (c .stamp)) cs ws) ≡ true → Backing W b qs c w) → Backed W b qs ws cs
+      → ((c : Commit) → In c cs → b ≤ c .stamp → (w : ℕ) → w < W → txnWrites W w (c .txn) (replay W (At (c .stamp)) cs ws) ≡ true → Backing W b qs c w)
+      → Backed W b qs ws cs
   backed-all ws last f = finish
   backed-all ws (then {c = c} {cs = cs} a r) f =
       back (λ l w j e. f c here l w j (ap (txnWrites W w (c .txn)) (first-words c ws a) ∙ e))
@@ -59,12 +60,14 @@ module _ (z : Sizes) (base : ℕ) (m : Machine) (h : History) (k : Book z base h
   size = v .running .shape .in-nvm
 
   -- a cell that equals its cached word is the word of all commits
-  cell-word : (w : ℕ) → w < z.words → getD (m .nvm) (1 + w) 0 ≡ getD (m .cache) (1 + w) 0 → getD (m .nvm) (1 + w) 0 ≡ getD (replay z.words None (h .commits) (h .start)) w 0
+  cell-word : (w : ℕ) → w < z.words → getD (m .nvm) (1 + w) 0 ≡ getD (m .cache) (1 + w) 0
+      → getD (m .nvm) (1 + w) 0 ≡ getD (replay z.words None (h .commits) (h .start)) w 0
   unfolding present wordsBelow
   cell-word w l e = e ∙ sym (getD-data z (m .cache) w l) ∙ ap (λ ws. getD ws w 0) (k .live .words)
 
   floors : NotBelow (leastFloorOf (h .pages)) (boundary z (m .nvm))
-  floors = subst (λ f. NotBelow f (boundary z (m .nvm))) (bound-agrees z (m .state) h (k .lanes) (k .pages) (k .live .floors)) (cut-floors z m (v .ts) (v .running))
+  floors =
+      subst (λ f. NotBelow f (boundary z (m .nvm))) (bound-agrees z (m .state) h (k .lanes) (k .pages) (k .live .floors)) (cut-floors z m (v .ts) (v .running))
 
   -- ---- no boundary: no lane has drained, so no data word is flushed
   no-lists : (g : Seq) (gs l p : List Seq) → l ≡ g ∷ gs → p ≡ [] → length p ≡ length l → ⊥

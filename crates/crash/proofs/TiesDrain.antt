@@ -11,7 +11,7 @@ use native.Mathlib.Nat.{le-trans}
 use lib.ListN.{length, getD}
 use Rattle.laws.specs.Tests.{clash}
 use Rattle.laws.specs.Lists.{more}
-use Rattle.txn.specs.Txn.{txnOk}
+use Rattle.txn.specs.Txn.{maxWrites, txnOk}
 use Rattle.image.specs.declared.Sizes.{Sizes}
 use Rattle.record.specs.Record.{laneAt, drainedLane, idleLane}
 use Rattle.record.specs.declared.Phase.the-variants.{Idle, Holds}
@@ -33,7 +33,8 @@ use Rattle.crash.proofs.LaneLog.{Track, levelled}
 use Rattle.crash.proofs.Running.{Running, running-drains, running-releases, updated}
 use Rattle.crash.proofs.Ties.{Flushes, Ties}
 use Rattle.crash.proofs.TiesLogs.{ties-logs}
-use Rattle.crash.proofs.TiesLaws.{AtMost, at-most, track-to, cells-drained, drained-mine, drained-others, all-onward, logged-onward, given-now, given-before, Moving, TiesOf, ties-moved}
+use Rattle.crash.proofs.TiesLaws.{AtMost, at-most, track-to, cells-drained, drained-mine, drained-others}
+use Rattle.crash.proofs.TiesLaws.{all-onward, logged-onward, given-now, given-before, Moving, TiesOf, ties-moved}
 
 -- ---- a lane's floor
 -- a drain makes it the newest timestamp, which is not below it
@@ -82,7 +83,8 @@ module _ (z : Sizes) (base : ℕ) (h : History) (m : Machine) (b : Book z base h
         entries = λ x e g gs q.
             let f : laneAt (m .state) L .phase ≡ Holds x = ap (λ (l : Lane). l .phase) (sym (a .here)) ∙ e in
             t .entries L lane x f g gs q
-            ∙ ap oldsOf (sym (logged-onward z h (settled L h) (onward-settled L h) base m L x (b .holding L x lane f) (ap (λ (p : Page). p .held) (p .here)) (ap (λ (p : Page). p .newest) (p .here))));
+            ∙ ap oldsOf (sym (logged-onward z h (settled L h) (onward-settled L h) base m L x (b .holding L x lane f)
+            (ap (λ (p : Page). p .held) (p .here)) (ap (λ (p : Page). p .newest) (p .here))));
         now = all-onward z h (settled L h) (onward-settled L h) (given-now z base h m b t L lane) (t .now L lane);
         before = all-onward z h (settled L h) (onward-settled L h) (given-now z base h m b t L lane) (t .now L lane);
         open′ = λ g e. not-longer g (t .ts L .gs) e;
@@ -140,10 +142,12 @@ module _ (z : Sizes) (base : ℕ) (h : History) (m : Machine) (b : Book z base h
   released-ties = ties-moved z base L h (released L h) m (calls.released L m) b t (t .ts) releasing
 
 -- ---- the calls
-pub ties-drains : (z : Sizes) (base : ℕ) (m : Machine) (h : History) (L : ℕ) → Book z base h m → Ties z base m h → Known z m L → Ties z base (drained z L m) (settled L h)
+pub ties-drains : (z : Sizes) (base : ℕ) (m : Machine) (h : History) (L : ℕ) → Book z base h m → Ties z base m h → Known z m L
+    → Ties z base (drained z L m) (settled L h)
 ties-drains z base m h L b t k = drained-ties z base h m b t L (k .lane) .ties
 
-pub ties-gives-up : (z : Sizes) (base : ℕ) (m : Machine) (h : History) (L : ℕ) (f : List ℕ) → Book z base h m → Ties z base m h → Known z m L → txnOk 16 z.words f ≡ true
+pub ties-gives-up : (z : Sizes) (base : ℕ) (m : Machine) (h : History) (L : ℕ) (f : List ℕ)
+    → Book z base h m → Ties z base m h → Known z m L → txnOk maxWrites z.words f ≡ true
     → Ready m L → matches z L (writesOn z f m) m ≡ false → Ties z base (calls.released L (drained z L m)) (released L (settled L h))
 ties-gives-up z base m h L f b t k ok y e =
     let d = drained-ties z base h m b t L (k .lane) in

@@ -16,7 +16,8 @@ use Rattle.laws.specs.Lists.{All, none as nil, more, All-append, All-map}
 use Rattle.txn.specs.Txn.{run}
 use Rattle.image.specs.Image.{imageLength, baseOf}
 use Rattle.image.specs.Flush.{flushed, writtenBack}
-use Rattle.image.specs.FlushLaws.{flushed-unflush, unflush-other, flushed-flushAll, flushAll-other, flushAll-keeps, getD-writtenBack, getD-drainedNvm, getD-drainedFlags}
+use Rattle.image.specs.FlushLaws.{flushed-unflush, unflush-other, flushed-flushAll, flushAll-other}
+use Rattle.image.specs.FlushLaws.{flushAll-keeps, getD-writtenBack, getD-drainedNvm, getD-drainedFlags}
 use Rattle.image.specs.Stores.{Store, stored, places}
 use Rattle.image.specs.StoresLaws.{among, lastAt-none, getD-stored}
 use Rattle.image.specs.declared.Sizes.{Sizes}
@@ -96,7 +97,9 @@ low-least (p ∷ ps) x a = go (lesser-cases (p .floor) (leastFloorOf ps) x a) (l
   where
     go : (AtMost (p .floor) x) ⊎ (AtMost (leastFloorOf ps) x) → (AtMost (leastFloorOf ps) x → LowFloor ps x) → LowFloor (p ∷ ps) x
     go (inl b) ih = record { lane = 0; below = zero-lt-suc (length ps); floor = b }
-    go (inr b) ih = let f = ih b in record { lane = suc (f .lane); below = let k : suc (f .lane) < suc (length ps) = omega (arith, f .below) in k; floor = f .floor }
+    go (inr b) ih =
+        let f = ih b in
+        record { lane = suc (f .lane); below = let k : suc (f .lane) < suc (length ps) = omega (arith, f .below) in k; floor = f .floor }
 
 -- where no floor comes down to x, the least does not either
 pub least-rises : (h k : History) (x : ℕ) → length (k .pages) ≡ length (h .pages) → ((M : ℕ) → AtMost (pageAt k M .floor) x → AtMost (pageAt h M .floor) x)
@@ -135,7 +138,8 @@ word-in z w n h e = omega arith
 module _ (z : Sizes) (m : Machine) (s : Shape z m) (c : Cells z m) where
   pub cells-writtenBack : (i : ℕ) → Cells z (withNvm m (writtenBack i (m .cache) (m .nvm)))
   cells-writtenBack i w h =
-      rw (getD-writtenBack i (m .cache) (m .nvm) (1 + w) (word-in z w _ h (s .in-nvm))) (split (eqb i (1 + w)) (λ e. rw e (inl refl)) (λ e. rw e (same (c w h))))
+      rw (getD-writtenBack i (m .cache) (m .nvm) (1 + w) (word-in z w _ h (s .in-nvm)))
+      (split (eqb i (1 + w)) (λ e. rw e (inl refl)) (λ e. rw e (same (c w h))))
     where
       same : (getD (m .nvm) (1 + w) 0 ≡ getD (m .cache) (1 + w) 0) ⊎ Flushes z m w
           → (getD (m .nvm) (1 + w) 0 ≡ getD (m .cache) (1 + w) 0) ⊎ Flushes z (withNvm m (writtenBack i (m .cache) (m .nvm))) w
@@ -146,7 +150,8 @@ module _ (z : Sizes) (m : Machine) (s : Shape z m) (c : Cells z m) where
     pub cells-drained : Cells z (drained z L m)
     unfolding drained
     cells-drained w h =
-        rw (getD-drainedNvm L (m .flags) (m .cache) (m .nvm) (1 + w) (word-in z w _ h (s .in-flags)) (word-in z w _ h (s .in-cache)) (word-in z w _ h (s .in-nvm)))
+        rw (getD-drainedNvm L (m .flags) (m .cache) (m .nvm) (1 + w) (word-in z w _ h (s .in-flags))
+        (word-in z w _ h (s .in-cache)) (word-in z w _ h (s .in-nvm)))
         (go (flushed L (getD (m .flags) (1 + w) 0)) refl (c w h))
       where
         go : (b : Bool) → flushed L (getD (m .flags) (1 + w) 0) ≡ b → (getD (m .nvm) (1 + w) 0 ≡ getD (m .cache) (1 + w) 0) ⊎ Flushes z m w
@@ -174,7 +179,12 @@ module _ (z : Sizes) (m : Machine) (s : Shape z m) (c : Cells z m) where
         go : getD (stored xs (m .cache)) (1 + w) 0 ≡ getD (m .cache) (1 + w) 0 → (getD (m .nvm) (1 + w) 0 ≡ getD (m .cache) (1 + w) 0) ⊎ Flushes z m w
             → (getD (m .nvm) (1 + w) 0 ≡ getD (stored xs (m .cache)) (1 + w) 0) ⊎ Flushes z (changed L xs r m) w
         go e (inl p) = inl (p ∙ sym e)
-        go e (inr f) = inr (record { lane = f .lane; low = f .low; bit = flushAll-keeps (f .lane) L (places xs) (m .flags) (1 + w) (word-in z w _ h (s .in-flags)) (f .bit) })
+        go e (inr f) =
+            inr (record {
+              lane = f .lane;
+              low = f .low;
+              bit = flushAll-keeps (f .lane) L (places xs) (m .flags) (1 + w) (word-in z w _ h (s .in-flags)) (f .bit);
+            })
 
 -- ---- flags of data words
 module _ (z : Sizes) (m : Machine) (s : Shape z m) (L : ℕ) where
@@ -210,7 +220,8 @@ module _ (z : Sizes) (h k : History) (o : Onward h k) where
   all-onward (more {x = g} l ls) (more f fs) = more (true-onward g l f) (all-onward ls fs)
 
   -- what a lane has logged stays so
-  pub logged-onward : (base : ℕ) (m : Machine) (M : ℕ) (x : Logged) → Holding z base h m M x → pageAt k M .held ≡ pageAt h M .held → pageAt k M .newest ≡ pageAt h M .newest
+  pub logged-onward : (base : ℕ) (m : Machine) (M : ℕ) (x : Logged) → Holding z base h m M x → pageAt k M .held ≡ pageAt h M .held
+      → pageAt k M .newest ≡ pageAt h M .newest
       → writesLogged z M k ≡ writesLogged z M h
   logged-onward base m M x v p q =
       writes-held z k M (v .txn) (At (x .stamp)) (p ∙ v .held) (q ∙ v .newest)
@@ -254,7 +265,8 @@ pub record Moving (z : Sizes) (L : ℕ) (h k : History) (m n : Machine) (ts us :
   -- the sequences of its commits stay; each sequence that was there and whole stays whole, and a new one is; its new commits are backed
   pub stays : (c : Commit) → In c (h .commits) → (g : Seq) → In g (ts L .gs) → g .stamp ≡ c .stamp → In g (track .gs)
   pub kept : (g : Seq) → In g (track .gs)
-      → ((In g (ts L .gs)) × (AtMost (leastFloorOf (h .pages)) (g .stamp) → Whole z.slots (ts L .hist) g → Whole z.slots (track .hist) g)) ⊎ (Whole z.slots (track .hist) g)
+      → ((In g (ts L .gs)) × (AtMost (leastFloorOf (h .pages)) (g .stamp) → Whole z.slots (ts L .hist) g → Whole z.slots (track .hist) g))
+      ⊎ (Whole z.slots (track .hist) g)
   pub fresh : (c : Commit) → In c (k .commits) → (In c (h .commits)) ⊎ Backed z k us c
 
 -- the timestamps of a lane's sequences were given
@@ -270,7 +282,8 @@ pub record TiesOf (z : Sizes) (base : ℕ) (m : Machine) (h : History) (us : ℕ
   pub ties : Ties z base m h
   pub tracks : ties .ts ≡ us
 
-module _ (z : Sizes) (base L : ℕ) (h k : History) (m n : Machine) (b : Book z base h m) (t : Ties z base m h) (us : ℕ → Track) (v : Moving z L h k m n (t .ts) us) where
+module _ (z : Sizes) (base L : ℕ) (h k : History) (m n : Machine) (b : Book z base h m)
+    (t : Ties z base m h) (us : ℕ → Track) (v : Moving z L h k m n (t .ts) us) where
   open-other : (M : ℕ) → M < z.lanes → (g : Seq) → t .ts M .gs ≡ g ∷ t .ts M .priors → All (λ c. c .stamp ≢ g .stamp) (k .commits)
   open-other M i g e = apart-onward z h k (v .onward) (g .stamp) (head (rw e at (given-now z base h m b t M i))) (t .open′ M i g e)
     where
@@ -296,7 +309,8 @@ module _ (z : Sizes) (base L : ℕ) (h k : History) (m n : Machine) (b : Book z 
           (t .backed c j)
       go (inr w) = w
 
-  whole-old : (M : ℕ) → M < z.lanes → (g : Seq) → In g (t .ts M .gs) → AtMost (leastFloorOf (k .pages)) (g .stamp) → (AtMost (leastFloorOf (h .pages)) (g .stamp)) × Whole z.slots (t .ts M .hist) g
+  whole-old : (M : ℕ) → M < z.lanes → (g : Seq) → In g (t .ts M .gs) → AtMost (leastFloorOf (k .pages)) (g .stamp)
+      → (AtMost (leastFloorOf (h .pages)) (g .stamp)) × Whole z.slots (t .ts M .hist) g
   whole-old M i g j a =
       let c = floors (g .stamp) (In-All (given-now z base h m b t M i) j) a in
       (c, t .whole M i (c .stamp) (c .is) g j (c .low))
@@ -308,7 +322,8 @@ module _ (z : Sizes) (base L : ℕ) (h k : History) (m n : Machine) (b : Book z 
       (λ M d i f e g j l. rw (v .tracks .others M d) (whole-old M i g (rw (v .tracks .others M d) at j) (record { stamp = f; is = e; low = l }) .1))
     where
       own : L < z.lanes → {g : Seq} → AtMost (leastFloorOf (k .pages)) (g .stamp)
-          → ((In g (t .ts L .gs)) × (AtMost (leastFloorOf (h .pages)) (g .stamp) → Whole z.slots (t .ts L .hist) g → Whole z.slots (v .track .hist) g)) ⊎ (Whole z.slots (v .track .hist) g)
+          → ((In g (t .ts L .gs)) × (AtMost (leastFloorOf (h .pages)) (g .stamp) → Whole z.slots (t .ts L .hist) g → Whole z.slots (v .track .hist) g))
+          ⊎ (Whole z.slots (v .track .hist) g)
           → Whole z.slots (v .track .hist) g
       own i {g} a (inl (j, f)) = let o = whole-old L i g j a in f (o .0) (o .1)
       own i a (inr w) = w
@@ -323,13 +338,15 @@ module _ (z : Sizes) (base L : ℕ) (h k : History) (m n : Machine) (b : Book z 
             (λ i. rw (v .pages .here, v .tracks .here) (v .newest))
             (λ M d i. rw (v .pages .others M d, v .tracks .others M d) (t .newest M i));
         entries = lane-cases
-            (λ M. M < z.lanes → (x : Logged) → laneAt (n .state) M .phase ≡ Holds x → (g : Seq) (gs : List Seq) → us M .gs ≡ g ∷ gs → g .entries ≡ oldsOf (writesLogged z M k)) L
+            (λ M. M < z.lanes → (x : Logged) → laneAt (n .state) M .phase ≡ Holds x → (g : Seq) (gs : List Seq) → us M .gs ≡ g ∷ gs
+            → g .entries ≡ oldsOf (writesLogged z M k)) L
             (λ i x p g gs e. v .entries x p g gs (ap (λ (t : Track). t .gs) (sym (v .tracks .here)) ∙ e))
             (λ M d i x p g gs e.
             let q : laneAt (m .state) M .phase ≡ Holds x = sym (v .phases M d) ∙ p in
             let r = v .pages .others M d in
             t .entries M i x q g gs (ap (λ (t : Track). t .gs) (sym (v .tracks .others M d)) ∙ e)
-            ∙ ap oldsOf (sym (logged-onward z h k (v .onward) base m M x (b .holding M x i q) (ap (λ (p : Page). p .held) r) (ap (λ (p : Page). p .newest) r))));
+            ∙ ap oldsOf
+            (sym (logged-onward z h k (v .onward) base m M x (b .holding M x i q) (ap (λ (p : Page). p .held) r) (ap (λ (p : Page). p .newest) r))));
         now = lane-cases (λ M. M < z.lanes → All (TrueOf z.words k) (us M .gs)) L
             (λ i. rw (v .tracks .here) (v .now))
             (λ M d i. rw (v .tracks .others M d) (all-onward z h k (v .onward) (given-now z base h m b t M i) (t .now M i)));

@@ -25,7 +25,8 @@ use Rattle.crash.proofs.Ties.{Ties}
 use Rattle.crash.proofs.TiesLaws.{word-in, cells-writtenBack}
 
 -- ---- a start
-module _ (z : Sizes) (ok : sizesOk z ≡ true) (base : ℕ) (image words : List ℕ) (even : base % 2 ≡ 0) (long : length image ≡ imageLength z) (at : baseOf image ≡ base)
+module _ (z : Sizes) (ok : sizesOk z ≡ true) (base : ℕ) (image words : List ℕ)
+    (even : base % 2 ≡ 0) (long : length image ≡ imageLength z) (at : baseOf image ≡ base)
     (same : dataOf z image ≡ words) (blank : (L : ℕ) → L < z.lanes → logOf z L image ≡ replicate (2 * z.slots) 0) where
   page-start : (L : ℕ) → L < z.lanes → pageAt (opened z words base) L .newest ≡ newestIn []
   unfolding pageAt opened newestIn

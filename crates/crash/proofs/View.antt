@@ -12,7 +12,8 @@ use lib.ListN.{length, getD, set, length-set, length-append, List·getD-append}
 use lib.Seq.{getD-set-same, getD-set-other}
 use borrow.Author.Tests.{ltb-true, ltb-false}
 use Rattle.laws.specs.Tests.{split}
-use Rattle.slot.specs.Slot.{stampOf}
+use Rattle.slot.specs.Slot.{maxEntries, stampOf}
+use Rattle.image.specs.Image.{minSlots}
 use Rattle.crash.proofs.Absolute.{wrapOf}
 use Rattle.crash.proofs.Ghost.{Past, blank, sta, addressOf, valueOf, addressAt, valueAt, Held, exact, mixed}
 use Rattle.crash.proofs.Window.{Window, Exact, at}
@@ -45,7 +46,7 @@ each-of : {x p q s t : ℕ} → (x ≡ p) ⊎ (x ≡ q) → p ≡ s → q ≡ t 
 each-of (inl e) a b = inl (e ∙ a)
 each-of (inr e) a b = inr (e ∙ b)
 
-module _ (N : ℕ) (large : 33 ≤ N) (cached was cells : List ℕ)
+module _ (N : ℕ) (large : minSlots ≤ N) (cached was cells : List ℕ)
     (mix : (j : ℕ) → j < 2 * N → (getD cells j 0 ≡ getD cached j 0) ⊎ (getD cells j 0 ≡ getD was j 0)) where
   pos : 0 < N
   pos = omega arith
@@ -73,7 +74,7 @@ module _ (N : ℕ) (large : 33 ≤ N) (cached was cells : List ℕ)
     unfolding Window
     grown-old a lo hi l = both (h ++ cs) h a (w a lo hi) (v a (omega (arith, length-append h cs)) l) (sym (List·getD-append h cs blank a l))
 
-    grown-new : (a b : ℕ) → length (h ++ cs) ≤ a + N → a < length (h ++ cs) → a ≡ b + N → length h ≤ a → b < length h → length (h ++ cs) + 16 ≤ a + N
+    grown-new : (a b : ℕ) → length (h ++ cs) ≤ a + N → a < length (h ++ cs) → a ≡ b + N → length h ≤ a → b < length h → length (h ++ cs) + maxEntries ≤ a + N
         → Held N (at (h ++ cs)) (length (h ++ cs)) cells a
     unfolding Window addressAt valueAt
     grown-new a b lo hi e past l room =
@@ -84,7 +85,8 @@ module _ (N : ℕ) (large : 33 ≤ N) (cached was cells : List ℕ)
         (record {
           first = each-of (mix (2 * (b % N)) (first b)) (ap (λ i. getD cached (2 * i) 0) s ∙ x .address ∙ ap (λ i. addressOf (wrapOf N i) (at (h ++ cs) i)) e)
               (y .address ∙ ap (addressOf (wrapOf N b)) (sym (List·getD-append h cs blank b l)));
-          second = each-of (mix (2 * (b % N) + 1) (second b)) (ap (λ i. getD cached (2 * i + 1) 0) s ∙ x .value ∙ ap (λ i. valueOf (wrapOf N i) (at (h ++ cs) i)) e)
+          second =
+              each-of (mix (2 * (b % N) + 1) (second b)) (ap (λ i. getD cached (2 * i + 1) 0) s ∙ x .value ∙ ap (λ i. valueOf (wrapOf N i) (at (h ++ cs) i)) e)
               (y .value ∙ ap (valueOf (wrapOf N b)) (sym (List·getD-append h cs blank b l)));
         })
 
@@ -154,7 +156,8 @@ module _ (N : ℕ) (large : 33 ≤ N) (cached was cells : List ℕ)
     sealed-view : View N h after cells
     sealed-view = go (mix (2 * (e % N) + 1) (second e))
       where
-        go : (getD cells (2 * (e % N) + 1) 0 ≡ getD cached (2 * (e % N) + 1) 0) ⊎ (getD cells (2 * (e % N) + 1) 0 ≡ getD was (2 * (e % N) + 1) 0) → View N h after cells
+        go : (getD cells (2 * (e % N) + 1) 0 ≡ getD cached (2 * (e % N) + 1) 0)
+            ⊎ (getD cells (2 * (e % N) + 1) 0 ≡ getD was (2 * (e % N) + 1) 0) → View N h after cells
         go (inl q) = present (visible-exact N after (length h) cells (sealed-now q))
         go (inr q) = former (visible-exact N h (length h) cells (sealed-before q))
 

@@ -8,6 +8,7 @@ use native.Mathlib.Omega.{arith}
 use native.Mathlib.Nat.{le-trans}
 use lib.ListN.{length, getD, set, replicate}
 use Rattle.laws.specs.Lists.{All, none, more, All-map, All-rest}
+use Rattle.txn.specs.Txn.{maxWrites}
 use Rattle.txn.specs.declared.Write.{Write}
 use Rattle.image.specs.Image.{imageLength, logStart, logOf}
 use Rattle.image.specs.ImageLaws.{InRange}
@@ -83,13 +84,14 @@ rest-falls : {g : Seq} {gs : List Seq} → Falls (g ∷ gs) → Falls gs
 rest-falls (onto a f) = f
 
 -- ---- an append and a commit, in an image
-module _ (z : Sizes) (r : InRange z) (L : ℕ) (lane : L < z.lanes) (base clock : ℕ) (low : base ≤ clock) (even : clock % 2 ≡ 0) (image : List ℕ) (len : length image ≡ imageLength z) where
+module _ (z : Sizes) (r : InRange z) (L : ℕ) (lane : L < z.lanes) (base clock : ℕ) (low : base ≤ clock)
+    (even : clock % 2 ≡ 0) (image : List ℕ) (len : length image ≡ imageLength z) where
   low-olds : (ws : List Write) → All (λ w. w .word < z.words) ws → All (λ e. e .word < z.words) (oldsOf ws)
   unfolding oldsOf
   low-olds [] none = none
   low-olds (w ∷ ws) (more p h) = more p (low-olds ws h)
 
-  pub written-append : (ws : List Write) → length ws ≤ 16 → All (λ w. w .word < z.words) ws → {h : List Past} {gs : List Seq}
+  pub written-append : (ws : List Write) → length ws ≤ maxWrites → All (λ w. w .word < z.words) ws → {h : List Past} {gs : List Seq}
       → Written z base clock (logOf z L image) h gs
       → Written z base (clock + 2) (logOf z L (stored (appendStores (logStart z L) z.slots (clock + 2) (cursorAt z.slots (length h)) ws) image))
       (h ++ pastOf (oldsOf ws) (clock + 2)) (next h (oldsOf ws) (clock + 2) ∷ gs)
@@ -104,7 +106,8 @@ module _ (z : Sizes) (r : InRange z) (L : ℕ) (lane : L < z.lanes) (base clock 
 
   pub written-commit : {h : List Past} {g : Seq} {gs : List Seq} → Written z base clock (logOf z L image) h (g ∷ gs)
       → Written z base (clock + 2)
-      (logOf z L (set image (restampStore (logStart z L) (g .end % z.slots) (clock + 2) image .at) (restampStore (logStart z L) (g .end % z.slots) (clock + 2) image .value)))
+      (logOf z L (set image (restampStore (logStart z L) (g .end % z.slots) (clock + 2) image .at)
+      (restampStore (logStart z L) (g .end % z.slots) (clock + 2) image .value)))
       (set h (g .end) (sta (length (g .entries)) (clock + 2))) (restamped (clock + 2) g ∷ gs)
   written-commit {h} {g} {gs} w =
       let s = stands z.words z.slots (w .history) here in
@@ -124,7 +127,7 @@ module _ (z : Sizes) (r : InRange z) (log : List ℕ) (h : List Past) (base L : 
 
   -- without sequences nothing is found
   pub shown-nothing : {u : ℕ} → Shown z log h [] u → qs ≡ []
-  shown-nothing s = go qs (shown-found z (r .words-high) (omega arith) s base L)
+  shown-nothing s = go qs (shown-found z (r .words-high) (r .slots-low) s base L)
     where
       go : (qs : List Complete) → All (Listed z.slots []) qs → qs ≡ []
       go [] none = refl
@@ -134,10 +137,10 @@ module _ (z : Sizes) (r : InRange z) (log : List ℕ) (h : List Past) (base L : 
   pub shown-latest : {g : Seq} {gs : List Seq} {u : ℕ} → Shown z log h (g ∷ gs) u → Falls (g ∷ gs) → Whole z.slots h g → g .end < u → base < g .stamp
       → latest qs ≡ newestAs z.slots (g ∷ gs)
   unfolding newestAs sequenceOf
-  shown-latest {g} {gs} s f whole set new = go (latest qs) refl (shown-there z (r .words-high) (omega arith) s base L g here whole set new)
+  shown-latest {g} {gs} s f whole set new = go (latest qs) refl (shown-there z (r .words-high) (r .slots-low) s base L g here whole set new)
     where
       known : All (Listed z.slots (g ∷ gs)) qs
-      known = shown-found z (r .words-high) (omega arith) s base L
+      known = shown-found z (r .words-high) (r .slots-low) s base L
 
       -- a member with its timestamp is the newest itself
       mine : (es : List Old) (t e : ℕ) → Falls (g ∷ gs) → In (record { entries = es; stamp = t; end = e }) (g ∷ gs) → g .stamp ≤ t
@@ -145,12 +148,14 @@ module _ (z : Sizes) (r : InRange z) (log : List ℕ) (h : List Past) (base L : 
       mine es t e f here l = (refl, refl, refl)
       mine es t e (onto a f) (there i) l = absurd (let b : t < g .stamp = In-All a i in omega arith)
 
-      go : (l : Latest) → latest qs ≡ l → In (foundAs z.slots L g) qs → latest qs ≡ Is (record { stamp = g .stamp; count = length (g .entries); slot = g .end % z.slots })
+      go : (l : Latest) → latest qs ≡ l → In (foundAs z.slots L g) qs
+          → latest qs ≡ Is (record { stamp = g .stamp; count = length (g .entries); slot = g .end % z.slots })
       go Nothing e i = absurd (let n : qs ≡ [] = latest-none qs e in elim (subst (In (foundAs z.slots L g)) n i) [ ])
       go (Is q) e i =
           let t = latest-greatest qs q e in
           let k = In-All known (t .found) in
-          let same = mine (t .by .entries) (t .by .stamp) (k .end) f (k .among) (let b : g .stamp ≤ t .by .stamp = rw (sym (ap (λ (s : Sequence). s .stamp) (t .is))) at (t .above i) in b) in
+          let same = mine (t .by .entries) (t .by .stamp) (k .end) f (k .among)
+          (let b : g .stamp ≤ t .by .stamp = rw (sym (ap (λ (s : Sequence). s .stamp) (t .is))) at (t .above i) in b) in
           e ∙ ap Is (sym (t .is) ∙ rw (same .0, same .1, sym (k .slot), same .2))
 
 pub newest-stamp : (N : ℕ) (gs : List Seq) → contribution (newestAs N gs) ≡ newestIn gs
@@ -166,9 +171,11 @@ module _ (z : Sizes) (r : InRange z) (base clock : ℕ) (log : List ℕ) (L : �
   pub written-there : {h : List Past} {g : Seq} {gs : List Seq} → Written z base clock log h gs → In g gs → Whole z.slots h g
       → In (foundAs z.slots L g) (completeBelow z.words z.slots base log L z.slots)
   written-there {g = g} w i whole =
-      shown-there z (r .words-high) (omega arith) (shown-window z (w .history) (w .window)) base L g i whole (stands z.words z.slots (w .history) i .below) (In-All (w .above) i)
+      shown-there z (r .words-high) (r .slots-low) (shown-window z (w .history) (w .window)) base L g i whole
+      (stands z.words z.slots (w .history) i .below) (In-All (w .above) i)
 
-  pub written-latest : {h : List Past} {gs : List Seq} → Written z base clock log h gs → latest (completeBelow z.words z.slots base log L z.slots) ≡ newestAs z.slots gs
+  pub written-latest : {h : List Past} {gs : List Seq} → Written z base clock log h gs
+      → latest (completeBelow z.words z.slots base log L z.slots) ≡ newestAs z.slots gs
   unfolding newestAs latest
   written-latest {h = h} {gs = []} w = ap latest (shown-nothing z r log h base L (shown-window z (w .history) (w .window)))
   written-latest {h = h} {gs = g ∷ gs} w =
@@ -183,5 +190,6 @@ module _ (z : Sizes) (r : InRange z) (base clock : ℕ) (log : List ℕ) (L : �
       let s = stands z.words z.slots (w .history) i in
       let k : ℕ = length (g .entries) in
       let o = In-All (none-hit z.slots (length h % z.slots) n b _ e) (written-there w i whole) l in
-      let t = not-hit z.slots (length h) (g .end) n (omega arith) (omega (arith, s .late)) (s .below) k (omega (arith, s .ok .few)) (omega (arith, s .late)) o k (omega arith) in
+      let t = not-hit z.slots (length h) (g .end) n (omega arith) (omega (arith, s .late))
+      (s .below) k (omega (arith, s .ok .few)) (omega (arith, s .late)) o k (omega arith) in
       omega (arith, s .late)

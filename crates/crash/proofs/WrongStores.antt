@@ -1,4 +1,5 @@
--- Wrong stores, and for each a list of events at whose end the crash theorem is false of it: the traps of this design, and stores that do too little or too much. Assumes nothing.
+-- Wrong stores, and for each a list of events at whose end the crash theorem is false of it:
+-- the traps of this design, and stores that do too little or too much. Assumes nothing.
 use Prim.Native.Nat.{ℕ, zero, suc, _+_, _*_}
 use mathlib.Core.Path.{refl}
 use mathlib.Core.Bool.{cond}
@@ -25,9 +26,10 @@ use Rattle.crash.specs.Theorem.{CrashTheorem}
 use Rattle.crash.proofs.Worked.{small, junk, set0, copy, writeBacks, twoLanes}
 use Rattle.crash.proofs.Refute.{wrong-words, wrong-clock, wrong-answer, wrong-count, wrong-recovery, refuting}
 
--- A refutation names the store, the sizes, the start words, the events, then the last event, and two lists: the numbers that the store has at its end, and those that the theorem
--- gives. `wrong-recovery` looks at the data words after a recovery, `wrong-count` at how many entries it says to have undone, `wrong-words` at the cached data words,
--- `wrong-clock` at the clock, `wrong-answer` at the number and the timestamp of an answer. `refl` computes the list and sees that they differ.
+-- A refutation names the store, the sizes, the start words, the events, then the last event, and two lists: the numbers that the store has at its end,
+-- and those that the theorem gives. `wrong-recovery` looks at the data words after a recovery, `wrong-count` at how many entries it says to have undone,
+-- `wrong-words` at the cached data words, `wrong-clock` at the clock, `wrong-answer` at the number and the timestamp of an answer.
+-- `refl` computes the list and sees that they differ.
 
 -- ---- how a store differs from ours
 -- in its calls
@@ -93,7 +95,8 @@ clearing z = zeros (1 + z.words) (2 * z.lanes * z.slots)
 
 -- the same step, but for the cached image; and but for the state of lane L
 unfoldable withCache : List ℕ → Step → Step
-withCache cache s = record { answer = s .answer; machine = record { state = s .machine .state; cache = cache; nvm = s .machine .nvm; flags = s .machine .flags } }
+withCache cache s =
+    record { answer = s .answer; machine = record { state = s .machine .state; cache = cache; nvm = s .machine .nvm; flags = s .machine .flags } }
 
 unfoldable withLaneOf : ℕ → Lane → Step → Step
 withLaneOf L l s =
@@ -145,7 +148,10 @@ additions zero = []
 additions (suc n) = 3 ∷ 0 ∷ 0 ∷ 1 ∷ additions n
 
 abbrev threeOnLane0 : List Event
-threeOnLane0 = call (log 0 (additions 16)) ∷ call (redo 0) ∷ call (log 0 (additions 16)) ∷ call (redo 0) ∷ call (log 0 (additions 16)) ∷ writeBacks 0 139 ++ (fails junk ∷ [])
+threeOnLane0 =
+    call (log 0 (additions 16)) ∷ call (redo 0)
+    ∷ call (log 0 (additions 16)) ∷ call (redo 0)
+    ∷ call (log 0 (additions 16)) ∷ writeBacks 0 139 ++ (fails junk ∷ [])
 
 never-full : CrashTheorem (calling neverFull) → ⊥
 unfolding made neverFull additions
@@ -209,7 +215,8 @@ markOpen =
 mark-open : CrashTheorem markOpen → ⊥
 unfolding made markOpen
 mark-open =
-    wrong-recovery markOpen small (0 ∷ 0 ∷ []) (call (log 0 (set0 2)) ∷ call (mark 0) ∷ call (redo 0) ∷ writeBack 1 ∷ fails junk ∷ []) 1000 junk (2 ∷ 0 ∷ []) (0 ∷ 0 ∷ []) refl
+    wrong-recovery markOpen small (0 ∷ 0 ∷ [])
+    (call (log 0 (set0 2)) ∷ call (mark 0) ∷ call (redo 0) ∷ writeBack 1 ∷ fails junk ∷ []) 1000 junk (2 ∷ 0 ∷ []) (0 ∷ 0 ∷ []) refl
 
 -- 6. The logs are cleared before the base timestamp is stored. Recovery of the two-lane scenario is cut when lane 0's log, 68 words, is cleared: the next one
 -- takes lane 1's newest timestamp, 10, for the boundary, and word 1 becomes 2
@@ -245,7 +252,8 @@ undoesEvery = storing (λ z image. undoSequences (ordered (completeOf z image z.
 undoes-every : CrashTheorem undoesEvery → ⊥
 unfolding made undoesEvery
 undoes-every =
-    wrong-recovery undoesEvery small (0 ∷ 0 ∷ []) (call (log 0 (set0 2)) ∷ call (redo 0) ∷ call (mark 0) ∷ call (drain 0) ∷ fails junk ∷ []) 1000 junk (0 ∷ 0 ∷ []) (2 ∷ 0 ∷ []) refl
+    wrong-recovery undoesEvery small (0 ∷ 0 ∷ [])
+    (call (log 0 (set0 2)) ∷ call (redo 0) ∷ call (mark 0) ∷ call (drain 0) ∷ fails junk ∷ []) 1000 junk (0 ∷ 0 ∷ []) (2 ∷ 0 ∷ []) refl
 
 -- 9. Recovery undoes none: a commit whose timestamp did not reach the log stays
 unfoldable undoesNone : Design
@@ -254,7 +262,8 @@ undoesNone = storing (λ z image. base z image ++ clearing z)
 undoes-none : CrashTheorem undoesNone → ⊥
 unfolding made undoesNone
 undoes-none =
-    wrong-recovery undoesNone small (0 ∷ 0 ∷ []) (call (log 0 (set0 2)) ∷ call (redo 0) ∷ writeBack 1 ∷ fails junk ∷ []) 1000 junk (2 ∷ 0 ∷ []) (0 ∷ 0 ∷ []) refl
+    wrong-recovery undoesNone small (0 ∷ 0 ∷ [])
+    (call (log 0 (set0 2)) ∷ call (redo 0) ∷ writeBack 1 ∷ fails junk ∷ []) 1000 junk (2 ∷ 0 ∷ []) (0 ∷ 0 ∷ []) refl
 
 -- 10. Sequences are undone in rising order: of two that name word 0, the later one's old value is left
 unfoldable reversed : List Complete → List Complete
@@ -286,7 +295,8 @@ undoesForward = storing (λ z image. sequencesForward (undone z image) ++ (base 
 undoes-forward : CrashTheorem undoesForward → ⊥
 unfolding made undoesForward sequencesForward entriesForward additions
 undoes-forward =
-    wrong-recovery undoesForward small (0 ∷ 0 ∷ []) (call (log 0 (additions 2)) ∷ call (redo 0) ∷ writeBack 1 ∷ fails junk ∷ []) 1000 junk (1 ∷ 0 ∷ []) (0 ∷ 0 ∷ []) refl
+    wrong-recovery undoesForward small (0 ∷ 0 ∷ [])
+    (call (log 0 (additions 2)) ∷ call (redo 0) ∷ writeBack 1 ∷ fails junk ∷ []) 1000 junk (1 ∷ 0 ∷ []) (0 ∷ 0 ∷ []) refl
 
 -- 12. An invented count of undone entries
 unfoldable inventedIn : Recovered → Recovered
@@ -344,7 +354,8 @@ commitsOnce =
 commits-once : CrashTheorem commitsOnce → ⊥
 unfolding made commitsOnce
 commits-once =
-    wrong-words commitsOnce small (0 ∷ 0 ∷ []) (call (log 0 (set0 2)) ∷ call (redo 0) ∷ call (log 0 (set0 3)) ∷ []) (call (redo 0)) (2 ∷ 0 ∷ []) (3 ∷ 0 ∷ []) refl
+    wrong-words commitsOnce small (0 ∷ 0 ∷ []) (call (log 0 (set0 2)) ∷ call (redo 0) ∷ call (log 0 (set0 3)) ∷ [])
+    (call (redo 0)) (2 ∷ 0 ∷ []) (3 ∷ 0 ∷ []) refl
 
 -- 17. A step answers as it should, and leaves all unaltered
 unfoldable unaltered : Design

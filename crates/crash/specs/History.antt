@@ -1,4 +1,5 @@
--- The history (01: plain book), the sequential reference: it is fed arguments, replies and the cut cells, and never reads the machine. 01, "The cut claim". Assumes nothing.
+-- The history (01: plain book), the sequential reference: it is fed arguments, replies and the cut cells, and never reads the machine.
+-- 01, "The cut claim". Assumes nothing.
 use Prim.Native.Nat.{ℕ, _+_, _-_, _^_}
 use mathlib.Core.Bool.{Bool, true, false, cond, not, _&&_, _||_}
 use mathlib.Core.List.{List, [], _∷_, _++_, map}
@@ -17,7 +18,9 @@ use Rattle.store.specs.declared.Answer.{Answer}
 use Rattle.store.specs.declared.Answer.the-variants as answer
 use Rattle.recovery.specs.Recovery.{boundary, newBase, told}
 use Rattle.recovery.specs.declared.Recovered.{Recovered}
-use Rattle.crash.specs.Events.{Call, log, redo, validate, mark, drain, Event, format, writeBack, call, recover, fails, failsInDrain, failsAfterDrain, failsInRecovery, Reply, answered, recovered, failed, ignored, laneOf}
+use Rattle.crash.specs.Events.{Call, log, redo, validate, mark, drain, laneOf}
+use Rattle.crash.specs.Events.{Event, format, writeBack, call, recover, fails, failsInDrain, failsAfterDrain, failsInRecovery}
+use Rattle.crash.specs.Events.{Reply, answered, recovered, failed, ignored}
 
 -- a lane's page: the transaction it holds, its newest timestamp, its floor
 pub record Page : Type 0 where
@@ -69,7 +72,12 @@ floorOr (At a) b = At a
 unfoldable pub settled : ℕ → History → History
 settled L h =
     let p = pageAt h L in
-    record { start = h.start; clock = h.clock; commits = h.commits; pages = set h.pages L (record { held = p.held; newest = p.newest; floor = floorOr p.newest p.floor }) }
+    record {
+      start = h.start;
+      clock = h.clock;
+      commits = h.commits;
+      pages = set h.pages L (record { held = p.held; newest = p.newest; floor = floorOr p.newest p.floor });
+    }
 
 -- a new timestamp of lane L, with what it then holds and what is committed
 unfoldable pub stamped : ℕ → Option (List ℕ) → List (List ℕ) → History → History

@@ -1,4 +1,5 @@
--- The crash theorem: what holds after every event of every list of events from a Format on. The order's demands 2 and 3, and 01, "The cut claim". Assumes nothing.
+-- The crash theorem: what holds after every event of every list of events from a Format on.
+-- The order's demands 2 and 3, and 01, "The cut claim". Assumes nothing.
 use Prim.Native.Nat.{ℕ, _≤_, _<_}
 use mathlib.Core.Bool.{Bool, true, cond}
 use mathlib.Core.List.{List, [], _∷_, _++_}
@@ -18,7 +19,9 @@ use Rattle.store.specs.declared.Answer.the-variants as answer
 use Rattle.recovery.specs.Recovery.{boundary, undoStores, allMade}
 use Rattle.recovery.specs.declared.Recovered.{Recovered}
 use Rattle.recovery.specs.declared.Recovered.the-variants.{Refused, Cut, Finished}
-use Rattle.crash.specs.Events.{Call, Event, format, writeBack, call, recover, fails, failsInDrain, failsAfterDrain, failsInRecovery, System, live, down, nvmOf, Reply, answered, recovered, failed, ignored, Design, happens, laneOf}
+use Rattle.crash.specs.Events.{Call, laneOf, System, live, down, nvmOf, Design, happens}
+use Rattle.crash.specs.Events.{Event, format, writeBack, call, recover, fails, failsInDrain, failsAfterDrain, failsInRecovery}
+use Rattle.crash.specs.Events.{Reply, answered, recovered, failed, ignored}
 use Rattle.crash.specs.History.{History, fed, pageAt, present, wordsBelow, leastFloorOf, settled, isSome, causesBy, slotsBy, takenAnswer}
 
 -- ---- a running store
@@ -70,8 +73,8 @@ abbrev pub writeBackAnswer : Sizes → ℕ → Answer
 writeBackAnswer z i = cond (leb (imageLength z) i) (answer.Refused 4) answer.Done
 
 -- ---- recovery
--- the answer of a recovery with this limit that finds these cells: cut exactly where stores remain past the limit, else their boundary, and how many entries they
--- have to undo. Never a refusal: recovery of a formatted store is taken
+-- the answer of a recovery with this limit that finds these cells: cut exactly where stores remain past the limit, else their boundary,
+-- and how many entries they have to undo. Never a refusal: recovery of a formatted store is taken
 unfoldable pub recoveryAnswer : Sizes → (limit : ℕ) → (cells : List ℕ) → Recovered
 recoveryAnswer z limit cells =
     cond (allMade z limit cells) (Finished (record { boundary = boundary z cells; undone = length (undoStores z cells) })) Cut
@@ -134,8 +137,8 @@ Holds d z y h [] = Unit {0}
 Holds d z y h (e ∷ es) =
     Agrees d z h e y × Holds d z (happens d z y e .system) (fed z e (happens d z y e .reply) (happens d z y e .found) h) es
 
--- the theorem about a store: for all sizes, buffers and start words that Format is not to refuse, and all lists of events that begin with it; the history before it
--- does not matter. It holds of ours (`CrashTheorem.crash-theorem`), and of none of the wrong ones in `proofs/WrongStores`
+-- the theorem about a store: for all sizes, buffers and start words that Format is not to refuse, and all lists of events that begin with it;
+-- the history before it does not matter. It holds of ours (`CrashTheorem.crash-theorem`), and of none of the wrong ones in `proofs/WrongStores`
 unfoldable pub CrashTheorem : Design → Type 0
 CrashTheorem d =
     (z : Sizes) (start : List ℕ) (m : Machine) (h : History) → formatRefusal z start m ≡ 0
