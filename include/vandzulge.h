@@ -1,4 +1,4 @@
-/* Vandzulge: a transactional store for persistent memory. Link with libabi.a (x86-64; written by `rt staticlib abi`).
+/* Vandzulge: a transactional store for persistent memory. Link with libvandzulge.a (x86-64; written by `rt staticlib vandzulge`).
  *
  * Every function returns 0 where the call was taken, else the number of its refusal. After a refusal all is as it was, record and answer too.
  * The library has no heap, no threads and no global state; it uses less than 32 KB of stack, and calls nothing but memcpy and memset, to which only Format hands a part of nvm.

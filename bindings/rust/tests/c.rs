@@ -11,7 +11,7 @@ fn every_call_from_c() {
         .args(["-std=c99", "-O2", "-Wall", "-Wextra", "-pedantic", "-Werror", "-I"])
         .arg(here.join("../../include"))
         .arg(here.join("tests/c/smoke.c"))
-        .arg(here.join("../../target/staticlib/libabi.a"))
+        .arg(here.join("../../target/staticlib/libvandzulge.a"))
         .arg("-o")
         .arg(&program)
         .output()

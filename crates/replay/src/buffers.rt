@@ -24,7 +24,8 @@ fn store_bytes(buffer: &mut [u8], index: usize, values: &[u64]) {
     }
 }
 
-// Puts an op's words from `first` on into a buffer. Word 0 is the buffer's number, and nothing is stored where there is none of that number; word 1 is the index to start at.
+// Puts an op's words from `first` on into a buffer. Word 0 is the buffer's number, and nothing is stored where there is
+// none of that number; word 1 is the index to start at.
 pub(crate) fn store(
     words: &[u64],
     first: usize,

@@ -4,6 +4,22 @@ use libc::STDIN_FILENO;
 ghost use mathlib.Core.Path.{_≡_};
 ghost use Prim.Native.Nat.{_+_, _*_, _≤_};
 ghost use lib.ListN.{length};
+ghost use Rattle.image.specs.Image.{maxImage};
+ghost use Rattle.replay.specs.Lengths.{chunkWords, chunkBytes, inputWords};
+use image::MAX_IMAGE;
+
+// How many words are read at once, how many bytes these have, and how often that is done.
+const CHUNK_WORDS: usize = 8192;
+
+const CHUNK_BYTES: usize = 8 * CHUNK_WORDS;
+
+const CHUNKS: usize = 16;
+
+// The words of the longest input.
+const INPUT_WORDS: usize = CHUNKS * CHUNK_WORDS;
+
+// The most words of a transaction.
+const MAX_TXN_WORDS: usize = 80;
 
 // How many words an op has after its code.
 enum Extent {
@@ -19,10 +35,10 @@ pub(crate) struct Input {
 }
 
 // Zeros for the longest input. A function of its own, so that a caller's proof sees only the length.
-pub(crate) fn buffer() -> [u64; 131072]
-    ensures { λ r. ⌜ 131072 ≡ length r ⌝ }
+pub(crate) fn buffer() -> [u64; INPUT_WORDS]
+    ensures { λ r. ⌜ inputWords ≡ length r ⌝ }
 {
-    [0; 131072]
+    [0; INPUT_WORDS]
 }
 
 pub(crate) fn wide(byte: u8) -> u64 {
@@ -49,10 +65,10 @@ fn decode(bytes: &[u8], words: &mut [u64])
     }
 }
 
-// Reads up to 65,536 bytes, and puts their words at the start of `words`; how many bytes there were.
+// Reads a chunk, and puts its words at the start of `words`; how many bytes there were.
 fn read_chunk(words: &mut [u64]) -> usize
-    requires { ⌜ 8192 ≤ length (now words) ⌝ }
-    ensures { λ r. ⌜ r ≤ 65536 ⌝ }
+    requires { ⌜ chunkWords ≤ length (now words) ⌝ }
+    ensures { λ r. ⌜ r ≤ chunkBytes ⌝ }
 {
     let mut bytes = io::large_buffer();
     let got = io::read_full(STDIN_FILENO, &mut bytes);
@@ -67,13 +83,13 @@ fn is_at_end() -> bool {
 
 // Reads the input, which is whole where it ends after a word and is no longer than `words`.
 pub(crate) fn read(words: &mut [u64]) -> Input
-    requires { ⌜ length (now words) ≡ 131072 ⌝ }
-    ensures { λ r. ⌜ r .count ≤ 131072 ⌝ }
+    requires { ⌜ length (now words) ≡ inputWords ⌝ }
+    ensures { λ r. ⌜ r .count ≤ inputWords ⌝ }
 {
-    for k in 0..16 {
-        let start = 8192 * k;
+    for k in 0..CHUNKS {
+        let start = CHUNK_WORDS * k;
         let got = read_chunk(&mut words[start..]);
-        if got < 65536 {
+        if got < CHUNK_BYTES {
             return Input {
                 count: start + got / 8,
                 whole: got % 8 == 0,
@@ -81,7 +97,7 @@ pub(crate) fn read(words: &mut [u64]) -> Input
         }
     }
     Input {
-        count: 131072,
+        count: INPUT_WORDS,
         whole: is_at_end(),
     }
 }
@@ -125,14 +141,15 @@ fn start_words(sizes: Sizes) -> usize {
 }
 
 // The words of an op that has `fixed` ones, of which the last says how many follow, at most `most`.
-fn counted(op: &[u64], fixed: usize, most: u64) -> Extent
-    requires { ⌜ (fixed ≤ 3) × (most ≤ 5121) ⌝ }
+fn counted(op: &[u64], fixed: usize, most: usize) -> Extent
+    requires { ⌜ fixed ≤ 3 ⌝ }
+    requires { ⌜ most ≤ maxImage ⌝ }
 {
-    let more = word(op, fixed);
+    let more = number(op, fixed);
     if most < more {
         return Extent::Malformed;
     }
-    Extent::Words(fixed + more as usize)
+    Extent::Words(fixed + more)
 }
 
 // How many words the op at the start of these words has, if they do not end before it does.
@@ -141,15 +158,16 @@ fn operands(op: &[u64], sizes: Sizes) -> Extent {
         0 | 9 | 14 => Extent::Words(0),
         2 | 4 | 5 | 6 | 7 => Extent::Words(1),
         10 | 12 => Extent::Words(3),
-        11 => Extent::Words(322),
+        11 => Extent::Words(codec::RECORD_WORDS),
         8 => Extent::Words(start_words(sizes)),
-        1 | 3 => counted(op, 2, 80),
-        13 => counted(op, 3, 5121),
+        1 | 3 => counted(op, 2, MAX_TXN_WORDS),
+        13 => counted(op, 3, MAX_IMAGE),
         _ => Extent::Malformed,
     }
 }
 
-// The length of the op at the start of these words, its code included; 0 where it is malformed or the words end before it does.
+// The length of the op at the start of these words, its code included; 0 where it is malformed or the words end before
+// it does.
 pub(crate) fn op_length(op: &[u64], sizes: Sizes) -> usize
     ensures { λ r. ⌜ r ≤ length (now (op .entry)) ⌝ }
 {

@@ -1,9 +1,10 @@
-// Runs recorded calls on the store, and prints a line for each. The format of the input and the output is docs/TRACE.md.
+// Runs recorded calls on the store, and prints a line for each. docs/TRACE.md has the format of input and output.
 mod buffers;
-mod fields;
 mod input;
 mod print;
 
+use codec::RECORD_WORDS;
+use image::MAX_IMAGE;
 use image::Sizes;
 use record::Record;
 use recovery::Recovered;
@@ -12,6 +13,7 @@ use store::Outcome;
 ghost use mathlib.Core.Path.{_≡_};
 ghost use Prim.Native.Nat.{_≤_};
 ghost use lib.ListN.{length};
+ghost use Rattle.image.specs.Image.{maxImage};
 
 enum Status {
     Going,
@@ -20,7 +22,8 @@ enum Status {
     Malformed,
 }
 
-// A trace between two of its ops: the word of the input that it stands at, and what its calls are given beside the buffers.
+// A trace between two of its ops: the word of the input that it stands at, and what its calls are given beside the
+// buffers.
 struct Run {
     at: usize,
     status: Status,
@@ -30,7 +33,7 @@ struct Run {
 
 // The words of each buffer that a call is given.
 fn lent(sizes: Sizes) -> usize
-    ensures { λ r. ⌜ r ≤ 5121 ⌝ }
+    ensures { λ r. ⌜ r ≤ maxImage ⌝ }
 {
     if image::sizes_ok(sizes) {
         return image::image_length(sizes);
@@ -102,6 +105,15 @@ fn recover(
     }
 }
 
+// The record of an op's words, of which `op_length` counts RECORD_WORDS. Its contract does not say so: hence the test,
+// whose first arm is never reached.
+fn given_record(words: &[u64], state: Record) -> Record {
+    if words.len() != RECORD_WORDS {
+        return state;
+    }
+    codec::record_from(words)
+}
+
 // Performs an op, by its code and the words after it, where `run` stands behind them already.
 fn perform(
     code: u64,
@@ -132,7 +144,7 @@ fn perform(
             run
         }
         11 => Run {
-            state: fields::record_from(words),
+            state: given_record(words, state),
             ..run
         },
         12 => Run {
@@ -162,7 +174,10 @@ fn perform(
 
 // The op that `run` stands at.
 fn step(input: &[u64], run: Run, cache: &mut [u64], nvm: &mut [u64], flags: &mut [u8]) -> Run
-    requires { ⌜ (run .at ≤ length (now input)) × (5121 ≤ length (now cache)) × (5121 ≤ length (now nvm)) × (5121 ≤ length (now flags)) ⌝ }
+    requires { ⌜ run .at ≤ length (now input) ⌝ }
+    requires { ⌜ maxImage ≤ length (now cache) ⌝ }
+    requires { ⌜ maxImage ≤ length (now nvm) ⌝ }
+    requires { ⌜ maxImage ≤ length (now flags) ⌝ }
     ensures { λ r. ⌜ r .at ≤ length (now (input .entry)) ⌝ }
 {
     let at = run.at;
@@ -188,9 +203,13 @@ fn step(input: &[u64], run: Run, cache: &mut [u64], nvm: &mut [u64], flags: &mut
     )
 }
 
-// Runs the ops of a trace, up to the one that ends it or is malformed. Each has at least one word, so that there are turns enough.
+// Runs the ops of a trace, up to the one that ends it or is malformed. Each has at least one word, so that there are
+// turns enough.
 fn run_ops(input: &[u64], start: Run, cache: &mut [u64], nvm: &mut [u64], flags: &mut [u8]) -> Run
-    requires { ⌜ (start .at ≤ length (now input)) × (5121 ≤ length (now cache)) × (5121 ≤ length (now nvm)) × (5121 ≤ length (now flags)) ⌝ }
+    requires { ⌜ start .at ≤ length (now input) ⌝ }
+    requires { ⌜ maxImage ≤ length (now cache) ⌝ }
+    requires { ⌜ maxImage ≤ length (now nvm) ⌝ }
+    requires { ⌜ maxImage ≤ length (now flags) ⌝ }
     ensures { λ r. ⌜ r .at ≤ length (now (input .entry)) ⌝ }
 {
     let mut run = start;
@@ -209,11 +228,11 @@ fn run_trace(input: &[u64], at: usize) -> Run
     requires { ⌜ at ≤ length (now input) ⌝ }
     ensures { λ r. ⌜ r .at ≤ length (now (input .entry)) ⌝ }
 {
-    let mut cache = [0u64; 5121];
-    let mut nvm = [0u64; 5121];
-    let mut flags = [0u8; 5121];
-    let zeros = [0u64; 322];
-    let state = fields::record_from(&zeros);
+    let mut cache = [0u64; MAX_IMAGE];
+    let mut nvm = [0u64; MAX_IMAGE];
+    let mut flags = [0u8; MAX_IMAGE];
+    let zeros = [0u64; RECORD_WORDS];
+    let state = codec::record_from(&zeros);
     let sizes = input::sizes(&input[at..]);
     if input.len() - at < 3 {
         return Run {

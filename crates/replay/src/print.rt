@@ -1,21 +1,27 @@
 // Lines of output. A line is gathered in a buffer, which is written whenever it is full, and at the line's end.
+use codec::RECORD_WORDS;
 use libc::STDOUT_FILENO;
 use log::Timestamp;
 use record::Record;
 use recovery::Recovered;
 use store::Answer;
+ghost use mathlib.Core.Path.{_≡_};
 ghost use Prim.Native.Nat.{_≤_};
 ghost use lib.ListN.{length};
+ghost use Rattle.codec.specs.Fields.{recordLength};
+ghost use Rattle.replay.specs.Lengths.{lineBytes};
 use crate::buffers;
-use crate::fields;
 use crate::input::wide;
 
+// The bytes of a line that are gathered before they are written: `io::buffer` has as many.
+const LINE_BYTES: usize = 4096;
+
 // Adds a byte to the `used` ones of the buffer; how many there are then.
-fn put_byte(line: &mut [u8; 4096], used: usize, byte: u8) -> usize
-    requires { ⌜ used ≤ 4096 ⌝ }
-    ensures { λ r. ⌜ r ≤ 4096 ⌝ }
+fn put_byte(line: &mut [u8; LINE_BYTES], used: usize, byte: u8) -> usize
+    requires { ⌜ used ≤ lineBytes ⌝ }
+    ensures { λ r. ⌜ r ≤ lineBytes ⌝ }
 {
-    if used == 4096 {
+    if used == LINE_BYTES {
         io::write_all(STDOUT_FILENO, line);
         line[0] = byte;
         return 1;
@@ -25,9 +31,9 @@ fn put_byte(line: &mut [u8; 4096], used: usize, byte: u8) -> usize
 }
 
 // Adds a text.
-fn put(line: &mut [u8; 4096], used: usize, text: &[u8]) -> usize
-    requires { ⌜ used ≤ 4096 ⌝ }
-    ensures { λ r. ⌜ r ≤ 4096 ⌝ }
+fn put(line: &mut [u8; LINE_BYTES], used: usize, text: &[u8]) -> usize
+    requires { ⌜ used ≤ lineBytes ⌝ }
+    ensures { λ r. ⌜ r ≤ lineBytes ⌝ }
 {
     let mut end = used;
     for i in 0..text.len() {
@@ -37,9 +43,9 @@ fn put(line: &mut [u8; 4096], used: usize, text: &[u8]) -> usize
 }
 
 // Adds a space and a number in decimal.
-fn put_number(line: &mut [u8; 4096], used: usize, number: u64) -> usize
-    requires { ⌜ used ≤ 4096 ⌝ }
-    ensures { λ r. ⌜ r ≤ 4096 ⌝ }
+fn put_number(line: &mut [u8; LINE_BYTES], used: usize, number: u64) -> usize
+    requires { ⌜ used ≤ lineBytes ⌝ }
+    ensures { λ r. ⌜ r ≤ lineBytes ⌝ }
 {
     let mut digits = [0u8; 20];
     let count = io::decimal(number, &mut digits);
@@ -54,8 +60,8 @@ fn write_first(bytes: &[u8], count: usize)
 }
 
 // Ends the line, and writes what is left of it.
-fn end_line(line: &mut [u8; 4096], used: usize)
-    requires { ⌜ used ≤ 4096 ⌝ }
+fn end_line(line: &mut [u8; LINE_BYTES], used: usize)
+    requires { ⌜ used ≤ lineBytes ⌝ }
 {
     let end = put_byte(line, used, b'\n');
     write_first(line, end);
@@ -66,8 +72,8 @@ pub(crate) fn bad_trace() {
 }
 
 // Starts the line of a call.
-fn put_name(line: &mut [u8; 4096], code: u64) -> usize
-    ensures { λ r. ⌜ r ≤ 4096 ⌝ }
+fn put_name(line: &mut [u8; LINE_BYTES], code: u64) -> usize
+    ensures { λ r. ⌜ r ≤ lineBytes ⌝ }
 {
     match code {
         1 => put(line, 0, b"log"),
@@ -81,9 +87,9 @@ fn put_name(line: &mut [u8; 4096], code: u64) -> usize
     }
 }
 
-fn put_answer(line: &mut [u8; 4096], used: usize, answer: Answer) -> usize
-    requires { ⌜ used ≤ 4096 ⌝ }
-    ensures { λ r. ⌜ r ≤ 4096 ⌝ }
+fn put_answer(line: &mut [u8; LINE_BYTES], used: usize, answer: Answer) -> usize
+    requires { ⌜ used ≤ lineBytes ⌝ }
+    ensures { λ r. ⌜ r ≤ lineBytes ⌝ }
 {
     match answer {
         Answer::Refused(number) => {
@@ -117,9 +123,9 @@ pub(crate) fn answer_line(code: u64, answer: Answer) {
     end_line(&mut line, end);
 }
 
-fn put_boundary(line: &mut [u8; 4096], used: usize, boundary: Timestamp) -> usize
-    requires { ⌜ used ≤ 4096 ⌝ }
-    ensures { λ r. ⌜ r ≤ 4096 ⌝ }
+fn put_boundary(line: &mut [u8; LINE_BYTES], used: usize, boundary: Timestamp) -> usize
+    requires { ⌜ used ≤ lineBytes ⌝ }
+    ensures { λ r. ⌜ r ≤ lineBytes ⌝ }
 {
     match boundary {
         Timestamp::None => put(line, used, b" none"),
@@ -127,9 +133,9 @@ fn put_boundary(line: &mut [u8; 4096], used: usize, boundary: Timestamp) -> usiz
     }
 }
 
-fn put_recovered(line: &mut [u8; 4096], used: usize, answer: Recovered) -> usize
-    requires { ⌜ used ≤ 4096 ⌝ }
-    ensures { λ r. ⌜ r ≤ 4096 ⌝ }
+fn put_recovered(line: &mut [u8; LINE_BYTES], used: usize, answer: Recovered) -> usize
+    requires { ⌜ used ≤ lineBytes ⌝ }
+    ensures { λ r. ⌜ r ≤ lineBytes ⌝ }
 {
     match answer {
         Recovered::Refused(number) => {
@@ -172,9 +178,18 @@ fn bytes_line(name: &[u8], bytes: &[u8]) {
     end_line(&mut line, end);
 }
 
+// The words of a record. A function of its own, so that a caller's proof sees only the length.
+fn record_words(state: Record) -> [u64; RECORD_WORDS]
+    ensures { λ r. ⌜ recordLength ≡ length r ⌝ }
+{
+    let mut words = [0; RECORD_WORDS];
+    codec::record_to(state, &mut words);
+    words
+}
+
 // The four lines of a dump.
 pub(crate) fn dump(state: Record, cache: &[u64], nvm: &[u64], flags: &[u8]) {
-    let state_words = fields::record_words(state);
+    let state_words = record_words(state);
     words_line(b"cached", cache);
     words_line(b"cells", nvm);
     bytes_line(b"flags", flags);
@@ -183,7 +198,7 @@ pub(crate) fn dump(state: Record, cache: &[u64], nvm: &[u64], flags: &[u8]) {
 
 // The line of digests.
 pub(crate) fn digests(state: Record, cache: &[u64], nvm: &[u64], flags: &[u8]) {
-    let state_words = fields::record_words(state);
+    let state_words = record_words(state);
     let all = [
         buffers::digest(cache),
         buffers::digest(nvm),

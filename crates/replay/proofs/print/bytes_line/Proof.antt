@@ -2,11 +2,12 @@
 use Prim.Native.Nat.{_≤_, _-_}
 use lib.ListN.{length}
 use borrow.Author.Needs.{needs}
+use Rattle.replay.specs.Lengths.{lineBytes}
 use Rattle.replay.proofs.print.bytes_line.Statement.{statement}
 use Rattle.replay.proofs.print.bytes_line.Tie as tie
 
 abbrev Inv-loop : tie.InvT-loop
-Inv-loop name bytes line₀ end₀ i₀ i-end line end i = (i ≤ length bytes) × (end ≤ 4096)
+Inv-loop name bytes line₀ end₀ i₀ i-end line end i = (i ≤ length bytes) × (end ≤ lineBytes)
 
 abbrev μ-loop : tie.MeasureT-loop
 μ-loop name bytes line₀ end₀ i₀ i-end line end i = length bytes - i

@@ -2,11 +2,12 @@
 use Prim.Native.Nat.{_≤_, _-_}
 use lib.ListN.{length}
 use borrow.Author.Needs.{needs}
+use Rattle.replay.specs.Lengths.{lineBytes}
 use Rattle.replay.proofs.print.put.Statement.{statement}
 use Rattle.replay.proofs.print.put.Tie as tie
 
 abbrev Inv-loop : tie.InvT-loop
-Inv-loop line₀ used text end₀ i₀ i-end line end i = (i ≤ length text) × (end ≤ 4096)
+Inv-loop line₀ used text end₀ i₀ i-end line end i = (i ≤ length text) × (end ≤ lineBytes)
 
 abbrev μ-loop : tie.MeasureT-loop
 μ-loop line₀ used text end₀ i₀ i-end line end i = length text - i

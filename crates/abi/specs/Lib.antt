@@ -1,4 +1,0 @@
-pub mod Fields
-pub mod FieldsLaws
-pub mod Abi
-pub mod AbiLaws

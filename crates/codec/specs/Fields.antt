@@ -1,0 +1,99 @@
+-- The record as words: clock, last commit, and for each of 8 lanes a head and 16 pairs. docs/TRACE.md, "Record words". Assumes nothing.
+use Prim.Native.Nat.{ℕ, zero, suc, _+_, _*_}
+use mathlib.Core.Bool.{Bool, true, false, cond}
+use mathlib.Core.List.{List, [], _∷_, _++_}
+use lib.Dec.{eqb}
+use lib.ListN.{getD, drop}
+use Rattle.txn.specs.Txn.{maxWrites}
+use Rattle.image.specs.Image.{maxLanes}
+use Rattle.log.specs.declared.Timestamp.{Timestamp}
+use Rattle.log.specs.declared.Timestamp.the-variants.{None, At}
+use Rattle.record.specs.Record.{isLogged, loggedIn}
+use Rattle.record.specs.declared.Pair.{Pair}
+use Rattle.record.specs.declared.Phase.{Phase}
+use Rattle.record.specs.declared.Phase.the-variants.{Idle, Holds}
+use Rattle.record.specs.declared.Lane.{Lane}
+use Rattle.record.specs.declared.Record.{Record}
+
+-- ---- how many words: of a lane before its pairs, of its pairs, of a lane, of a record (322)
+abbrev pub headLength : ℕ
+headLength = 8
+
+abbrev pub pairsLength : ℕ
+pairsLength = 2 * maxWrites
+
+abbrev pub laneLength : ℕ
+laneLength = headLength + pairsLength
+
+abbrev pub recordLength : ℕ
+recordLength = 2 + maxLanes * laneLength
+
+-- ---- from words: each list begins at the field's own first word
+-- n elements in a row, of `size` words each
+unfoldable pub rowOf : {A : Type 0} (size : ℕ) (of : List ℕ → A) (n : ℕ) → List ℕ → List A
+rowOf size of zero ws = []
+rowOf size of (suc n) ws = of ws ∷ rowOf size of n (drop size ws)
+
+unfoldable pub phaseOf : List ℕ → Phase
+phaseOf ws = cond (eqb (getD ws 0 0) 0) Idle (Holds (record { first = getD ws 1 0; count = getD ws 2 0; stamp = getD ws 3 0 }))
+
+unfoldable pub floorOf : List ℕ → Timestamp
+floorOf ws = cond (eqb (getD ws 0 0) 0) None (At (getD ws 1 0))
+
+unfoldable pub pairOf : List ℕ → Pair
+pairOf ws = record { word = getD ws 0 0; value = getD ws 1 0 }
+
+-- phase 0 to 3, next slot 4, wrap bit 5, floor 6 and 7, then the pairs
+unfoldable pub laneOf : List ℕ → Lane
+laneOf ws =
+    record {
+      phase = phaseOf ws;
+      next = getD ws 4 0;
+      wrap = getD ws 5 0;
+      floor = floorOf (drop 6 ws);
+      redo = rowOf 2 pairOf maxWrites (drop headLength ws);
+    }
+
+unfoldable pub recordOf : List ℕ → Record
+recordOf ws = record { clock = getD ws 0 0; last = getD ws 1 0; lanes = rowOf laneLength laneOf maxLanes (drop 2 ws) }
+
+-- ---- to words
+-- the words of elements in a row
+unfoldable pub rowWords : {A : Type 0} (to : A → List ℕ) → List A → List ℕ
+rowWords to [] = []
+rowWords to (x ∷ xs) = to x ++ rowWords to xs
+
+unfoldable pub bitFor : Bool → ℕ
+bitFor true = 1
+bitFor false = 0
+
+unfoldable pub isSet : Timestamp → Bool
+isSet None = false
+isSet (At s) = true
+
+-- the timestamp of a floor, 0 where there is none
+unfoldable pub stampOf : Timestamp → ℕ
+stampOf None = 0
+stampOf (At s) = s
+
+-- a lane's words before its pairs: 0 for what an idle lane or one without floor does not have
+unfoldable pub headWords : Lane → List ℕ
+headWords l =
+    bitFor (isLogged (l .phase))
+    ∷ loggedIn (l .phase) .first
+    ∷ loggedIn (l .phase) .count
+    ∷ loggedIn (l .phase) .stamp
+    ∷ l .next
+    ∷ l .wrap
+    ∷ bitFor (isSet (l .floor))
+    ∷ stampOf (l .floor)
+    ∷ []
+
+unfoldable pub pairWords : Pair → List ℕ
+pairWords p = p.word ∷ p.value ∷ []
+
+unfoldable pub laneWords : Lane → List ℕ
+laneWords l = headWords l ++ rowWords pairWords (l .redo)
+
+unfoldable pub wordsOf : Record → List ℕ
+wordsOf r = r .clock ∷ r .last ∷ rowWords laneWords (r .lanes)

@@ -1,0 +1,4 @@
+pub mod Fields
+pub mod FieldsLaws
+pub mod Normal
+pub mod RoundTrip

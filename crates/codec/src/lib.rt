@@ -1,0 +1,178 @@
+// The record as words: clock, last commit, and for each lane phase, first slot, count, timestamp, next slot, wrap bit,
+// whether there is a floor, floor, and 16 pairs. A field of a lane is read in `lane_from` and written in `head`.
+use image::MAX_LANES;
+use log::Timestamp;
+use record::Lane;
+use record::Logged;
+use record::Pair;
+use record::Phase;
+use record::Record;
+use txn::MAX_WRITES;
+ghost use mathlib.Core.Path.{_≡_};
+ghost use Prim.Native.Nat.{_≤_};
+ghost use lib.ListN.{length};
+ghost use Rattle.txn.specs.Txn.{maxWrites};
+ghost use Rattle.codec.specs.Fields.{pairsLength, laneLength, recordLength};
+ghost use Rattle.codec.specs.Fields.{phaseOf, floorOf, pairOf, rowOf, laneOf, recordOf};
+ghost use Rattle.codec.specs.Fields.{bitFor, isSet, stampOf, headWords, pairWords, rowWords, laneWords, wordsOf};
+
+// How many words a lane has before its pairs.
+const HEAD_WORDS: usize = 8;
+
+// How many words a lane has.
+const LANE_WORDS: usize = HEAD_WORDS + 2 * MAX_WRITES;
+
+// How many words the record has.
+pub const RECORD_WORDS: usize = 2 + MAX_LANES * LANE_WORDS;
+
+fn phase_from(words: &[u64]) -> Phase
+    requires { ⌜ laneLength ≤ length (now words) ⌝ }
+    ensures { λ r. ⌜ r ≡ phaseOf (now (words .entry)) ⌝ }
+{
+    if words[0] == 0 {
+        return Phase::Idle;
+    }
+    Phase::Holds(Logged {
+        first: words[1] as usize,
+        count: words[2] as usize,
+        stamp: words[3],
+    })
+}
+
+fn floor_from(words: &[u64]) -> Timestamp
+    requires { ⌜ 2 ≤ length (now words) ⌝ }
+    ensures { λ r. ⌜ r ≡ floorOf (now (words .entry)) ⌝ }
+{
+    if words[0] == 0 {
+        return Timestamp::None;
+    }
+    Timestamp::At(words[1])
+}
+
+fn pairs_from(words: &[u64]) -> [Pair; MAX_WRITES]
+    requires { ⌜ pairsLength ≤ length (now words) ⌝ }
+    ensures { λ r. ⌜ r ≡ rowOf 2 pairOf maxWrites (now (words .entry)) ⌝ }
+{
+    let mut pairs = [Pair { word: 0, value: 0 }; MAX_WRITES];
+    for i in 0..MAX_WRITES {
+        pairs[i] = Pair {
+            word: words[2 * i] as usize,
+            value: words[2 * i + 1],
+        };
+    }
+    pairs
+}
+
+fn put_pairs(redo: [Pair; MAX_WRITES], words: &mut [u64])
+    requires { ⌜ length (now words) ≡ pairsLength ⌝ }
+    ensures { λ r. ⌜ now (words .exit) ≡ rowWords pairWords redo ⌝ }
+{
+    for i in 0..MAX_WRITES {
+        let pair = redo[i];
+        words[2 * i] = pair.word as u64;
+        words[2 * i + 1] = pair.value;
+    }
+}
+
+// 1 where it is so, else 0.
+pub fn bit_for(is: bool) -> u64
+    ensures { λ r. ⌜ r ≡ bitFor is ⌝ }
+{
+    if is {
+        return 1;
+    }
+    0
+}
+
+fn is_set(floor: Timestamp) -> bool
+    ensures { λ r. ⌜ r ≡ isSet floor ⌝ }
+{
+    match floor {
+        Timestamp::None => false,
+        Timestamp::At(_) => true,
+    }
+}
+
+// The timestamp of a floor, 0 where there is none.
+fn stamp_of(floor: Timestamp) -> u64
+    ensures { λ r. ⌜ r ≡ stampOf floor ⌝ }
+{
+    match floor {
+        Timestamp::None => 0,
+        Timestamp::At(stamp) => stamp,
+    }
+}
+
+// A lane from its words, whatever words follow them.
+fn lane_from(words: &[u64]) -> Lane
+    requires { ⌜ laneLength ≤ length (now words) ⌝ }
+    ensures { λ r. ⌜ r ≡ laneOf (now (words .entry)) ⌝ }
+{
+    Lane {
+        phase: phase_from(words),
+        next: words[4] as usize,
+        wrap: words[5],
+        floor: floor_from(&words[6..]),
+        redo: pairs_from(&words[HEAD_WORDS..]),
+    }
+}
+
+// The words of a lane before its pairs.
+fn head(lane: Lane) -> [u64; HEAD_WORDS]
+    ensures { λ r. ⌜ r ≡ headWords lane ⌝ }
+{
+    let phase = lane.phase;
+    let floor = lane.floor;
+    let held = record::logged_in(phase);
+    [
+        bit_for(record::is_logged(phase)),
+        held.first as u64,
+        held.count as u64,
+        held.stamp,
+        lane.next as u64,
+        lane.wrap,
+        bit_for(is_set(floor)),
+        stamp_of(floor),
+    ]
+}
+
+fn put_lane(lane: Lane, words: &mut [u64])
+    requires { ⌜ length (now words) ≡ laneLength ⌝ }
+    ensures { λ r. ⌜ now (words .exit) ≡ laneWords lane ⌝ }
+{
+    let redo = lane.redo;
+    let first = head(lane);
+    image::bulk::copy_words(&first, &mut words[..HEAD_WORDS]);
+    put_pairs(redo, &mut words[HEAD_WORDS..]);
+}
+
+// The record of these words. An idle lane's first slot, count and timestamp are dropped, and the floor of a lane that
+// has none.
+pub fn record_from(words: &[u64]) -> Record
+    requires { ⌜ length (now words) ≡ recordLength ⌝ }
+    ensures { λ r. ⌜ r ≡ recordOf (now (words .entry)) ⌝ }
+{
+    let mut lanes = [record::start_lane(); MAX_LANES];
+    for l in 0..MAX_LANES {
+        lanes[l] = lane_from(&words[2 + LANE_WORDS * l..]);
+    }
+    Record {
+        clock: words[0],
+        last: words[1],
+        lanes,
+    }
+}
+
+// Stores the words of a record: 0 where a lane is idle or has no floor.
+pub fn record_to(state: Record, words: &mut [u64])
+    requires { ⌜ length (now words) ≡ recordLength ⌝ }
+    ensures { λ r. ⌜ now (words .exit) ≡ wordsOf state ⌝ }
+{
+    words[0] = state.clock;
+    words[1] = state.last;
+    for l in 0..MAX_LANES {
+        let lane = state.lanes[l];
+        let at = 2 + LANE_WORDS * l;
+        put_lane(lane, &mut words[at..at + LANE_WORDS]);
+    }
+}

@@ -1,0 +1,32 @@
+-- `answers::settle` returns the number and writes the record's words where it is 0.
+-- Assumes nothing.
+use mathlib.Core.Path.{_≡_, sym, _∙_}
+use native.Mathlib.Omega.{arith}
+use borrow.Author.Needs.{needs}
+use Rattle.vandzulge.specs.ExportsLaws.{taken, not-taken}
+use Rattle.vandzulge.proofs.answers.settle.Statement.{statement}
+use Rattle.vandzulge.proofs.answers.settle.Tie as tie
+
+number-in-requires : tie.Need-number-in-requires
+number-in-requires c κs = search needs
+
+returns : tie.Need-returns
+returns c = let n = c .before .number-in .ensures in (n, not-taken _ _ _ _ n (λ z. omega (arith, z)))
+
+record-to-requires : tie.Need-record-to-requires
+record-to-requires c κs = search needs
+
+same-length : tie.Need-same-length
+same-length c = search needs
+
+returns-2 : tie.Need-returns-2
+returns-2 c =
+    let r = c .before .before in
+    let e = r .before .before .before in
+    let n = e .before .number-in .ensures in
+    let z : e .before .number-in .result ≡ 0 = omega arith in
+    (sym z ∙ n, taken _ _ _ _ _ n z (r .record-to .ensures))
+
+pub settle-spec : {M : Type 1} → statement M
+settle-spec =
+    tie.close (tie.spec number-in-requires returns record-to-requires same-length returns-2)

@@ -1,0 +1,69 @@
+-- `vandzulge_log` leaves and answers what the call's own step says: slices of another length are the call unfit, and otherwise `reply` and `settle` write.
+-- Assumes nothing.
+use mathlib.Core.Path.{refl}
+use borrow.Author.Needs.{needs}
+use Rattle.vandzulge.specs.ExportsLaws.{both, both-not-state, both-not-answer, left-unfit, left-by, reply-unfit, reply-by}
+use Rattle.vandzulge.proofs.vandzulge_log.Statement.{statement}
+use Rattle.vandzulge.proofs.vandzulge_log.Tie as tie
+
+returns : tie.Need-returns
+returns c = let e = both-not-state _ _ _ (c .if1 .taken) refl in (left-unfit _ _ _ _ _ _ _ e, reply-unfit _ _ _ _ _ _ _ e)
+
+returns-2 : tie.Need-returns-2
+returns-2 c = let e = both-not-answer _ _ (c .before .if1 .left) (c .if2 .taken) in (left-unfit _ _ _ _ _ _ _ e, reply-unfit _ _ _ _ _ _ _ e)
+
+record-from-requires : tie.Need-record-from-requires
+record-from-requires c κs = search needs
+
+log-requires : tie.Need-log-requires
+log-requires c κs = search needs
+
+reply-requires : tie.Need-reply-requires
+reply-requires c κs = search needs
+
+settle-requires : tie.Need-settle-requires
+settle-requires c κs = search needs
+
+same-length : tie.Need-same-length
+same-length c = search needs
+
+same-length-2 : tie.Need-same-length-2
+same-length-2 c = search needs
+
+same-length-3 : tie.Need-same-length-3
+same-length-3 c = search needs
+
+same-length-4 : tie.Need-same-length-4
+same-length-4 c = search needs
+
+same-length-5 : tie.Need-same-length-5
+same-length-5 c = search needs
+
+returns-3 : tie.Need-returns-3
+returns-3 c =
+    let s = c .before .before in
+    let p = s .before .before .before .before in
+    let d = p .before .before .before .before .before .before .before .before in
+    let f = d .before .before .before .before in
+    let e = d .before .before .before .before .before .before in
+    let b = both _ _ (e .before .if1 .left) (e .if2 .left) in (
+      left-by _ _ _ _ _ _ _ _ _ _ _ _ _ _ b (f .record-from .ensures) (d .log .ensures) (s .settle .ensures .0) (s .settle .ensures .1),
+      reply-by _ _ _ _ _ _ _ _ _ _ _ _ _ b (f .record-from .ensures) (d .log .ensures) (p .reply .ensures),
+    )
+
+pub vandzulge-log-spec : {M : Type 1} → statement M
+vandzulge-log-spec =
+    tie.close
+    (tie.spec
+    returns
+    returns-2
+    record-from-requires
+    log-requires
+    reply-requires
+    settle-requires
+    same-length
+    same-length-2
+    same-length-3
+    same-length-4
+    same-length-5
+    returns-3)

@@ -1,0 +1,306 @@
+// The calls for other languages: numbers and slices only. Each returns 0 where the call is taken, else the number of
+// its refusal, and then it has touched nothing. The sizes are W, T and N. `state` is the record in words, `answer` has
+// 3 words; another length of either is refusal 1.
+ghost use mathlib.Core.Path.{_≡_};
+ghost use Rattle.store.specs.Machine.{said};
+ghost use Rattle.store.specs.Calls.{formatStep, writeBackStep, drainStep, logStep, redoStep, validateStep, markStep};
+ghost use Rattle.store.specs.Interface.{machineOf, blankOf};
+ghost use Rattle.recovery.specs.Recovery.{recoverStep};
+ghost use Rattle.codec.specs.Fields.{recordOf};
+ghost use Rattle.vandzulge.specs.Exports.{sizesOf, recordFits, bothFit};
+ghost use Rattle.vandzulge.specs.Exports.{leftBy, leaves, replies, restarts, restartReplies};
+use codec::RECORD_WORDS;
+use image::Sizes;
+
+mod answers;
+
+// How many words an answer has.
+const ANSWER_WORDS: usize = 3;
+
+// Starts the store with these words. The record becomes the start record; its words are not read.
+#[no_mangle]
+pub extern "C" fn vandzulge_format(
+    words: usize,
+    lanes: usize,
+    slots: usize,
+    start: &[u64],
+    cache: &mut [u64],
+    nvm: &mut [u64],
+    flags: &mut [u8],
+    state: &mut [u64],
+) -> u64
+    ensures { λ r. ⌜ leftBy r (now (state .exit)) (now (cache .exit)) (now (nvm .exit)) (now (flags .exit))
+        ≡ leaves (recordFits (now (state .entry))) (now (state .entry))
+        (formatStep (sizesOf words lanes slots) (now (start .entry)))
+        (blankOf (now (cache .entry)) (now (nvm .entry)) (now (flags .entry))) ⌝ }
+{
+    if state.len() != RECORD_WORDS {
+        return 1;
+    }
+    let sizes = Sizes {
+        words,
+        lanes,
+        slots,
+    };
+    let outcome = store::format(sizes, start, cache, nvm, flags);
+    answers::settle(outcome, state)
+}
+
+// Copies one word of the image to non-volatile memory. It takes no record and has no answer.
+#[no_mangle]
+pub extern "C" fn vandzulge_write_back(
+    words: usize,
+    lanes: usize,
+    slots: usize,
+    cache: &[u64],
+    nvm: &mut [u64],
+    flags: &[u8],
+    word: usize,
+) -> u64
+    ensures number { λ r. ⌜ r ≡ said (writeBackStep (sizesOf words lanes slots) word
+        (blankOf (now (cache .entry)) (now (nvm .entry)) (now (flags .entry))) .answer) .number ⌝ }
+    ensures copied { λ r. ⌜ now (nvm .exit)
+        ≡ writeBackStep (sizesOf words lanes slots) word
+        (blankOf (now (cache .entry)) (now (nvm .entry)) (now (flags .entry))) .machine .nvm ⌝ }
+{
+    let sizes = Sizes {
+        words,
+        lanes,
+        slots,
+    };
+    let answer = store::write_back(sizes, cache, nvm, flags, word);
+    answers::number_in(answer)
+}
+
+// Drains a lane. It has no answer.
+#[no_mangle]
+pub extern "C" fn vandzulge_drain(
+    words: usize,
+    lanes: usize,
+    slots: usize,
+    cache: &[u64],
+    nvm: &mut [u64],
+    flags: &mut [u8],
+    state: &mut [u64],
+    lane: usize,
+) -> u64
+    ensures { λ r. ⌜ leftBy r (now (state .exit)) (now (cache .entry)) (now (nvm .exit)) (now (flags .exit))
+        ≡ leaves (recordFits (now (state .entry))) (now (state .entry))
+        (drainStep (sizesOf words lanes slots) lane)
+        (machineOf (recordOf (now (state .entry))) (now (cache .entry)) (now (nvm .entry)) (now (flags .entry))) ⌝ }
+{
+    if state.len() != RECORD_WORDS {
+        return 1;
+    }
+    let sizes = Sizes {
+        words,
+        lanes,
+        slots,
+    };
+    let before = codec::record_from(state);
+    let outcome = store::drain(sizes, before, cache, nvm, flags, lane);
+    answers::settle(outcome, state)
+}
+
+// Logs a transaction. The answer: the count of its writes, its timestamp, 0; 0s where it writes nothing.
+#[no_mangle]
+pub extern "C" fn vandzulge_log(
+    words: usize,
+    lanes: usize,
+    slots: usize,
+    cache: &mut [u64],
+    nvm: &mut [u64],
+    flags: &mut [u8],
+    state: &mut [u64],
+    answer: &mut [u64],
+    lane: usize,
+    txn: &[u64],
+) -> u64
+    ensures left { λ r. ⌜ leftBy r (now (state .exit)) (now (cache .exit)) (now (nvm .exit)) (now (flags .exit))
+        ≡ leaves (bothFit (now (state .entry)) (now (answer .entry))) (now (state .entry))
+        (logStep (sizesOf words lanes slots) lane (now (txn .entry)))
+        (machineOf (recordOf (now (state .entry))) (now (cache .entry)) (now (nvm .entry)) (now (flags .entry))) ⌝ }
+    ensures answered { λ r. ⌜ now (answer .exit)
+        ≡ replies (bothFit (now (state .entry)) (now (answer .entry))) (now (answer .entry))
+        (logStep (sizesOf words lanes slots) lane (now (txn .entry)))
+        (machineOf (recordOf (now (state .entry))) (now (cache .entry)) (now (nvm .entry)) (now (flags .entry))) ⌝ }
+{
+    if state.len() != RECORD_WORDS {
+        return 1;
+    }
+    if answer.len() != ANSWER_WORDS {
+        return 1;
+    }
+    let sizes = Sizes {
+        words,
+        lanes,
+        slots,
+    };
+    let before = codec::record_from(state);
+    let outcome = append::log(sizes, before, cache, nvm, flags, lane, txn);
+    let given = outcome.answer;
+    answers::reply(given, answer);
+    answers::settle(outcome, state)
+}
+
+// Commits what the lane has logged. The answer: 1, the timestamp, 0; 0s where it is stale.
+#[no_mangle]
+pub extern "C" fn vandzulge_redo(
+    words: usize,
+    lanes: usize,
+    slots: usize,
+    cache: &mut [u64],
+    nvm: &mut [u64],
+    flags: &mut [u8],
+    state: &mut [u64],
+    answer: &mut [u64],
+    lane: usize,
+) -> u64
+    ensures left { λ r. ⌜ leftBy r (now (state .exit)) (now (cache .exit)) (now (nvm .exit)) (now (flags .exit))
+        ≡ leaves (bothFit (now (state .entry)) (now (answer .entry))) (now (state .entry))
+        (redoStep (sizesOf words lanes slots) lane)
+        (machineOf (recordOf (now (state .entry))) (now (cache .entry)) (now (nvm .entry)) (now (flags .entry))) ⌝ }
+    ensures answered { λ r. ⌜ now (answer .exit)
+        ≡ replies (bothFit (now (state .entry)) (now (answer .entry))) (now (answer .entry))
+        (redoStep (sizesOf words lanes slots) lane)
+        (machineOf (recordOf (now (state .entry))) (now (cache .entry)) (now (nvm .entry)) (now (flags .entry))) ⌝ }
+{
+    if state.len() != RECORD_WORDS {
+        return 1;
+    }
+    if answer.len() != ANSWER_WORDS {
+        return 1;
+    }
+    let sizes = Sizes {
+        words,
+        lanes,
+        slots,
+    };
+    let before = codec::record_from(state);
+    let outcome = commit::redo(sizes, before, cache, nvm, flags, lane);
+    let given = outcome.answer;
+    answers::reply(given, answer);
+    answers::settle(outcome, state)
+}
+
+// Commits a transaction in place of the one logged. The answer: 1, the timestamp, 0; 0s where it has changed.
+#[no_mangle]
+pub extern "C" fn vandzulge_validate(
+    words: usize,
+    lanes: usize,
+    slots: usize,
+    cache: &mut [u64],
+    nvm: &mut [u64],
+    flags: &mut [u8],
+    state: &mut [u64],
+    answer: &mut [u64],
+    lane: usize,
+    txn: &[u64],
+) -> u64
+    ensures left { λ r. ⌜ leftBy r (now (state .exit)) (now (cache .exit)) (now (nvm .exit)) (now (flags .exit))
+        ≡ leaves (bothFit (now (state .entry)) (now (answer .entry))) (now (state .entry))
+        (validateStep (sizesOf words lanes slots) lane (now (txn .entry)))
+        (machineOf (recordOf (now (state .entry))) (now (cache .entry)) (now (nvm .entry)) (now (flags .entry))) ⌝ }
+    ensures answered { λ r. ⌜ now (answer .exit)
+        ≡ replies (bothFit (now (state .entry)) (now (answer .entry))) (now (answer .entry))
+        (validateStep (sizesOf words lanes slots) lane (now (txn .entry)))
+        (machineOf (recordOf (now (state .entry))) (now (cache .entry)) (now (nvm .entry)) (now (flags .entry))) ⌝ }
+{
+    if state.len() != RECORD_WORDS {
+        return 1;
+    }
+    if answer.len() != ANSWER_WORDS {
+        return 1;
+    }
+    let sizes = Sizes {
+        words,
+        lanes,
+        slots,
+    };
+    let before = codec::record_from(state);
+    let outcome = commit::validate(sizes, before, cache, nvm, flags, lane, txn);
+    let given = outcome.answer;
+    answers::reply(given, answer);
+    answers::settle(outcome, state)
+}
+
+// Appends a mark. The answer: 1 where a logged transaction was dropped, else 0; the timestamp; 0.
+#[no_mangle]
+pub extern "C" fn vandzulge_mark(
+    words: usize,
+    lanes: usize,
+    slots: usize,
+    cache: &mut [u64],
+    nvm: &mut [u64],
+    flags: &mut [u8],
+    state: &mut [u64],
+    answer: &mut [u64],
+    lane: usize,
+) -> u64
+    ensures left { λ r. ⌜ leftBy r (now (state .exit)) (now (cache .exit)) (now (nvm .exit)) (now (flags .exit))
+        ≡ leaves (bothFit (now (state .entry)) (now (answer .entry))) (now (state .entry))
+        (markStep (sizesOf words lanes slots) lane)
+        (machineOf (recordOf (now (state .entry))) (now (cache .entry)) (now (nvm .entry)) (now (flags .entry))) ⌝ }
+    ensures answered { λ r. ⌜ now (answer .exit)
+        ≡ replies (bothFit (now (state .entry)) (now (answer .entry))) (now (answer .entry))
+        (markStep (sizesOf words lanes slots) lane)
+        (machineOf (recordOf (now (state .entry))) (now (cache .entry)) (now (nvm .entry)) (now (flags .entry))) ⌝ }
+{
+    if state.len() != RECORD_WORDS {
+        return 1;
+    }
+    if answer.len() != ANSWER_WORDS {
+        return 1;
+    }
+    let sizes = Sizes {
+        words,
+        lanes,
+        slots,
+    };
+    let before = codec::record_from(state);
+    let outcome = append::mark(sizes, before, cache, nvm, flags, lane);
+    let given = outcome.answer;
+    answers::reply(given, answer);
+    answers::settle(outcome, state)
+}
+
+// Recovers, making at most `limit` stores. The answer: 0s where the limit cut it short, and the record's words are then
+// as before, but there is no record; where it finished, 1, 0 and the count of entries undone, or 2, the boundary and
+// that count. The record's words are not read.
+#[no_mangle]
+pub extern "C" fn vandzulge_recover(
+    words: usize,
+    lanes: usize,
+    slots: usize,
+    cache: &mut [u64],
+    nvm: &mut [u64],
+    flags: &mut [u8],
+    state: &mut [u64],
+    answer: &mut [u64],
+    limit: usize,
+) -> u64
+    ensures left { λ r. ⌜ leftBy r (now (state .exit)) (now (cache .exit)) (now (nvm .exit)) (now (flags .exit))
+        ≡ restarts (bothFit (now (state .entry)) (now (answer .entry))) (now (state .entry))
+        (recoverStep (sizesOf words lanes slots) limit)
+        (blankOf (now (cache .entry)) (now (nvm .entry)) (now (flags .entry))) ⌝ }
+    ensures answered { λ r. ⌜ now (answer .exit)
+        ≡ restartReplies (bothFit (now (state .entry)) (now (answer .entry))) (now (answer .entry))
+        (recoverStep (sizesOf words lanes slots) limit)
+        (blankOf (now (cache .entry)) (now (nvm .entry)) (now (flags .entry))) ⌝ }
+{
+    if state.len() != RECORD_WORDS {
+        return 1;
+    }
+    if answer.len() != ANSWER_WORDS {
+        return 1;
+    }
+    let sizes = Sizes {
+        words,
+        lanes,
+        slots,
+    };
+    let result = recovery::recover(sizes, cache, nvm, flags, limit);
+    let given = result.answer;
+    answers::reply_restart(given, answer);
+    answers::restart(result, state)
+}
