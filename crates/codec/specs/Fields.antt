@@ -1,4 +1,4 @@
--- The record as words: clock, last commit, and for each of 8 lanes a head and 16 pairs. docs/TRACE.md, "Record words". Assumes nothing.
+-- The record as words: clock, last commit, and for each of 8 lanes a head and 16 pairs. SPECIFICATION, "The record as words". Assumes nothing.
 use Prim.Native.Nat.{ℕ, zero, suc, _+_, _*_}
 use mathlib.Core.Bool.{Bool, true, false, cond}
 use mathlib.Core.List.{List, [], _∷_, _++_}

@@ -1,4 +1,2 @@
 pub mod Fields
-pub mod FieldsLaws
-pub mod Normal
-pub mod RoundTrip
+pub mod inner

@@ -1,2 +1,1 @@
-pub mod Commit
-pub mod CommitLaws
+pub mod inner

@@ -5,14 +5,14 @@ use Rattle.image.specs.Image.{sizesOk}
 use Rattle.image.specs.declared.Sizes.{Sizes}
 use Rattle.crash.specs.Events.{vandzulge}
 use Rattle.crash.specs.Theorem.{CrashTheorem}
-use Rattle.crash.proofs.FromLogs.{LogLaws, crash-theorem-by-logs}
-use Rattle.crash.proofs.Ties.{Ties}
-use Rattle.crash.proofs.TiesLogs.{ties-logs}
-use Rattle.crash.proofs.TiesStart.{ties-starts, ties-writes}
-use Rattle.crash.proofs.TiesDrain.{ties-drains, ties-gives-up}
-use Rattle.crash.proofs.TiesAppend.{ties-appends, ties-marks}
-use Rattle.crash.proofs.TiesCommit.{ties-redoes, ties-validates}
-use Rattle.crash.proofs.TiesCut.{ties-cut}
+use Rattle.crash.proofs.induction.FromLogs.{LogLaws, crash-theorem-by-logs}
+use Rattle.crash.proofs.ties.Ties.{Ties}
+use Rattle.crash.proofs.ties.Logs.{ties-logs}
+use Rattle.crash.proofs.ties.Start.{ties-starts, ties-writes}
+use Rattle.crash.proofs.ties.Drain.{ties-drains, ties-gives-up}
+use Rattle.crash.proofs.ties.Append.{ties-appends, ties-marks}
+use Rattle.crash.proofs.ties.Commit.{ties-redoes, ties-validates}
+use Rattle.crash.proofs.ties.Cut.{ties-cut}
 
 pub ties-laws : (z : Sizes) → sizesOk z ≡ true → LogLaws z (Ties z)
 ties-laws z ok =

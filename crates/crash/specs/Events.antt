@@ -1,5 +1,5 @@
--- What can happen to a store, ours or any other: calls, write-backs, recoveries, and power failing at every place;
--- and the store after it. 01, "The cut claim". Assumes nothing.
+-- What can happen to a store, ours or any other: calls, write-backs, recoveries, and power failing at every place; and the store after it.
+-- SPECIFICATION, "Events". Assumes nothing.
 use Prim.Native.Nat.{ℕ}
 use mathlib.Core.Bool.{Bool, false, cond, not}
 use mathlib.Core.List.{List, [], _∷_, _++_}

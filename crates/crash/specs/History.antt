@@ -1,5 +1,5 @@
--- The history (01: plain book), the sequential reference: it is fed arguments, replies and the cut cells, and never reads the machine.
--- 01, "The cut claim". Assumes nothing.
+-- The history, the sequential reference: it is fed arguments, replies and the cut cells, and never reads the machine. SPECIFICATION, "History". Assumes
+-- nothing.
 use Prim.Native.Nat.{ℕ, _+_, _-_, _^_}
 use mathlib.Core.Bool.{Bool, true, false, cond, not, _&&_, _||_}
 use mathlib.Core.List.{List, [], _∷_, _++_, map}

@@ -1,5 +1,4 @@
--- The crash theorem: what holds after every event of every list of events from a Format on.
--- The order's demands 2 and 3, and 01, "The cut claim". Assumes nothing.
+-- The crash theorem: what holds after every event of every list of events from a Format on. SPECIFICATION, "Crash theorem". Assumes nothing.
 use Prim.Native.Nat.{ℕ, _≤_, _<_}
 use mathlib.Core.Bool.{Bool, true, cond}
 use mathlib.Core.List.{List, [], _∷_, _++_}

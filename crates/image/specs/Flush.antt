@@ -1,4 +1,5 @@
--- Flush masks: bit L of a word's flag byte says that lane L has flushed the word. Write-back and drain. 01, "Memory and time". Assumes nothing.
+-- Flush masks: bit L of a word's flag byte says that lane L has flushed the word. Write-back and drain. SPECIFICATION, "Flags, write-back and drain".
+-- Assumes nothing.
 use Prim.Native.Nat.{ℕ, zero, suc, _+_, _*_, _/_, _%_}
 use mathlib.Core.Bool.{Bool, cond}
 use mathlib.Core.List.{List, [], _∷_, map}

@@ -1,10 +1,9 @@
--- Sizes and the image: base timestamp, data words, each lane's log. 01, "Memory and time". Assumes nothing.
-use Prim.Native.Nat.{ℕ, _+_, _*_, _≤_}
-use mathlib.Core.Path.{_≡_}
-use mathlib.Core.Bool.{Bool, true, _&&_}
+-- Sizes and the image: base timestamp, data words, each lane's log. SPECIFICATION, "Sizes and image". Assumes nothing.
+use Prim.Native.Nat.{ℕ, _+_, _*_}
+use mathlib.Core.Bool.{Bool, _&&_}
 use mathlib.Core.List.{List}
 use lib.Dec.{leb, eqb}
-use lib.ListN.{length, getD, take, drop}
+use lib.ListN.{getD, take, drop}
 use Rattle.image.specs.declared.Sizes.{Sizes}
 
 -- the most data words
@@ -36,17 +35,6 @@ sizesOk z =
 -- the words of an image: the base timestamp, the data words, two words a log slot
 unfoldable pub imageLength : Sizes → ℕ
 imageLength z = 1 + z.words + 2 * z.lanes * z.slots
-
--- sizes in range, and words as many as their image has
-pub record IsImage (z : Sizes) (image : List ℕ) : Type 0 where
-  pub sizes-ok : sizesOk z ≡ true
-  pub in-image : length image ≡ imageLength z
-
--- slots as many as a lane may have, and words as many as its log has
-pub record IsLog (slots : ℕ) (log : List ℕ) : Type 0 where
-  pub in-log : length log ≡ 2 * slots
-  pub slots-low : minSlots ≤ slots
-  pub slots-high : slots ≤ maxSlots
 
 -- refusal 1 is that this is false: sizes in range, and each of the three buffers as long as the image
 unfoldable pub buffersOk : Sizes → (cache nvm flags : ℕ) → Bool

@@ -1,9 +1,4 @@
 pub mod Image
-pub mod ImageLaws
 pub mod Stores
-pub mod StoresLaws
 pub mod Flush
-pub mod FlushLaws
-pub mod MaskLaws
-pub mod DrainLaws
-pub mod BulkLaws
+pub mod inner

@@ -1,4 +1,4 @@
--- Stores as data: a list of stores, and what it makes of an image. Assumes nothing.
+-- Stores as data: a list of stores, and what it makes of an image. SPECIFICATION, "Stores". Assumes nothing.
 use Prim.Native.Nat.{ℕ}
 use mathlib.Core.List.{List, [], _∷_}
 use lib.ListN.{set}

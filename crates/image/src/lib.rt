@@ -3,7 +3,8 @@
 ghost use mathlib.Core.Path.{_≡_};
 ghost use mathlib.Core.Bool.{true};
 ghost use Prim.Native.Nat.{_<_};
-ghost use Rattle.image.specs.Image.{sizesOk, imageLength, IsImage, IsLog, buffersOk, logStart, logOf};
+ghost use Rattle.image.specs.Image.{sizesOk, imageLength, buffersOk, logStart, logOf};
+ghost use Rattle.image.specs.inner.Facts.{IsImage, IsLog};
 
 pub mod bulk;
 pub mod flush;

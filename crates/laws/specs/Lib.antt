@@ -1,3 +1,1 @@
-pub mod Tests
-pub mod Lists
-pub mod Members
+pub mod inner

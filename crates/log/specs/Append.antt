@@ -1,4 +1,4 @@
--- Appending a sequence to a log, and replacing a timestamp, as lists of stores to the image. 01, "Log slots" and "Steps". Assumes nothing.
+-- Appending a sequence to a log, and replacing a timestamp, as lists of stores to the image. SPECIFICATION, "Appending". Assumes nothing.
 use Prim.Native.Nat.{ℕ, zero, suc, _+_, _-_, _*_, _%_}
 use mathlib.Core.Bool.{cond}
 use mathlib.Core.List.{List, [], _∷_}

@@ -1,4 +1,4 @@
--- One lane's log, two words a slot: its slots, its complete sequences, the latest of them. 01, "Log slots". Assumes nothing.
+-- One lane's log, two words a slot: its slots, its complete sequences, the latest of them. SPECIFICATION, "Logs". Assumes nothing.
 use Prim.Native.Nat.{ℕ, zero, suc, _+_, _-_, _*_}
 use mathlib.Core.Bool.{Bool, false, cond, _&&_, _||_}
 use mathlib.Core.List.{List, [], _∷_, _++_}

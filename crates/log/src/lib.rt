@@ -3,9 +3,10 @@
 ghost use mathlib.Core.Path.{_≡_};
 ghost use Prim.Native.Nat.{_+_, _*_, _≤_, _<_};
 ghost use lib.ListN.{length};
-ghost use Rattle.image.specs.Image.{maxSlots, IsLog};
+ghost use Rattle.image.specs.Image.{maxSlots};
+ghost use Rattle.image.specs.inner.Facts.{IsLog};
 ghost use Rattle.log.specs.Log.{slotAt, back as backOf};
-ghost use Rattle.log.specs.Search.{stampHigh, isEntry, entryBack, wholeBack, closedAt};
+ghost use Rattle.log.specs.inner.Search.{stampHigh, isEntry, entryBack, wholeBack, closedAt};
 use slot::Content;
 use slot::Slot;
 

@@ -8,7 +8,7 @@ ghost use Rattle.image.specs.Stores.{stored, places};
 ghost use Rattle.image.specs.Flush.{flushAll};
 ghost use Rattle.log.specs.Append.{onward as onwardOf, advance, slotStores, appendStores};
 ghost use Rattle.log.specs.Append.{circular as circularOf, restampStore};
-ghost use Rattle.log.specs.AppendEntries.{Loggable, Within, LogAt, entryStores};
+ghost use Rattle.log.specs.inner.AppendEntries.{Loggable, Within, LogAt, entryStores};
 use crate::Cursor;
 use image::flush;
 use slot::Slot;

@@ -8,15 +8,15 @@ use lib.Dec.{ltb}
 use lib.ListN.{length, getD, set, take, replicate}
 use lib.Seq.{take-nil}
 use borrow.Author.Tests.{lt-ltb, le-ltb}
-use Rattle.txn.specs.Txn.{noWrite}
+use Rattle.txn.specs.inner.Writes.{noWrite}
 use Rattle.txn.specs.declared.Write.{Write}
 use Rattle.image.specs.declared.Sizes.{Sizes}
 use Rattle.log.specs.declared.Timestamp.the-variants.{None}
 use Rattle.record.specs.declared.Pair.{Pair}
 use Rattle.record.specs.declared.Lane.{Lane}
 use Rattle.record.specs.Record.{noPair, noLane, pairsOk, laneOk, lanesOk, lesser, leastFloor, pairsOf}
-use Rattle.record.specs.Every.{every-more, every-fails}
-use Rattle.record.specs.RecordLaws.{pairs-every, lanes-every, lesser-none, lesser-assoc}
+use Rattle.record.specs.inner.Every.{every-more, every-fails}
+use Rattle.record.specs.inner.RecordLaws.{pairs-every, lanes-every, lesser-none, lesser-assoc}
 
 -- ---- pairs_ok
 pub pairs-none : (W : ℕ) → pairsOk W [] ≡ true

@@ -1,3 +1,2 @@
 pub mod Record
-pub mod Every
-pub mod RecordLaws
+pub mod inner

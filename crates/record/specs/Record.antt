@@ -1,4 +1,4 @@
--- The record: its start, its range check, its updates, the lower bound. 01, "Memory and time", "Steps", refusal 2. Assumes nothing.
+-- The record: its start, its range check, its updates, the lower bound. SPECIFICATION, "Record". Assumes nothing.
 use Prim.Native.Nat.{ℕ, zero, suc, _-_, _%_, _^_, min}
 use mathlib.Core.Bool.{Bool, true, false, _&&_}
 use mathlib.Core.List.{List, [], _∷_}

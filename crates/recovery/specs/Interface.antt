@@ -1,4 +1,4 @@
--- How recovery's result and buffers are a restarted machine: what its contract compares. Assumes nothing.
+-- How recovery's result and buffers are a restarted machine: what its contract compares. SPECIFICATION, "Recovery". Assumes nothing.
 use Prim.Native.Nat.{ℕ}
 use mathlib.Core.List.{List}
 use Rattle.store.specs.Interface.{machineOf}

@@ -1,5 +1,5 @@
--- Recovery: the boundary, what is undone and in which order, the list of stores, and as many of them as a limit lets through; what its answer tells. 01,
--- "Recovery". Assumes nothing.
+-- Recovery: the boundary, what is undone and in which order, the list of stores, and as many of them as a limit lets through; what its answer tells.
+-- SPECIFICATION, "Recovery". Assumes nothing.
 use Prim.Native.Nat.{ℕ, zero, suc, _+_, _*_, _%_, max}
 use mathlib.Core.Bool.{Bool, true, false, cond, _&&_, _||_}
 use mathlib.Core.List.{List, [], _∷_, _++_}

@@ -2,12 +2,12 @@
 // undo.rt, stores up to the limit in stores.rt.
 ghost use mathlib.Core.Path.{_≡_};
 ghost use lib.ListN.{length, replicate};
-ghost use Rattle.image.specs.Image.{IsImage};
+ghost use Rattle.image.specs.inner.Facts.{IsImage};
 ghost use Rattle.store.specs.Interface.{blankOf};
 ghost use Rattle.recovery.specs.Recovery.{boundary as boundaryOf, undoStores, recoveryStores, recoveredNvm};
 ghost use Rattle.recovery.specs.Recovery.{recoverRefusal, recoverStep};
 ghost use Rattle.recovery.specs.Interface.{restartedOf};
-ghost use Rattle.recovery.specs.Picking.{LaneRoom};
+ghost use Rattle.recovery.specs.inner.Picking.{LaneRoom};
 use image::Sizes;
 use log::Timestamp;
 use record::Record;
@@ -16,10 +16,10 @@ mod scan;
 mod stores;
 mod undo;
 
-// The slots of all lanes together, at most.
+// The most slots of all lanes together.
 const ALL_SLOTS: usize = image::MAX_LANES * image::MAX_SLOTS;
 
-// No more are few.
+// Logs of at most this many slots together are small.
 const FEW_SLOTS: usize = 256;
 
 // What a finished recovery answers: the boundary, and how many entries it undid.

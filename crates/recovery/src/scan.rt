@@ -3,13 +3,14 @@
 ghost use mathlib.Core.Path.{_≡_};
 ghost use Prim.Native.Nat.{_<_, max};
 ghost use lib.ListN.{length};
-ghost use Rattle.winners.specs.Winners.{Tournament};
-ghost use Rattle.image.specs.Image.{IsImage, logOf};
+ghost use Rattle.winners.specs.inner.Winners.{Tournament};
+ghost use Rattle.image.specs.Image.{logOf};
+ghost use Rattle.image.specs.inner.Facts.{IsImage};
 ghost use Rattle.log.specs.Log.{latestIn, contribution};
 ghost use Rattle.record.specs.Record.{lesser};
 ghost use Rattle.recovery.specs.Recovery.{boundary as boundaryOf, wholeStamp, greatestBelow, newBase};
-ghost use Rattle.recovery.specs.Picking.{countOf, wrapOf, offered as offeredOf, Offers, LaneRoom, Offering};
-ghost use Rattle.recovery.specs.Picking.{Tournaments};
+ghost use Rattle.recovery.specs.inner.Picking.{countOf, wrapOf, offered as offeredOf, Offers, LaneRoom, Offering};
+ghost use Rattle.recovery.specs.inner.Picking.{Tournaments};
 use image::Sizes;
 use log::Timestamp;
 use slot::Content;

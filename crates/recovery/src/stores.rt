@@ -4,9 +4,9 @@ ghost use mathlib.Core.Path.{_≡_};
 ghost use mathlib.Core.List.{[], _∷_};
 ghost use Prim.Native.Nat.{_+_, _-_, _*_, _≤_, _<_, _^_, min};
 ghost use lib.ListN.{length};
-ghost use Rattle.image.specs.Image.{IsImage};
+ghost use Rattle.image.specs.inner.Facts.{IsImage};
 ghost use Rattle.recovery.specs.Recovery.{zeros};
-ghost use Rattle.recovery.specs.Limit.{maxUndone, limited};
+ghost use Rattle.recovery.specs.inner.Limit.{maxUndone, limited};
 use image::Sizes;
 
 // One store, made unless `due` stores before it used the limit up. How many are due with it.

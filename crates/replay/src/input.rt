@@ -5,7 +5,7 @@ ghost use mathlib.Core.Path.{_≡_};
 ghost use Prim.Native.Nat.{_+_, _*_, _≤_};
 ghost use lib.ListN.{length};
 ghost use Rattle.image.specs.Image.{maxImage};
-ghost use Rattle.replay.specs.Lengths.{chunkWords, chunkBytes, inputWords};
+ghost use Rattle.replay.specs.inner.Lengths.{chunkWords, chunkBytes, inputWords};
 use image::MAX_IMAGE;
 
 // How many words are read at once, how many bytes these have, and how often that is done.

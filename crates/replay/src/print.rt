@@ -9,7 +9,7 @@ ghost use mathlib.Core.Path.{_≡_};
 ghost use Prim.Native.Nat.{_≤_};
 ghost use lib.ListN.{length};
 ghost use Rattle.codec.specs.Fields.{recordLength};
-ghost use Rattle.replay.specs.Lengths.{lineBytes};
+ghost use Rattle.replay.specs.inner.Lengths.{lineBytes};
 use crate::buffers;
 use crate::input::wide;
 

@@ -1,4 +1,5 @@
--- What program `recover` prints: words out of bytes, the one refusal of its own, and the lines of a report. 01, "Bench sheet". Assumes nothing.
+-- What program `recover` prints: words out of bytes, the one refusal of its own, and the lines of a report. SPECIFICATION, "Program `recover`". Assumes
+-- nothing.
 use Prim.Native.Nat.{ℕ, zero, suc, _+_, _-_, _*_, _/_, _%_, _^_, _≤_}
 use mathlib.Core.Bool.{Bool, true, cond, _&&_}
 use mathlib.Core.List.{List, [], _∷_, _++_}

@@ -1,3 +1,2 @@
 pub mod Slot
-pub mod SlotLaws
-pub mod SlotBits
+pub mod inner

@@ -1,4 +1,4 @@
--- The slot format: the two words of an entry and of a timestamp, and what two words say. 01, "Log slots". Assumes nothing.
+-- The slot format: the two words of an entry and of a timestamp, and what two words say. SPECIFICATION, "Slots". Assumes nothing.
 use Prim.Native.Nat.{ℕ, _+_, _-_, _*_, _/_, _%_}
 use mathlib.Core.Bool.{Bool, cond, _&&_}
 use lib.Dec.{leb, ltb, eqb}

@@ -1,4 +1,4 @@
--- The calls as total functions: what each answers and leaves. 01, "Steps" and "Refused calls". Assumes nothing.
+-- The calls as total functions: what each answers and leaves. SPECIFICATION, "Calls". Assumes nothing.
 use Prim.Native.Nat.{ℕ, _+_, _*_}
 use mathlib.Core.Bool.{Bool, true, false, cond, not, _&&_}
 use mathlib.Core.List.{List, [], _∷_, _++_}

@@ -1,4 +1,5 @@
--- The machine that a call works on: the record and the three buffers; a step of it; refusals; what an answer says. 01, "Refused calls". Assumes nothing.
+-- The machine that a call works on: the record and the three buffers; a step of it; refusals; what an answer says. SPECIFICATION, "Machine, refusals and
+-- answers". Assumes nothing.
 use Prim.Native.Nat.{ℕ}
 use mathlib.Core.Bool.{Bool, true, false, cond}
 use mathlib.Core.List.{List, [], _∷_}

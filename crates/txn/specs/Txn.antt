@@ -1,11 +1,10 @@
--- One transaction (01: frame): its instructions, its static check, and its run, which gives the list of writes. 01, "Frames". Assumes nothing.
+-- One transaction: its instructions, its static check, and its run, which gives the list of writes. SPECIFICATION, "Transactions". Assumes nothing.
 use Prim.Native.Nat.{ℕ, zero, suc, _+_, _-_, _*_, _/_, _%_, _^_}
 use mathlib.Core.Bool.{Bool, true, cond, _&&_, _||_}
 use mathlib.Core.List.{List, [], _∷_, _++_}
 use lib.Dec.{leb, ltb, eqb}
 use lib.ListN.{length, getD, set}
 use Rattle.txn.specs.declared.Write.{Write}
-use Rattle.txn.specs.declared.Writes.{Writes}
 
 -- the most instructions of a transaction, and so the most writes: an instruction makes one or none
 abbrev pub maxWrites : ℕ
@@ -106,16 +105,3 @@ run W f ws = runFrom W 0 (instructions f) ws
 -- the data words after a transaction
 unfoldable pub after : ℕ → List ℕ → List ℕ → List ℕ
 after W f ws = applied (run W f ws) ws
-
--- ---- the writes as the code hands them on
-abbrev pub noWrite : Write
-noWrite = record { word = 0; old = 0; new = 0 }
-
--- a list of `most` writes that begins with l, the rest 0
-unfoldable pub padded : (most : ℕ) → List Write → List Write
-padded zero l = []
-padded (suc n) [] = noWrite ∷ padded n []
-padded (suc n) (w ∷ l) = w ∷ padded n l
-
-unfoldable pub writesOf : (most : ℕ) → List Write → Writes
-writesOf most l = record { count = length l; list = padded most l }

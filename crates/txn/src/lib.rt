@@ -4,8 +4,9 @@ ghost use mathlib.Core.Bool.{true, cond, _&&_};
 ghost use Prim.Native.Nat.{_+_, _%_, _^_, _≤_, _<_};
 ghost use lib.Dec.{eqb, leb};
 ghost use lib.ListN.{getD, length};
-ghost use Rattle.txn.specs.Txn.{maxWrites, maxDistance, instructionOk, txnOk, run, writesOf};
-ghost use Rattle.txn.specs.Lookup.{buckets, latest};
+ghost use Rattle.txn.specs.Txn.{maxWrites, maxDistance, instructionOk, txnOk, run};
+ghost use Rattle.txn.specs.inner.Writes.{writesOf};
+ghost use Rattle.txn.specs.inner.Lookup.{buckets, latest};
 
 // The most instructions of a transaction, and so the most writes: an instruction makes one or none.
 pub const MAX_WRITES: usize = 16;

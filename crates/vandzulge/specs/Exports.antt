@@ -1,4 +1,5 @@
--- What a call leaves for a caller that lends words: the number returned, the record's words, the answer's words, the buffers. Assumes nothing.
+-- What a call leaves for a caller that lends words: the number returned, the record's words, the answer's words, the buffers. SPECIFICATION, "Exported
+-- functions". Assumes nothing.
 use Prim.Native.Nat.{ℕ}
 use mathlib.Core.Bool.{Bool, cond, _&&_, _||_}
 use mathlib.Core.List.{List, [], _∷_}

@@ -1,2 +1,2 @@
 pub mod Exports
-pub mod ExportsLaws
+pub mod inner

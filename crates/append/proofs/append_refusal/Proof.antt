@@ -4,10 +4,10 @@ use mathlib.Core.Path.{sym, _∙_}
 use native.Mathlib.Omega.{arith}
 use borrow.Author.Needs.{needs}
 use Rattle.image.specs.Image.{baseOf}
-use Rattle.image.specs.ImageLaws.{sizes-in, image-filled}
+use Rattle.image.specs.inner.ImageLaws.{sizes-in, image-filled}
 use Rattle.record.specs.Record.{laneAt}
-use Rattle.store.specs.StoreLaws.{lane-small}
-use Rattle.append.specs.AppendLaws.{next-kept, room-spent, room-hit, room-free}
+use Rattle.store.specs.inner.StoreLaws.{lane-small}
+use Rattle.append.specs.inner.LogMarkLaws.{next-kept, room-spent, room-hit, room-free}
 use Rattle.append.proofs.append_refusal.Statement.{statement}
 use Rattle.append.proofs.append_refusal.Tie as tie
 

@@ -2,7 +2,7 @@
 -- Assumes nothing.
 use native.Mathlib.Omega.{arith}
 use borrow.Author.Needs.{needs}
-use Rattle.append.specs.AppendLaws.{append-at, append-after, append-written, append-flushed}
+use Rattle.append.specs.inner.LogMarkLaws.{append-at, append-after, append-written, append-flushed}
 use Rattle.append.proofs.appended.Statement.{statement}
 use Rattle.append.proofs.appended.Tie as tie
 

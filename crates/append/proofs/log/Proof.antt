@@ -4,8 +4,8 @@ use mathlib.Core.Path.{sym, _∙_}
 use borrow.Author.Needs.{needs}
 use Rattle.record.proofs.Lengths.{lanes-eight}
 use Rattle.store.specs.Calls.{logStep}
-use Rattle.store.specs.StoreLaws.{step-refused}
-use Rattle.append.specs.AppendLaws.{log-known, log-clock, after-drain, log-empty, log-writes}
+use Rattle.store.specs.inner.StoreLaws.{step-refused}
+use Rattle.append.specs.inner.LogMarkLaws.{log-known, log-clock, after-drain, log-empty, log-writes}
 use Rattle.append.proofs.log.Statement.{statement}
 use Rattle.append.proofs.log.Tie as tie
 

@@ -5,8 +5,8 @@ use native.Mathlib.Omega.{arith}
 use borrow.Author.Tests.{not-true, not-false}
 use borrow.Author.Needs.{needs}
 use Rattle.record.specs.Record.{laneAt}
-use Rattle.store.specs.StoreLaws.{checked, lane-small}
-use Rattle.append.specs.AppendLaws.{checks-lane, checks-txn, checks-logged, checks-none}
+use Rattle.store.specs.inner.StoreLaws.{checked, lane-small}
+use Rattle.append.specs.inner.LogMarkLaws.{checks-lane, checks-txn, checks-logged, checks-none}
 use Rattle.append.proofs.log_checks.Statement.{statement}
 use Rattle.append.proofs.log_checks.Tie as tie
 

@@ -6,8 +6,8 @@ use lib.ListN.{length}
 use borrow.Author.Needs.{needs}
 use Rattle.record.specs.Record.{laneAt}
 use Rattle.record.proofs.Lengths.{lanes-eight}
-use Rattle.store.specs.StoreLaws.{lane-small}
-use Rattle.append.specs.AppendLaws.{appended-by, logged-by}
+use Rattle.store.specs.inner.StoreLaws.{lane-small}
+use Rattle.append.specs.inner.LogMarkLaws.{appended-by, logged-by}
 use Rattle.append.proofs.log_writes.Statement.{statement}
 use Rattle.append.proofs.log_writes.Tie as tie
 

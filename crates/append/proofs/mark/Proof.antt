@@ -8,8 +8,8 @@ use borrow.Author.Needs.{needs}
 use Rattle.record.specs.Record.{laneAt}
 use Rattle.record.proofs.Lengths.{lanes-eight}
 use Rattle.store.specs.Calls.{markStep}
-use Rattle.store.specs.StoreLaws.{step-refused}
-use Rattle.append.specs.AppendLaws.{mark-known, mark-clock, after-drain, appended-by, mark-taken}
+use Rattle.store.specs.inner.StoreLaws.{step-refused}
+use Rattle.append.specs.inner.LogMarkLaws.{mark-known, mark-clock, after-drain, appended-by, mark-taken}
 use Rattle.append.proofs.mark.Statement.{statement}
 use Rattle.append.proofs.mark.Tie as tie
 

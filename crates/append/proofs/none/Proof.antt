@@ -1,8 +1,9 @@
 -- `append::none` meets its contract: an array of empty writes is the empty list, padded.
 -- Assumes nothing.
 use mathlib.Core.Path.{ap}
-use Rattle.txn.specs.Txn.{maxWrites, writesOf}
-use Rattle.txn.specs.WritesLaws.{padded-none}
+use Rattle.txn.specs.Txn.{maxWrites}
+use Rattle.txn.specs.inner.Writes.{writesOf}
+use Rattle.txn.specs.inner.WritesLaws.{padded-none}
 use Rattle.txn.specs.declared.Writes.{Writes}
 use Rattle.append.proofs.none.Statement.{statement}
 use Rattle.append.proofs.none.Tie as tie

@@ -4,9 +4,9 @@ use mathlib.Core.Path.{sym, _∙_}
 use native.Mathlib.Omega.{arith}
 use borrow.Author.Needs.{needs}
 use Rattle.record.proofs.Lengths.{lanes-eight}
-use Rattle.store.specs.StoreLaws.{checked}
-use Rattle.store.specs.WritesLaws.{writes-few, run-on}
-use Rattle.append.specs.AppendLaws.{log-refused, unrefused, log-nothing, log-room, planned-refused, searchable, some}
+use Rattle.store.specs.inner.StoreLaws.{checked}
+use Rattle.store.specs.inner.CachedWritesLaws.{writes-few, run-on}
+use Rattle.append.specs.inner.LogMarkLaws.{log-refused, unrefused, log-nothing, log-room, planned-refused, searchable, some}
 use Rattle.append.proofs.plan_log.Statement.{statement}
 use Rattle.append.proofs.plan_log.Tie as tie
 

@@ -4,8 +4,8 @@ use mathlib.Core.Path.{sym, _∙_}
 use native.Mathlib.Omega.{arith}
 use borrow.Author.Needs.{needs}
 use Rattle.record.proofs.Lengths.{lanes-eight}
-use Rattle.store.specs.StoreLaws.{checked}
-use Rattle.append.specs.AppendLaws.{mark-refused, mark-room, planned-refused, searchable}
+use Rattle.store.specs.inner.StoreLaws.{checked}
+use Rattle.append.specs.inner.LogMarkLaws.{mark-refused, mark-room, planned-refused, searchable}
 use Rattle.append.proofs.plan_mark.Statement.{statement}
 use Rattle.append.proofs.plan_mark.Tie as tie
 

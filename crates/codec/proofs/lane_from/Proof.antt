@@ -1,7 +1,7 @@
 -- `lane_from` is `laneOf`, field by field: a part of the slice to its end is what is left of the words.
 -- Assumes nothing.
 use borrow.Author.Needs.{needs}
-use Rattle.codec.specs.FieldsLaws.{lane-fields}
+use Rattle.codec.specs.inner.FieldsLaws.{lane-fields}
 use Rattle.codec.proofs.lane_from.Statement.{statement}
 use Rattle.codec.proofs.lane_from.Tie as tie
 

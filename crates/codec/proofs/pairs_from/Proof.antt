@@ -5,7 +5,7 @@ use Prim.Native.Nat.{_≤_, _-_}
 use native.Mathlib.Omega.{arith}
 use borrow.Author.Needs.{needs}
 use Rattle.codec.specs.Fields.{rowOf, pairOf}
-use Rattle.codec.specs.FieldsLaws.{Begun, begun-all, row-begun, row-on, pair-read}
+use Rattle.codec.specs.inner.FieldsLaws.{Begun, begun-all, row-begun, row-on, pair-read}
 use Rattle.codec.proofs.pairs_from.Statement.{statement}
 use Rattle.codec.proofs.pairs_from.Tie as tie
 

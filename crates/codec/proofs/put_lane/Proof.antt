@@ -2,7 +2,7 @@
 use native.Mathlib.Omega.{arith}
 use lib.ListN.{length-take, length-drop}
 use borrow.Author.Needs.{needs}
-use Rattle.codec.specs.FieldsLaws.{lane-put}
+use Rattle.codec.specs.inner.FieldsLaws.{lane-put}
 use Rattle.codec.proofs.put_lane.Statement.{statement}
 use Rattle.codec.proofs.put_lane.Tie as tie
 

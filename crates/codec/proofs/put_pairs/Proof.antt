@@ -6,7 +6,7 @@ use lib.ListN.{length-set, take}
 use lib.Seq.{take-all}
 use borrow.Author.Needs.{needs}
 use Rattle.codec.specs.Fields.{pairsLength, rowWords, pairWords}
-use Rattle.codec.specs.FieldsLaws.{Begun, begun-all, pairs-none, pairs-on}
+use Rattle.codec.specs.inner.FieldsLaws.{Begun, begun-all, pairs-none, pairs-on}
 use Rattle.codec.proofs.put_pairs.Statement.{statement}
 use Rattle.codec.proofs.put_pairs.Tie as tie
 

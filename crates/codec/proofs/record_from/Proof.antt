@@ -7,7 +7,7 @@ use lib.ListN.{getD, drop}
 use borrow.Author.Needs.{needs}
 use Rattle.record.specs.declared.Lane.{Lane}
 use Rattle.codec.specs.Fields.{laneLength, rowOf, laneOf, recordOf}
-use Rattle.codec.specs.FieldsLaws.{Begun, begun-all, row-begun, row-on, lane-read}
+use Rattle.codec.specs.inner.FieldsLaws.{Begun, begun-all, row-begun, row-on, lane-read}
 use Rattle.codec.proofs.record_from.Statement.{statement}
 use Rattle.codec.proofs.record_from.Tie as tie
 

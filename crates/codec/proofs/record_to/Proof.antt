@@ -6,7 +6,7 @@ use lib.ListN.{length-set}
 use borrow.Author.Needs.{needs}
 use Rattle.record.proofs.Lengths.{lanes-eight}
 use Rattle.codec.specs.Fields.{laneLength, recordLength}
-use Rattle.codec.specs.FieldsLaws.{Begun, upTo, lanes-none, lanes-on, lanes-all}
+use Rattle.codec.specs.inner.FieldsLaws.{Begun, upTo, lanes-none, lanes-on, lanes-all}
 use Rattle.codec.proofs.record_to.Statement.{statement}
 use Rattle.codec.proofs.record_to.Tie as tie
 

@@ -1,9 +1,9 @@
 -- `commit::commit` meets its contract: the pairs' stores and then the timestamp's are `commitWords`, since no pair reaches a log word.
 use mathlib.Core.Path.{sym, _∙_}
 use native.Mathlib.Omega.{arith}
-use Rattle.image.specs.ImageLaws.{sizes-in}
-use Rattle.store.specs.StoreLaws.{lane-small}
-use Rattle.commit.specs.CommitLaws.{pair-inside, restamp-inside, commit-written, commit-flushed}
+use Rattle.image.specs.inner.ImageLaws.{sizes-in}
+use Rattle.store.specs.inner.StoreLaws.{lane-small}
+use Rattle.commit.specs.inner.CommitLaws.{pair-inside, restamp-inside, commit-written, commit-flushed}
 use borrow.Author.Needs.{needs}
 use Rattle.commit.proofs.commit.Statement.{statement}
 use Rattle.commit.proofs.commit.Tie as tie

@@ -1,6 +1,6 @@
 -- `commit::commit_refusal` is the number of the first of causes 7 and 8 that holds, test by test.
 use borrow.Author.Tests.{not-true, not-false}
-use Rattle.commit.specs.CommitLaws.{commit-idle, commit-spent, commit-free}
+use Rattle.commit.specs.inner.CommitLaws.{commit-idle, commit-spent, commit-free}
 use borrow.Author.Needs.{needs}
 use Rattle.commit.proofs.commit_refusal.Statement.{statement}
 use Rattle.commit.proofs.commit_refusal.Tie as tie

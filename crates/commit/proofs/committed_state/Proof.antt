@@ -1,6 +1,6 @@
 -- `commit::committed_state` is `committedState`: three stores to the record.
 use Rattle.record.specs.Record.{laneAt, withLane, withClock, withLast}
-use Rattle.commit.specs.Commit.{committedState}
+use Rattle.commit.specs.inner.Commit.{committedState}
 use borrow.Author.Needs.{needs}
 use Rattle.commit.proofs.committed_state.Statement.{statement}
 use Rattle.commit.proofs.committed_state.Tie as tie

@@ -5,7 +5,7 @@ use native.Mathlib.Omega.{arith}
 use borrow.Author.Needs.{needs}
 use borrow.Author.Tests.{not-true, not-false}
 use lib.ListN.{take}
-use Rattle.commit.specs.CommitLaws.{Compared, compared-none, compared-more, compared-fails, compared-all}
+use Rattle.commit.specs.inner.CommitLaws.{Compared, compared-none, compared-more, compared-fails, compared-all}
 use Rattle.commit.proofs.entries_match.Statement.{statement}
 use Rattle.commit.proofs.entries_match.Tie as tie
 

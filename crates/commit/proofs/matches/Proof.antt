@@ -1,6 +1,6 @@
 -- `commit::matches` meets its contract: the counts compared, then the entries in the part of the cache that is the lane's log.
 use native.Mathlib.Omega.{arith}
-use Rattle.commit.specs.CommitLaws.{matches-few, matches-log}
+use Rattle.commit.specs.inner.CommitLaws.{matches-few, matches-log}
 use borrow.Author.Needs.{needs}
 use Rattle.commit.proofs.matches.Statement.{statement}
 use Rattle.commit.proofs.matches.Tie as tie

@@ -2,9 +2,9 @@
 use mathlib.Core.Path.{sym, _∙_}
 use denote.Ref.{now}
 use Rattle.record.proofs.Lengths.{lanes-eight}
-use Rattle.store.specs.StoreLaws.{lane-small, step-refused}
+use Rattle.store.specs.inner.StoreLaws.{lane-small, step-refused}
 use Rattle.store.specs.Calls.{redoStep}
-use Rattle.commit.specs.CommitLaws.{Accepted, redo-accepted, committable, redo-taken}
+use Rattle.commit.specs.inner.CommitLaws.{Accepted, redo-accepted, committable, redo-taken}
 use borrow.Author.Needs.{needs}
 use Rattle.commit.proofs.redo.Statement.{statement}
 use Rattle.commit.proofs.redo.Tie as tie

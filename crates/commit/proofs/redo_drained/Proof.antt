@@ -1,8 +1,8 @@
 -- `commit::redo_drained` meets its contract: stale or committed, by the test of the last commit.
 use native.Mathlib.Omega.{arith}
 use Rattle.record.specs.Record.{laneAt}
-use Rattle.store.specs.StoreLaws.{lane-small}
-use Rattle.commit.specs.CommitLaws.{redo-stale, redo-commits, redo-requires, commit-done}
+use Rattle.store.specs.inner.StoreLaws.{lane-small}
+use Rattle.commit.specs.inner.CommitLaws.{redo-stale, redo-commits, redo-requires, commit-done}
 use borrow.Author.Needs.{needs}
 use Rattle.commit.proofs.redo_drained.Statement.{statement}
 use Rattle.commit.proofs.redo_drained.Tie as tie

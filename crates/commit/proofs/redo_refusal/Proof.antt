@@ -2,8 +2,8 @@
 use mathlib.Core.Path.{sym, _∙_}
 use native.Mathlib.Omega.{arith}
 use Rattle.record.specs.Record.{laneAt}
-use Rattle.store.specs.StoreLaws.{checked, lane-small}
-use Rattle.commit.specs.CommitLaws.{redo-refused, redo-causes}
+use Rattle.store.specs.inner.StoreLaws.{checked, lane-small}
+use Rattle.commit.specs.inner.CommitLaws.{redo-refused, redo-causes}
 use borrow.Author.Needs.{needs}
 use Rattle.commit.proofs.redo_refusal.Statement.{statement}
 use Rattle.commit.proofs.redo_refusal.Tie as tie

@@ -4,10 +4,10 @@ use denote.Ref.{now}
 use Rattle.txn.specs.Txn.{maxWrites, txnOk}
 use mathlib.Core.Bool.{true}
 use Rattle.record.proofs.Lengths.{lanes-eight}
-use Rattle.store.specs.StoreLaws.{lane-small, step-refused}
-use Rattle.store.specs.WritesLaws.{full-list, writes-few, writes-run, writes-low}
+use Rattle.store.specs.inner.StoreLaws.{lane-small, step-refused}
+use Rattle.store.specs.inner.CachedWritesLaws.{full-list, writes-few, writes-run, writes-low}
 use Rattle.store.specs.Calls.{validateStep}
-use Rattle.commit.specs.CommitLaws.{Accepted, validate-accepted, committable, validate-taken}
+use Rattle.commit.specs.inner.CommitLaws.{Accepted, validate-accepted, committable, validate-taken}
 use borrow.Author.Needs.{needs}
 use Rattle.commit.proofs.validate.Statement.{statement}
 use Rattle.commit.proofs.validate.Tie as tie

@@ -2,9 +2,9 @@
 use mathlib.Core.Path.{_∙_}
 use native.Mathlib.Omega.{arith}
 use Rattle.record.specs.Record.{laneAt}
-use Rattle.store.specs.StoreLaws.{lane-small}
+use Rattle.store.specs.inner.StoreLaws.{lane-small}
 use borrow.Author.Tests.{not-true, not-false}
-use Rattle.commit.specs.CommitLaws.{commit-done, held-matches, validate-pairs, validate-commits, validate-changed}
+use Rattle.commit.specs.inner.CommitLaws.{commit-done, held-matches, validate-pairs, validate-commits, validate-changed}
 use borrow.Author.Needs.{needs}
 use Rattle.commit.proofs.validate_drained.Statement.{statement}
 use Rattle.commit.proofs.validate_drained.Tie as tie

@@ -3,8 +3,8 @@ use mathlib.Core.Path.{sym, _∙_}
 use native.Mathlib.Omega.{arith}
 use borrow.Author.Tests.{not-true, not-false}
 use Rattle.record.specs.Record.{laneAt}
-use Rattle.store.specs.StoreLaws.{checked, lane-small}
-use Rattle.commit.specs.CommitLaws.{validate-refused, validate-bad, validate-causes}
+use Rattle.store.specs.inner.StoreLaws.{checked, lane-small}
+use Rattle.commit.specs.inner.CommitLaws.{validate-refused, validate-bad, validate-causes}
 use borrow.Author.Needs.{needs}
 use Rattle.commit.proofs.validate_refusal.Statement.{statement}
 use Rattle.commit.proofs.validate_refusal.Tie as tie

@@ -6,7 +6,7 @@ use Rattle.record.specs.Record.{noPair}
 use mathlib.Core.Path.{_≡_, refl}
 use native.Mathlib.Omega.{arith}
 use borrow.Author.Needs.{needs}
-use Rattle.commit.specs.CommitLaws.{Written, written-none, written-more}
+use Rattle.commit.specs.inner.CommitLaws.{Written, written-none, written-more}
 use Rattle.commit.proofs.write_pairs.Statement.{statement}
 use Rattle.commit.proofs.write_pairs.Tie as tie
 

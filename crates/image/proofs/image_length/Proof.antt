@@ -2,7 +2,7 @@
 use native.Mathlib.Omega.{arith}
 use borrow.Author.Needs.{needs}
 use Rattle.image.specs.Image.{imageLength}
-use Rattle.image.specs.ImageLaws.{sizes-in, logs-small}
+use Rattle.image.specs.inner.ImageLaws.{sizes-in, logs-small}
 use Rattle.image.proofs.image_length.Statement.{statement}
 use Rattle.image.proofs.image_length.Tie as tie
 

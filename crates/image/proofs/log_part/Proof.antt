@@ -5,7 +5,7 @@ use lib.ListN.{length}
 use denote.Ref.{now}
 use borrow.Author.Needs.{needs}
 use Rattle.image.specs.Image.{maxImage}
-use Rattle.image.specs.ImageLaws.{part-fits, part-log, log-of}
+use Rattle.image.specs.inner.ImageLaws.{part-fits, part-log, log-of}
 use Rattle.image.proofs.log_part.Statement.{statement}
 use Rattle.image.proofs.log_part.Tie as tie
 

@@ -2,7 +2,7 @@
 use native.Mathlib.Omega.{arith}
 use borrow.Author.Needs.{needs}
 use Rattle.image.specs.Image.{logStart}
-use Rattle.image.specs.ImageLaws.{sizes-in, logs-before-small}
+use Rattle.image.specs.inner.ImageLaws.{sizes-in, logs-before-small}
 use Rattle.image.proofs.log_start.Statement.{statement}
 use Rattle.image.proofs.log_start.Tie as tie
 

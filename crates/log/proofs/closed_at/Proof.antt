@@ -4,8 +4,8 @@ use borrow.Author.Tests.{not-true, not-false}
 use mathlib.Core.Path.{sym, _∙_}
 use native.Mathlib.Omega.{arith}
 use denote.Ref.{now}
-use Rattle.log.specs.LogLaws.{stamp-in}
-use Rattle.log.specs.SearchLaws.{not-stamp, all-whole, closed-other, closed-low, closed-short, closed-whole}
+use Rattle.log.specs.inner.LogLaws.{stamp-in}
+use Rattle.log.specs.inner.SearchLaws.{not-stamp, all-whole, closed-other, closed-low, closed-short, closed-whole}
 use Rattle.log.proofs.closed_at.Statement.{statement}
 use Rattle.log.proofs.closed_at.Tie as tie
 

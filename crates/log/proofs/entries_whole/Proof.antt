@@ -6,8 +6,8 @@ use mathlib.Core.Path.{sym, _∙_, _≡_}
 use native.Mathlib.Omega.{arith}
 use lib.ListN.{length}
 use Rattle.log.specs.Log.{entriesBack}
-use Rattle.log.specs.LogLaws.{back-none, back-more}
-use Rattle.log.specs.SearchLaws.{whole-bad, whole-all}
+use Rattle.log.specs.inner.LogLaws.{back-none, back-more}
+use Rattle.log.specs.inner.SearchLaws.{whole-bad, whole-all}
 use Rattle.log.proofs.entries_whole.Statement.{statement}
 use Rattle.log.proofs.entries_whole.Tie as tie
 

@@ -1,7 +1,7 @@
 -- `log::entry_back` meets its contract: the slot back is one of the log, and its wrap bit is tested by the side of the wrap. Assumes nothing.
 use borrow.Author.Needs.{needs}
 use native.Mathlib.Omega.{arith}
-use Rattle.log.specs.LogLaws.{back-low, entry-same, entry-wrapped}
+use Rattle.log.specs.inner.LogLaws.{back-low, entry-same, entry-wrapped}
 use Rattle.log.proofs.entry_back.Statement.{statement}
 use Rattle.log.proofs.entry_back.Tie as tie
 

@@ -1,6 +1,6 @@
 -- `log::is_entry` meets its contract, by cases on the content. Assumes nothing.
 use borrow.Author.Needs.{needs}
-use Rattle.log.specs.Search.{isEntry}
+use Rattle.log.specs.inner.Search.{isEntry}
 use Rattle.log.proofs.is_entry.Statement.{statement}
 use Rattle.log.proofs.is_entry.Tie as tie
 

@@ -1,7 +1,7 @@
 -- `log::stamp_high` meets its contract: it is one comparison. Assumes nothing.
 use borrow.Author.Needs.{needs}
 use mathlib.Core.Path.{refl}
-use Rattle.log.specs.Search.{stampHigh}
+use Rattle.log.specs.inner.Search.{stampHigh}
 use Rattle.log.proofs.stamp_high.Statement.{statement}
 use Rattle.log.proofs.stamp_high.Tie as tie
 

@@ -3,8 +3,8 @@
 use native.Mathlib.Omega.{arith}
 use borrow.Author.Needs.{needs}
 use Rattle.image.specs.Image.{imageLength}
-use Rattle.recovery.specs.LanesLaws.{trees-own}
-use Rattle.recovery.specs.RecoveryLaws.{stores-all}
+use Rattle.recovery.specs.inner.LanesLaws.{trees-own}
+use Rattle.recovery.specs.inner.RecoveryLaws.{stores-all}
 use Rattle.recovery.proofs.make_stores.Statement.{statement}
 use Rattle.recovery.proofs.make_stores.Tie as tie
 

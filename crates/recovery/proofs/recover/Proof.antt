@@ -6,8 +6,8 @@ use lib.ListN.{length, replicate}
 use denote.Ref.{now}
 use borrow.Author.Needs.{needs}
 use Rattle.image.specs.Image.{imageLength}
-use Rattle.image.specs.ImageLaws.{Buffers}
-use Rattle.recovery.specs.RecoveryLaws.{recovered-long, recover-checked, recover-refused, recover-cut, recover-finished}
+use Rattle.image.specs.inner.ImageLaws.{Buffers}
+use Rattle.recovery.specs.inner.RecoveryLaws.{recovered-long, recover-checked, recover-refused, recover-cut, recover-finished}
 use Rattle.recovery.proofs.recover.Statement.{statement}
 use Rattle.recovery.proofs.recover.Tie as tie
 

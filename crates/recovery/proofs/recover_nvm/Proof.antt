@@ -2,7 +2,7 @@
 -- Assumes nothing.
 use native.Mathlib.Omega.{arith}
 use borrow.Author.Needs.{needs}
-use Rattle.recovery.specs.LanesLaws.{numbers-small}
+use Rattle.recovery.specs.inner.LanesLaws.{numbers-small}
 use Rattle.recovery.proofs.recover_nvm.Statement.{statement}
 use Rattle.recovery.proofs.recover_nvm.Tie as tie
 

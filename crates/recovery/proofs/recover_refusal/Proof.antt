@@ -7,7 +7,7 @@ use Rattle.image.specs.Image.{baseOf}
 use Rattle.store.specs.Calls.{badBuffers}
 use Rattle.store.specs.Machine.{firstCause}
 use Rattle.recovery.specs.Recovery.{oddBase, recoverRefusal}
-use Rattle.recovery.specs.RecoveryLaws.{some-word}
+use Rattle.recovery.specs.inner.RecoveryLaws.{some-word}
 use Rattle.recovery.proofs.recover_refusal.Statement.{statement}
 use Rattle.recovery.proofs.recover_refusal.Tie as tie
 

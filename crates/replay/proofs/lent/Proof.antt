@@ -1,7 +1,7 @@
 -- `lent` answers at most 5,121: the bound of an image whose sizes are in range. Assumes nothing.
 use mathlib.Core.Path.{sym, _∙_}
 use borrow.Author.Needs.{needs}
-use Rattle.image.specs.ImageLaws.{sizes-in, length-small}
+use Rattle.image.specs.inner.ImageLaws.{sizes-in, length-small}
 use Rattle.replay.proofs.lent.Statement.{statement}
 use Rattle.replay.proofs.lent.Tie as tie
 

@@ -7,7 +7,8 @@ use Rattle.replay.proofs.run_ops.Statement.{statement}
 use Rattle.replay.proofs.run_ops.Tie as tie
 
 abbrev Inv-loop : tie.InvT-loop
-Inv-loop input cache₀ nvm₀ flags₀ run₀ counter₀ end cache nvm flags run counter = (counter ≤ end) × (run .at ≤ length input) × (length cache ≡ length cache₀) × (length nvm ≡ length nvm₀) × (length flags ≡ length flags₀)
+Inv-loop input cache₀ nvm₀ flags₀ run₀ counter₀ end cache nvm flags run counter =
+    (counter ≤ end) × (run .at ≤ length input) × (length cache ≡ length cache₀) × (length nvm ≡ length nvm₀) × (length flags ≡ length flags₀)
 
 abbrev μ-loop : tie.MeasureT-loop
 μ-loop input cache₀ nvm₀ flags₀ run₀ counter₀ end cache nvm flags run counter = end - counter

@@ -4,7 +4,7 @@ use native.Mathlib.Omega.{arith}
 use borrow.Author.Needs.{needs}
 use Rattle.recovery.specs.Recovery.{told}
 use Rattle.report.specs.Report.{answerText}
-use Rattle.report.specs.PrintingLaws.{put-none}
+use Rattle.report.specs.inner.PrintingLaws.{put-none}
 use Rattle.report.proofs.put_answer.Statement.{statement}
 use Rattle.report.proofs.put_answer.Tie as tie
 

@@ -5,8 +5,8 @@ use native.Mathlib.Omega.{arith}
 use borrow.Author.Needs.{needs}
 use Rattle.image.specs.Image.{maxWords}
 use Rattle.report.specs.Report.{boundaryRoom, wordRoom}
-use Rattle.report.specs.PrintingLaws.{put-then, put-same, put-room, boundary-short}
-use Rattle.report.specs.ReportLaws.{words-few, words-within, words-long, finished-text}
+use Rattle.report.specs.inner.PrintingLaws.{put-then, put-same, put-room, boundary-short}
+use Rattle.report.specs.inner.ReportLaws.{words-few, words-within, words-long, finished-text}
 use Rattle.report.proofs.put_finished.Statement.{statement}
 use Rattle.report.proofs.put_finished.Tie as tie
 

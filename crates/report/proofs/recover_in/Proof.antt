@@ -2,9 +2,9 @@
 -- Assumes nothing.
 use borrow.Author.Needs.{needs}
 use Rattle.report.specs.Report.{noLimit}
-use Rattle.report.specs.ReadingLaws.{read-sized, read-long}
-use Rattle.report.specs.PrintingLaws.{put-same}
-use Rattle.report.specs.ReportLaws.{report-recovered}
+use Rattle.report.specs.inner.ReadingLaws.{read-sized, read-long}
+use Rattle.report.specs.inner.PrintingLaws.{put-same}
+use Rattle.report.specs.inner.ReportLaws.{report-recovered}
 use Rattle.report.proofs.recover_in.Statement.{statement}
 use Rattle.report.proofs.recover_in.Tie as tie
 

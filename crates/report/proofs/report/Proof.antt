@@ -7,10 +7,10 @@ use native.Mathlib.Omega.{arith}
 use borrow.Author.Tests.{not-true, not-false}
 use borrow.Author.Needs.{needs}
 use Rattle.image.specs.Image.{maxImage}
-use Rattle.image.specs.ImageLaws.{sizes-in, length-small}
+use Rattle.image.specs.inner.ImageLaws.{sizes-in, length-small}
 use Rattle.report.specs.Report.{wellFormed}
-use Rattle.report.specs.ReadingLaws.{well-long, read-sized}
-use Rattle.report.specs.ReportLaws.{report-refused, printed-none, printed-all, blank-part, blank-room, blank-long, put-counts, put-shows, put-keeps}
+use Rattle.report.specs.inner.ReadingLaws.{well-long, read-sized}
+use Rattle.report.specs.inner.ReportLaws.{report-refused, printed-none, printed-all, blank-part, blank-room, blank-long, put-counts, put-shows, put-keeps}
 use Rattle.report.proofs.report.Statement.{statement}
 use Rattle.report.proofs.report.Tie as tie
 

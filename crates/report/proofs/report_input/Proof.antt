@@ -1,7 +1,7 @@
 -- `report::report_input` meets its contract: the output buffer has room for any report, so what is printed is the report of the bytes that were read.
 -- Assumes nothing.
 use borrow.Author.Needs.{needs}
-use Rattle.report.specs.ReportLaws.{reported}
+use Rattle.report.specs.inner.ReportLaws.{reported}
 use Rattle.report.proofs.report_input.Statement.{statement}
 use Rattle.report.proofs.report_input.Tie as tie
 

@@ -5,7 +5,7 @@ use native.Mathlib.Omega.{arith}
 use borrow.Author.Needs.{needs}
 use Rattle.store.specs.declared.Answer.the-variants.{Done}
 use Rattle.store.specs.Calls.{drainStep}
-use Rattle.store.specs.StoreLaws.{checked, lane-small, step-refused, step-taken, drained-by}
+use Rattle.store.specs.inner.StoreLaws.{checked, lane-small, step-refused, step-taken, drained-by}
 use Rattle.store.proofs.drain.Statement.{statement}
 use Rattle.store.proofs.drain.Tie as tie
 

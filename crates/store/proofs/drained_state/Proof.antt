@@ -2,8 +2,8 @@
 -- Assumes nothing.
 use mathlib.Core.Path.{_∙_}
 use borrow.Author.Needs.{needs}
-use Rattle.store.specs.StoreLaws.{lane-small}
-use Rattle.store.specs.Interface.{drainedState}
+use Rattle.store.specs.inner.StoreLaws.{lane-small}
+use Rattle.store.specs.inner.Checked.{drainedState}
 use Rattle.store.proofs.drained_state.Statement.{statement}
 use Rattle.store.proofs.drained_state.Tie as tie
 

@@ -5,7 +5,7 @@ use lib.ListN.{length}
 use denote.Ref.{now}
 use borrow.Author.Needs.{needs}
 use Rattle.image.specs.Image.{imageLength}
-use Rattle.store.specs.FormatLaws.{length-startImage, start-inside, logs-inside, begun-cleared}
+use Rattle.store.specs.inner.FormatLaws.{length-startImage, start-inside, logs-inside, begun-cleared}
 use Rattle.store.proofs.fill_image.Statement.{statement}
 use Rattle.store.proofs.fill_image.Tie as tie
 

@@ -3,7 +3,7 @@
 use mathlib.Core.Path.{sym, _∙_}
 use borrow.Author.Needs.{needs}
 use Rattle.store.specs.Calls.{formatStep, started}
-use Rattle.store.specs.StoreLaws.{format-checked, step-refused, step-taken}
+use Rattle.store.specs.inner.StoreLaws.{format-checked, step-refused, step-taken}
 use Rattle.store.proofs.format.Statement.{statement}
 use Rattle.store.proofs.format.Tie as tie
 

@@ -3,8 +3,8 @@
 use mathlib.Core.Path.{sym, _∙_}
 use borrow.Author.Needs.{needs}
 use Rattle.image.specs.Image.{baseOf}
-use Rattle.image.specs.ImageLaws.{image-filled}
-use Rattle.log.specs.LogLaws.{latest-in}
+use Rattle.image.specs.inner.ImageLaws.{image-filled}
+use Rattle.log.specs.inner.LogLaws.{latest-in}
 use Rattle.store.proofs.latest_in.Statement.{statement}
 use Rattle.store.proofs.latest_in.Tie as tie
 

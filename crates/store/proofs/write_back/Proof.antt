@@ -4,7 +4,7 @@ use mathlib.Core.Path.{sym, _∙_}
 use native.Mathlib.Omega.{arith}
 use borrow.Author.Needs.{needs}
 use Rattle.store.specs.Calls.{writeBackStep}
-use Rattle.store.specs.StoreLaws.{writeBack-checked, step-refused, step-taken}
+use Rattle.store.specs.inner.StoreLaws.{writeBack-checked, step-refused, step-taken}
 use Rattle.store.proofs.write_back.Statement.{statement}
 use Rattle.store.proofs.write_back.Tie as tie
 

@@ -3,7 +3,7 @@
 use mathlib.Core.Path.{sym, _∙_}
 use borrow.Author.Tests.{not-true, not-false, le-leb, lt-leb}
 use borrow.Author.Needs.{needs}
-use Rattle.image.specs.ImageLaws.{buffers-in}
+use Rattle.image.specs.inner.ImageLaws.{buffers-in}
 use Rattle.store.specs.Machine.{firstCause}
 use Rattle.store.specs.Calls.{writeBackRefusal, badBuffers}
 use Rattle.store.proofs.write_back_refusal.Statement.{statement}

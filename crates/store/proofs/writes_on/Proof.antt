@@ -2,7 +2,7 @@
 use mathlib.Core.Path.{_∙_}
 use native.Mathlib.Omega.{arith}
 use denote.Ref.{now}
-use Rattle.store.specs.WritesLaws.{DataPart, data-part}
+use Rattle.store.specs.inner.CachedWritesLaws.{DataPart, data-part}
 use borrow.Author.Needs.{needs}
 use Rattle.store.proofs.writes_on.Statement.{statement}
 use Rattle.store.proofs.writes_on.Tie as tie

@@ -2,7 +2,7 @@
 use mathlib.Core.Path.{sym, _∙_}
 use mathlib.Core.Logic.{⊎-elim}
 use borrow.Author.Tests.{le-leb, lt-leb}
-use Rattle.laws.specs.Tests.{clash}
+use Rattle.laws.specs.inner.Tests.{clash}
 use Rattle.txn.proofs.distance_ok.Statement.{statement}
 use Rattle.txn.proofs.distance_ok.Tie as tie
 

@@ -1,6 +1,6 @@
 -- `txn::instruction_ok` meets its contract: one law of the check for each return. Assumes nothing.
 use mathlib.Core.Path.{_∙_}
-use Rattle.txn.specs.CheckLaws.{answer-a, answer-b, answer-set, answer-copy, answer-add, answer-poke, answer-skip, answer-no-skip, answer-none}
+use Rattle.txn.specs.inner.CheckLaws.{answer-a, answer-b, answer-set, answer-copy, answer-add, answer-poke, answer-skip, answer-no-skip, answer-none}
 use borrow.Author.Needs.{needs}
 use Rattle.txn.proofs.instruction_ok.Statement.{statement}
 use Rattle.txn.proofs.instruction_ok.Tie as tie

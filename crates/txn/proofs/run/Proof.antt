@@ -2,8 +2,8 @@
 use Prim.Native.Nat.{_≤_, _-_}
 use borrow.Author.Needs.{needs}
 use Rattle.txn.specs.Txn.{maxWrites, instructionAt}
-use Rattle.txn.specs.Progress.{Reached}
-use Rattle.txn.specs.ProgressLaws.{reached-none, reached-all, reached-b, reached-skip, reached-target, reached-write}
+use Rattle.txn.specs.inner.Progress.{Reached}
+use Rattle.txn.specs.inner.ProgressLaws.{reached-none, reached-all, reached-b, reached-skip, reached-target, reached-write}
 use Rattle.txn.proofs.run.Statement.{statement}
 use Rattle.txn.proofs.run.Tie as tie
 

@@ -4,7 +4,7 @@ use Prim.Native.Nat.{_≤_, _-_}
 use mathlib.Core.Path.{_≡_}
 use borrow.Author.Needs.{needs}
 use Rattle.txn.specs.Txn.{maxWrites, instructionAt, instructionsFrom, allOk, txnOk}
-use Rattle.txn.specs.CheckLaws.{checked-ragged, checked-empty, checked-long, checked-none, checked-refused, checked-more, checked-all}
+use Rattle.txn.specs.inner.CheckLaws.{checked-ragged, checked-empty, checked-long, checked-none, checked-refused, checked-more, checked-all}
 use Rattle.txn.proofs.txn_ok.Statement.{statement}
 use Rattle.txn.proofs.txn_ok.Tie as tie
 

@@ -4,8 +4,8 @@ use mathlib.Core.Path.{_≡_, refl, sym, _∙_}
 use borrow.Author.Needs.{needs}
 use lib.ListN.{getD}
 use Rattle.txn.specs.Txn.{maxWrites}
-use Rattle.txn.specs.Lookup.{buckets, latest}
-use Rattle.txn.specs.LookupLaws.{latest-none, latest-found, latest-other}
+use Rattle.txn.specs.inner.Lookup.{buckets, latest}
+use Rattle.txn.specs.inner.LookupLaws.{latest-none, latest-found, latest-other}
 use Rattle.txn.proofs.value.Statement.{statement}
 use Rattle.txn.proofs.value.Tie as tie
 

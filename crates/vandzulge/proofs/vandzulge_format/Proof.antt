@@ -2,7 +2,7 @@
 -- otherwise the record's words are written by `settle`. Assumes nothing.
 use mathlib.Core.Path.{refl}
 use borrow.Author.Needs.{needs}
-use Rattle.vandzulge.specs.ExportsLaws.{fits, fits-not, left-unfit, left-by}
+use Rattle.vandzulge.specs.inner.ExportsLaws.{fits, fits-not, left-unfit, left-by}
 use Rattle.vandzulge.proofs.vandzulge_format.Statement.{statement}
 use Rattle.vandzulge.proofs.vandzulge_format.Tie as tie
 

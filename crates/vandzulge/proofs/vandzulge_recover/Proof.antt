@@ -2,7 +2,7 @@
 -- otherwise `reply_restart` and `restart` write. Assumes nothing.
 use mathlib.Core.Path.{refl}
 use borrow.Author.Needs.{needs}
-use Rattle.vandzulge.specs.ExportsLaws.{both, both-not-state, both-not-answer, restart-unfit, restart-by, restart-reply-unfit, restart-reply-by}
+use Rattle.vandzulge.specs.inner.ExportsLaws.{both, both-not-state, both-not-answer, restart-unfit, restart-by, restart-reply-unfit, restart-reply-by}
 use Rattle.vandzulge.proofs.vandzulge_recover.Statement.{statement}
 use Rattle.vandzulge.proofs.vandzulge_recover.Tie as tie
 

@@ -2,7 +2,7 @@
 -- Assumes nothing.
 use mathlib.Core.Path.{refl}
 use borrow.Author.Needs.{needs}
-use Rattle.vandzulge.specs.ExportsLaws.{both, both-not-state, both-not-answer, left-unfit, left-by, reply-unfit, reply-by}
+use Rattle.vandzulge.specs.inner.ExportsLaws.{both, both-not-state, both-not-answer, left-unfit, left-by, reply-unfit, reply-by}
 use Rattle.vandzulge.proofs.vandzulge_validate.Statement.{statement}
 use Rattle.vandzulge.proofs.vandzulge_validate.Tie as tie
 

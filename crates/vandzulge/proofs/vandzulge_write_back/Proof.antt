@@ -2,7 +2,7 @@
 -- Assumes nothing.
 use borrow.Author.Needs.{needs}
 use Rattle.store.specs.Calls.{writeBackStep}
-use Rattle.vandzulge.specs.ExportsLaws.{blank-by}
+use Rattle.vandzulge.specs.inner.ExportsLaws.{blank-by}
 use Rattle.vandzulge.specs.Exports.{sizesOf}
 use Rattle.vandzulge.proofs.vandzulge_write_back.Statement.{statement}
 use Rattle.vandzulge.proofs.vandzulge_write_back.Tie as tie

@@ -4,7 +4,7 @@ use Prim.Native.Nat.{_≤_, _-_}
 use mathlib.Core.Path.{refl}
 use lib.ListN.{replicate, length-replicate}
 use borrow.Author.Needs.{needs}
-use Rattle.image.specs.BulkLaws.{getD-zeros, Filled, filled-none, filled-more, filled-all}
+use Rattle.image.specs.inner.BulkLaws.{getD-zeros, Filled, filled-none, filled-more, filled-all}
 use Rattle.image.proofs.bulk.clear_flags.Statement.{statement}
 use Rattle.image.proofs.bulk.clear_flags.Tie as tie
 

@@ -5,7 +5,7 @@ use mathlib.Core.Path.{refl}
 use mathlib.Core.Logic.{⊎-elim}
 use lib.ListN.{replicate, length-replicate}
 use borrow.Author.Needs.{needs}
-use Rattle.image.specs.BulkLaws.{getD-zeros, Filled, filled-none, filled-more, filled-skip, filled-all}
+use Rattle.image.specs.inner.BulkLaws.{getD-zeros, Filled, filled-none, filled-more, filled-skip, filled-all}
 use Rattle.image.proofs.bulk.clear_whole_words.Statement.{statement}
 use Rattle.image.proofs.bulk.clear_whole_words.Tie as tie
 

@@ -3,7 +3,7 @@
 use Prim.Native.Nat.{_≤_, _-_}
 use mathlib.Core.Path.{refl, sym}
 use borrow.Author.Needs.{needs}
-use Rattle.image.specs.BulkLaws.{Filled, filled-none, filled-more, filled-all}
+use Rattle.image.specs.inner.BulkLaws.{Filled, filled-none, filled-more, filled-all}
 use Rattle.image.proofs.bulk.copy_words.Statement.{statement}
 use Rattle.image.proofs.bulk.copy_words.Tie as tie
 

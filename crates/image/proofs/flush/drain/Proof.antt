@@ -4,7 +4,7 @@ use Prim.Native.Nat.{_≤_, _-_}
 use mathlib.Core.Path.{sym, _∙_}
 use mathlib.Core.Logic.{⊎-elim}
 use borrow.Author.Needs.{needs}
-use Rattle.image.specs.DrainLaws.{Drained, drained-none, drained-copy, drained-skip, drained-all}
+use Rattle.image.specs.inner.DrainLaws.{Drained, drained-none, drained-copy, drained-skip, drained-all}
 use Rattle.image.proofs.flush.drain.Statement.{statement}
 use Rattle.image.proofs.flush.drain.Tie as tie
 

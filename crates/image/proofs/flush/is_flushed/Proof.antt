@@ -1,6 +1,6 @@
 -- `image::flush::is_flushed` meets its contract: the masked byte is not 0 where the lane's bit is set. Assumes nothing.
 use borrow.Author.Needs.{needs}
-use Rattle.image.specs.MaskLaws.{and-mask-set}
+use Rattle.image.specs.inner.MaskLaws.{and-mask-set}
 use Rattle.image.proofs.flush.is_flushed.Statement.{statement}
 use Rattle.image.proofs.flush.is_flushed.Tie as tie
 

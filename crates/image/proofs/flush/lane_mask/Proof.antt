@@ -1,6 +1,6 @@
 -- `image::flush::lane_mask` meets its contract: a shift of 1 below the width loses no bit. Assumes nothing.
 use borrow.Author.Needs.{needs}
-use Rattle.image.specs.MaskLaws.{shifted-mask}
+use Rattle.image.specs.inner.MaskLaws.{shifted-mask}
 use Rattle.image.proofs.flush.lane_mask.Statement.{statement}
 use Rattle.image.proofs.flush.lane_mask.Tie as tie
 

@@ -1,6 +1,6 @@
 -- `image::flush::with_flush` meets its contract: the mask or-ed in sets the lane's bit. Assumes nothing.
 use borrow.Author.Needs.{needs}
-use Rattle.image.specs.MaskLaws.{or-mask}
+use Rattle.image.specs.inner.MaskLaws.{or-mask}
 use Rattle.image.proofs.flush.with_flush.Statement.{statement}
 use Rattle.image.proofs.flush.with_flush.Tie as tie
 

@@ -1,7 +1,7 @@
 -- `image::flush::without_flush` meets its contract: the inverted mask clears the lane's bit, in 8 bits. Assumes nothing.
 use native.Mathlib.Omega.{arith}
 use borrow.Author.Needs.{needs}
-use Rattle.image.specs.MaskLaws.{and-not-mask}
+use Rattle.image.specs.inner.MaskLaws.{and-not-mask}
 use Rattle.image.proofs.flush.without_flush.Statement.{statement}
 use Rattle.image.proofs.flush.without_flush.Tie as tie
 

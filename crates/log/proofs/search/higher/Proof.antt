@@ -2,7 +2,7 @@
 use borrow.Author.Needs.{needs}
 use borrow.Author.Tests.{not-true, not-false}
 use mathlib.Core.Path.{refl, sym, _∙_}
-use Rattle.log.specs.SearchLaws.{not-stamp, not-high, higher-other, higher-base, higher-less, higher-tried, higher-is}
+use Rattle.log.specs.inner.SearchLaws.{not-stamp, not-high, higher-other, higher-base, higher-less, higher-tried, higher-is}
 use Rattle.log.proofs.search.higher.Statement.{statement}
 use Rattle.log.proofs.search.higher.Tie as tie
 

@@ -5,8 +5,8 @@ use borrow.Author.Tests.{not-true}
 use mathlib.Core.Path.{refl, sym, _∙_}
 use native.Mathlib.Omega.{arith}
 use denote.Ref.{now}
-use Rattle.log.specs.LogLaws.{stamp-in}
-use Rattle.log.specs.SearchLaws.{not-stamp, not-high, circular-low, hit-other, hit-base, hit-low, hit-far, hit-near}
+use Rattle.log.specs.inner.LogLaws.{stamp-in}
+use Rattle.log.specs.inner.SearchLaws.{not-stamp, not-high, circular-low, hit-other, hit-base, hit-low, hit-far, hit-near}
 use Rattle.log.proofs.search.hit_at.Statement.{statement}
 use Rattle.log.proofs.search.hit_at.Tie as tie
 

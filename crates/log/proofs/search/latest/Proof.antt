@@ -9,9 +9,9 @@ use lib.ListN.{length}
 use denote.Ref.{now}
 use Rattle.image.specs.Image.{maxSlots}
 use Rattle.log.specs.Log.{entriesBack}
-use Rattle.log.specs.LogLaws.{stamp-in, back-none, back-more}
-use Rattle.log.specs.Search.{rank}
-use Rattle.log.specs.SearchLaws.{Best, AllUnder, under-start, nothing-left, next-best, next-under, next-latest, closed-bad, closed-whole}
+use Rattle.log.specs.inner.LogLaws.{stamp-in, back-none, back-more}
+use Rattle.log.specs.inner.Search.{rank}
+use Rattle.log.specs.inner.SearchLaws.{Best, AllUnder, under-start, nothing-left, next-best, next-under, next-latest, closed-bad, closed-whole}
 use Rattle.log.proofs.search.latest.Statement.{statement}
 use Rattle.log.proofs.search.latest.Tie as tie
 

@@ -4,8 +4,8 @@ use Prim.Native.Nat.{_≤_, _-_}
 use mathlib.Core.Path.{_≡_, ap, _∙_}
 use native.Mathlib.Omega.{arith}
 use denote.Ref.{now}
-use Rattle.log.specs.Search.{candidateBelow}
-use Rattle.log.specs.SearchLaws.{candidate-none, candidate-more}
+use Rattle.log.specs.inner.Search.{candidateBelow}
+use Rattle.log.specs.inner.SearchLaws.{candidate-none, candidate-more}
 use Rattle.log.proofs.search.next_candidate.Statement.{statement}
 use Rattle.log.proofs.search.next_candidate.Tie as tie
 

@@ -1,6 +1,6 @@
 -- `log::search::ranks_below` meets its contract: the order as one number. Assumes nothing.
 use native.Mathlib.Omega.{arith}
-use Rattle.log.specs.SearchLaws.{rank-less, rank-more, rank-slots}
+use Rattle.log.specs.inner.SearchLaws.{rank-less, rank-more, rank-slots}
 use Rattle.log.proofs.search.ranks_below.Statement.{statement}
 use Rattle.log.proofs.search.ranks_below.Tie as tie
 

@@ -6,7 +6,7 @@ use mathlib.Core.Bool.{true, false}
 use mathlib.Core.Path.{_≡_, sym, _∙_}
 use native.Mathlib.Omega.{arith}
 use Rattle.slot.specs.Slot.{maxEntries}
-use Rattle.log.specs.SearchLaws.{NoneHit, hits-zero, hits-more, hits-all, hits-found, hits-none, hits-at}
+use Rattle.log.specs.inner.SearchLaws.{NoneHit, hits-zero, hits-more, hits-all, hits-found, hits-none, hits-at}
 use Rattle.log.proofs.search.would_hit.Statement.{statement}
 use Rattle.log.proofs.search.would_hit.Tie as tie
 

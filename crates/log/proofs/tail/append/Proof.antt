@@ -3,8 +3,8 @@ use borrow.Author.Needs.{needs}
 use Prim.Native.Nat.{_≤_}
 use native.Mathlib.Omega.{arith}
 use lib.ListN.{length}
-use Rattle.log.specs.AppendEntries.{Within}
-use Rattle.log.specs.AppendLaws.{end-within, append-stored, append-flushed, append-ends}
+use Rattle.log.specs.inner.AppendEntries.{Within}
+use Rattle.log.specs.inner.AppendLaws.{end-within, append-stored, append-flushed, append-ends}
 use Rattle.log.proofs.tail.append.Statement.{statement}
 use Rattle.log.proofs.tail.append.Tie as tie
 

@@ -4,7 +4,7 @@ use Prim.Native.Nat.{_≤_, _-_}
 use mathlib.Core.Path.{_≡_}
 use native.Mathlib.Omega.{arith}
 use Rattle.image.specs.Image.{maxWords}
-use Rattle.log.specs.AppendLaws.{Appended, word-below, appended-none, appended-more}
+use Rattle.log.specs.inner.AppendLaws.{Appended, word-below, appended-none, appended-more}
 use Rattle.log.proofs.tail.append_entries.Statement.{statement}
 use Rattle.log.proofs.tail.append_entries.Tie as tie
 

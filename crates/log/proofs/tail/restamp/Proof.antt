@@ -4,8 +4,8 @@ use Prim.Native.Nat.{_+_, _*_}
 use native.Mathlib.Omega.{arith}
 use lib.ListN.{getD}
 use denote.Ref.{now}
-use Rattle.log.specs.AppendLaws.{restamped, restamp-flushed}
-use Rattle.slot.specs.SlotBits.{low-bit}
+use Rattle.log.specs.inner.AppendLaws.{restamped, restamp-flushed}
+use Rattle.slot.specs.inner.SlotBits.{low-bit}
 use Rattle.log.proofs.tail.restamp.Statement.{statement}
 use Rattle.log.proofs.tail.restamp.Tie as tie
 

@@ -1,7 +1,7 @@
 -- `log::tail::store_slot` meets its contract: two stores and two flushes. Assumes nothing.
 use borrow.Author.Needs.{needs}
 use denote.Ref.{now}
-use Rattle.log.specs.AppendLaws.{slot-stored, slot-flushed}
+use Rattle.log.specs.inner.AppendLaws.{slot-stored, slot-flushed}
 use Rattle.log.proofs.tail.store_slot.Statement.{statement}
 use Rattle.log.proofs.tail.store_slot.Tie as tie
 

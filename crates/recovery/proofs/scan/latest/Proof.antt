@@ -1,6 +1,6 @@
 -- `recovery::scan::latest` meets its contract. Outer invariant: what is offered is what the log holds, all complete sequences among it; inner: the entries
--- passed are whole. A bad slot drops the timestamp, and the first complete one from the top is the latest. The outer measure is how many are offered. Assumes
--- nothing.
+-- passed are whole. A bad slot drops the timestamp, and the first complete one from the top is the latest. The outer measure is how many are offered.
+-- Assumes nothing.
 use Prim.Native.Nat.{_+_, _-_, _≤_, _<_}
 use mathlib.Core.Path.{_≡_, refl, sym, ap, _∙_}
 use native.Mathlib.Omega.{arith}
@@ -8,17 +8,17 @@ use lib.ListN.{length, set}
 use denote.Ref.{now}
 use borrow.Author.Needs.{needs}
 use borrow.Author.Tests.{not-true, not-false}
-use Rattle.winners.specs.Winners.{Tournament}
+use Rattle.winners.specs.inner.Winners.{Tournament}
 use Rattle.slot.specs.Slot.{maxEntries}
 use Rattle.image.specs.Image.{logOf}
-use Rattle.image.specs.ImageLaws.{InRange, sizes-in}
+use Rattle.image.specs.inner.ImageLaws.{InRange, sizes-in}
 use Rattle.log.specs.Log.{slotAt, entriesBack}
-use Rattle.log.specs.LogLaws.{back-none, back-more}
-use Rattle.log.specs.Search.{entryBack}
-use Rattle.recovery.specs.Picking.{Offers}
-use Rattle.log.specs.Search.{entryBack}
-use Rattle.recovery.specs.PickingLaws.{leftOver, left-fewer}
-use Rattle.recovery.specs.ScanLaws.{search-low, search-none, search-few, search-drops, search-latest}
+use Rattle.log.specs.inner.LogLaws.{back-none, back-more}
+use Rattle.log.specs.inner.Search.{entryBack}
+use Rattle.recovery.specs.inner.Picking.{Offers}
+use Rattle.log.specs.inner.Search.{entryBack}
+use Rattle.recovery.specs.inner.PickingLaws.{leftOver, left-fewer}
+use Rattle.recovery.specs.inner.ScanLaws.{search-low, search-none, search-few, search-drops, search-latest}
 use Rattle.recovery.proofs.scan.latest.Statement.{statement}
 use Rattle.recovery.proofs.scan.latest.Tie as tie
 

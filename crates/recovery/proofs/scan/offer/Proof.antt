@@ -6,9 +6,9 @@ use native.Mathlib.Omega.{arith}
 use denote.Ref.{now}
 use borrow.Author.Needs.{needs}
 use Rattle.image.specs.Image.{imageLength, baseOf, logOf}
-use Rattle.image.specs.ImageLaws.{sizes-in}
+use Rattle.image.specs.inner.ImageLaws.{sizes-in}
 use Rattle.log.specs.Log.{slotAt}
-use Rattle.recovery.specs.ScanLaws.{OfferedTo, offered-start, offered-more, offered-all}
+use Rattle.recovery.specs.inner.ScanLaws.{OfferedTo, offered-start, offered-more, offered-all}
 use Rattle.recovery.proofs.scan.offer.Statement.{statement}
 use Rattle.recovery.proofs.scan.offer.Tie as tie
 

@@ -1,7 +1,7 @@
 -- `recovery::scan::offered` is `offered`.
 -- Assumes nothing.
 use borrow.Author.Tests.{lt-ltb, le-ltb}
-use Rattle.recovery.specs.Picking.{offered}
+use Rattle.recovery.specs.inner.Picking.{offered}
 use Rattle.recovery.proofs.scan.offered.Statement.{statement}
 use Rattle.recovery.proofs.scan.offered.Tie as tie
 

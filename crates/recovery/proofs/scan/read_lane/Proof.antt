@@ -3,7 +3,7 @@
 use mathlib.Core.Path.{ap, _∙_}
 use borrow.Author.Needs.{needs}
 use Rattle.record.specs.Record.{lesser}
-use Rattle.recovery.specs.LanesLaws.{lane-bracket}
+use Rattle.recovery.specs.inner.LanesLaws.{lane-bracket}
 use Rattle.recovery.proofs.scan.read_lane.Statement.{statement}
 use Rattle.recovery.proofs.scan.read_lane.Tie as tie
 

@@ -7,9 +7,9 @@ use lib.ListN.{length}
 use denote.Ref.{now}
 use borrow.Author.Needs.{needs}
 use Rattle.image.specs.Image.{maxLanes, maxSlots, imageLength}
-use Rattle.image.specs.ImageLaws.{sizes-in}
-use Rattle.recovery.specs.LanesLaws.{numbers-small, lane-inside, lent-long}
-use Rattle.recovery.specs.ScanLaws.{Scanned, scanned-none, scanned-more, scanned-all}
+use Rattle.image.specs.inner.ImageLaws.{sizes-in}
+use Rattle.recovery.specs.inner.LanesLaws.{numbers-small, lane-inside, lent-long}
+use Rattle.recovery.specs.inner.ScanLaws.{Scanned, scanned-none, scanned-more, scanned-all}
 use Rattle.recovery.proofs.scan.scan.Statement.{statement}
 use Rattle.recovery.proofs.scan.scan.Tie as tie
 

@@ -1,7 +1,7 @@
 -- `recovery::scan::wrap_of` is `wrapOf`, arm by arm.
 -- Assumes nothing.
 use borrow.Author.Needs.{needs}
-use Rattle.recovery.specs.Picking.{wrapOf}
+use Rattle.recovery.specs.inner.Picking.{wrapOf}
 use Rattle.recovery.proofs.scan.wrap_of.Statement.{statement}
 use Rattle.recovery.proofs.scan.wrap_of.Tie as tie
 

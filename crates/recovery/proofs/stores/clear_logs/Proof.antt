@@ -8,8 +8,8 @@ use lib.ListN.{length}
 use denote.Ref.{now}
 use borrow.Author.Needs.{needs}
 use Rattle.image.specs.Image.{imageLength}
-use Rattle.image.specs.ImageLaws.{sizes-in, logs-small}
-use Rattle.recovery.specs.LimitLaws.{limited-zeros}
+use Rattle.image.specs.inner.ImageLaws.{sizes-in, logs-small}
+use Rattle.recovery.specs.inner.LimitLaws.{limited-zeros}
 use Rattle.recovery.proofs.stores.clear_logs.Statement.{statement}
 use Rattle.recovery.proofs.stores.clear_logs.Tie as tie
 

@@ -4,7 +4,7 @@ use mathlib.Core.Logic.{⊎-elim}
 use mathlib.Core.Path.{refl, sym, ap, _∙_}
 use lib.ListN.{length, length-set}
 use borrow.Author.Needs.{needs}
-use Rattle.recovery.specs.LimitLaws.{limited-made, limited-skipped}
+use Rattle.recovery.specs.inner.LimitLaws.{limited-made, limited-skipped}
 use Rattle.recovery.proofs.stores.put.Statement.{statement}
 use Rattle.recovery.proofs.stores.put.Tie as tie
 

@@ -2,7 +2,7 @@
 use Prim.Native.Nat.{_≤_, _-_}
 use lib.ListN.{length}
 use borrow.Author.Needs.{needs}
-use Rattle.replay.specs.Lengths.{lineBytes}
+use Rattle.replay.specs.inner.Lengths.{lineBytes}
 use Rattle.replay.proofs.print.words_line.Statement.{statement}
 use Rattle.replay.proofs.print.words_line.Tie as tie
 

@@ -3,7 +3,7 @@
 use native.Mathlib.Omega.{arith}
 use borrow.Author.Needs.{needs}
 use Rattle.report.specs.Report.{boundaryLine}
-use Rattle.report.specs.PrintingLaws.{put-then, put-room, stamp-few}
+use Rattle.report.specs.inner.PrintingLaws.{put-then, put-room, stamp-few}
 use Rattle.report.proofs.printing.put_boundary.Statement.{statement}
 use Rattle.report.proofs.printing.put_boundary.Tie as tie
 

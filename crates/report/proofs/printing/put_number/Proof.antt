@@ -3,7 +3,7 @@
 use mathlib.Core.Path.{_∙_}
 use native.Mathlib.Omega.{arith}
 use borrow.Author.Needs.{needs}
-use Rattle.report.specs.PrintingLaws.{decimal-are, fewest-few, put-same}
+use Rattle.report.specs.inner.PrintingLaws.{decimal-are, fewest-few, put-same}
 use Rattle.report.proofs.printing.put_number.Statement.{statement}
 use Rattle.report.proofs.printing.put_number.Tie as tie
 

@@ -2,7 +2,7 @@
 -- Assumes nothing.
 use native.Mathlib.Omega.{arith}
 use borrow.Author.Needs.{needs}
-use Rattle.report.specs.PrintingLaws.{put-then, put-room, decimal-few}
+use Rattle.report.specs.inner.PrintingLaws.{put-then, put-room, decimal-few}
 use Rattle.report.specs.Report.{refusedLine}
 use Rattle.report.proofs.printing.put_refused.Statement.{statement}
 use Rattle.report.proofs.printing.put_refused.Tie as tie

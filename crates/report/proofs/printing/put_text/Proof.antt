@@ -5,7 +5,7 @@ use mathlib.Core.Path.{_≡_}
 use lib.ListN.{length}
 use lib.Seq.{paste, paste-zero}
 use borrow.Author.Needs.{needs}
-use Rattle.report.specs.PrintingLaws.{copied-more, copied-all}
+use Rattle.report.specs.inner.PrintingLaws.{copied-more, copied-all}
 use Rattle.report.proofs.printing.put_text.Statement.{statement}
 use Rattle.report.proofs.printing.put_text.Tie as tie
 

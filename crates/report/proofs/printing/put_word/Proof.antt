@@ -3,7 +3,7 @@
 use native.Mathlib.Omega.{arith}
 use borrow.Author.Needs.{needs}
 use Rattle.report.specs.Report.{wordLine}
-use Rattle.report.specs.PrintingLaws.{put-then, put-room, decimal-few}
+use Rattle.report.specs.inner.PrintingLaws.{put-then, put-room, decimal-few}
 use Rattle.report.proofs.printing.put_word.Statement.{statement}
 use Rattle.report.proofs.printing.put_word.Tie as tie
 

@@ -5,7 +5,7 @@ use mathlib.Core.Path.{_≡_}
 use lib.ListN.{length, take}
 use borrow.Author.Needs.{needs}
 use Rattle.report.specs.Report.{wordsIn}
-use Rattle.report.specs.ReadingLaws.{decoded-none, decoded-more, decoded-all}
+use Rattle.report.specs.inner.ReadingLaws.{decoded-none, decoded-more, decoded-all}
 use Rattle.report.proofs.reading.decode.Statement.{statement}
 use Rattle.report.proofs.reading.decode.Tie as tie
 

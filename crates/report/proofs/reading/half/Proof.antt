@@ -1,7 +1,7 @@
 -- `report::reading::half` meets its contract: the number is that of the four bytes read.
 -- Assumes nothing.
 use borrow.Author.Needs.{needs}
-use Rattle.report.specs.ReadingLaws.{half-read}
+use Rattle.report.specs.inner.ReadingLaws.{half-read}
 use Rattle.report.proofs.reading.half.Statement.{statement}
 use Rattle.report.proofs.reading.half.Tie as tie
 

@@ -5,8 +5,8 @@ use native.Mathlib.Omega.{arith}
 use borrow.Author.Tests.{not-true, not-false}
 use borrow.Author.Needs.{needs}
 use Rattle.image.specs.Image.{sizesOk, imageLength}
-use Rattle.image.specs.ImageLaws.{sizes-in, length-small}
-use Rattle.report.specs.ReadingLaws.{short-input, bad-sizes, length-tested}
+use Rattle.image.specs.inner.ImageLaws.{sizes-in, length-small}
+use Rattle.report.specs.inner.ReadingLaws.{short-input, bad-sizes, length-tested}
 use Rattle.report.proofs.reading.well_formed.Statement.{statement}
 use Rattle.report.proofs.reading.well_formed.Tie as tie
 

@@ -1,7 +1,7 @@
 -- `report::reading::word_at` meets its contract: the two halves are the word.
 -- Assumes nothing.
 use borrow.Author.Needs.{needs}
-use Rattle.report.specs.ReadingLaws.{word-read}
+use Rattle.report.specs.inner.ReadingLaws.{word-read}
 use Rattle.report.proofs.reading.word_at.Statement.{statement}
 use Rattle.report.proofs.reading.word_at.Tie as tie
 

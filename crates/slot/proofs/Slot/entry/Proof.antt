@@ -1,7 +1,7 @@
 -- `Slot::entry` meets its contract: the low bit, taken by `&`, is the old value modulo 2, and the parts of the two words fit.
 use borrow.Author.Needs.{needs}
 use native.Mathlib.Omega.{arith}
-use Rattle.slot.specs.SlotBits.{low-bit, made-entry}
+use Rattle.slot.specs.inner.SlotBits.{low-bit, made-entry}
 use Rattle.slot.proofs.Slot.entry.Statement.{statement}
 use Rattle.slot.proofs.Slot.entry.Tie as tie
 

@@ -6,8 +6,8 @@ use mathlib.Core.Logic.{⊎-elim}
 use mathlib.Core.Bool.{false}
 use native.Mathlib.Omega.{arith}
 use Rattle.slot.specs.Slot.{entryShape, stampShape}
-use Rattle.slot.specs.SlotLaws.{empty-read, torn-blank}
-use Rattle.slot.specs.SlotBits.{low-bit, entry-tests, stamp-tests, wrap-below, found-torn, found-entry, found-stamp, found-neither}
+use Rattle.slot.specs.inner.SlotLaws.{empty-read, torn-blank}
+use Rattle.slot.specs.inner.SlotBits.{low-bit, entry-tests, stamp-tests, wrap-below, found-torn, found-entry, found-stamp, found-neither}
 use Rattle.slot.proofs.Slot.read.Statement.{statement}
 use Rattle.slot.proofs.Slot.read.Tie as tie
 

@@ -2,7 +2,7 @@
 -- Assumes nothing.
 use mathlib.Core.Path.{_∙_}
 use borrow.Author.Needs.{needs}
-use Rattle.vandzulge.specs.ExportsLaws.{taken, not-taken}
+use Rattle.vandzulge.specs.inner.ExportsLaws.{taken, not-taken}
 use Rattle.vandzulge.proofs.answers.reply.Statement.{statement}
 use Rattle.vandzulge.proofs.answers.reply.Tie as tie
 

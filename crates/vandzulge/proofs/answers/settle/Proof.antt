@@ -3,7 +3,7 @@
 use mathlib.Core.Path.{_≡_, sym, _∙_}
 use native.Mathlib.Omega.{arith}
 use borrow.Author.Needs.{needs}
-use Rattle.vandzulge.specs.ExportsLaws.{taken, not-taken}
+use Rattle.vandzulge.specs.inner.ExportsLaws.{taken, not-taken}
 use Rattle.vandzulge.proofs.answers.settle.Statement.{statement}
 use Rattle.vandzulge.proofs.answers.settle.Tie as tie
 

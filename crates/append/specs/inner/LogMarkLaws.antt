@@ -1,0 +1,411 @@
+-- Inner: how the code goes, need not be believed. Laws of Log and Mark: a law for each return of their checks, their plans and their steps; what they
+-- know where they are not refused. Assumes nothing.
+use Prim.Native.Nat.{ℕ, zero, suc, _+_, _^_, _≤_, _<_}
+use mathlib.Core.Path.{_≡_, refl, sym, _∙_, ap}
+use mathlib.Core.Bool.{Bool, true, false, _&&_}
+use mathlib.Core.List.{List, [], _∷_, _++_}
+use native.Mathlib.Omega.{arith}
+use native.Mathlib.Decide.{ℕ-discrete}
+use lib.Dec.{leb}
+use lib.ListN.{length, take, length-map}
+use lib.Seq.{length-take-le}
+use borrow.Author.Tests.{ne-eqb, le-leb, not-false}
+use Rattle.laws.specs.inner.Tests.{split}
+use Rattle.laws.specs.inner.Lists.{none, All-map}
+use Rattle.txn.specs.Txn.{maxWrites, txnOk}
+use Rattle.txn.specs.inner.Writes.{writesOf}
+use Rattle.txn.specs.inner.TxnLaws.{few-writes, run-low}
+use Rattle.txn.specs.declared.Write.{Write}
+use Rattle.txn.specs.declared.Writes.{Writes}
+use Rattle.image.specs.Image.{maxWords, maxLanes, baseOf, dataOf, logStart, logOf}
+use Rattle.image.specs.inner.ImageLaws.{sizes-in, log-fits}
+use Rattle.image.specs.Flush.{flushAll, drainedNvm, drainedFlags}
+use Rattle.image.specs.Stores.{stored, places}
+use Rattle.image.specs.declared.Sizes.{Sizes}
+use Rattle.log.specs.Log.{latestIn, completeBelow, completeIn, hits}
+use Rattle.log.specs.inner.LogLaws.{hits-in}
+use Rattle.log.specs.Append.{advance, appendStores}
+use Rattle.log.specs.inner.AppendEntries.{WordsBelow, LogAt}
+use Rattle.log.specs.declared.Cursor.{Cursor}
+use Rattle.log.specs.declared.Latest.{Latest}
+use Rattle.log.specs.declared.Timestamp.{Timestamp}
+use Rattle.record.specs.Record.{laneAt, isLogged, spent, boundOf, cursorOf, pairsOf, withLane, withClock, drainedLane, appendedLane}
+use Rattle.record.specs.inner.RecordLaws.{record-in, LaneIn, lane-in, clock-room, clock-lane, lane-twice}
+use Rattle.record.specs.declared.Lane.{Lane}
+use Rattle.record.specs.declared.Pair.{Pair}
+use Rattle.record.specs.declared.Phase.{Phase}
+use Rattle.record.specs.declared.Phase.the-variants.{Idle, Holds}
+use Rattle.record.specs.declared.Record.{Record}
+use Rattle.store.specs.declared.Answer.the-variants.{NoWrites, Logged, Marked}
+use Rattle.store.specs.Machine.{Machine, Step, Cause, firstCause}
+use Rattle.store.specs.Calls.{badBuffers, badRecord, badLane, badTxn, clockSpent, drainRefusal, drained, changed, wouldHit, writesOn, logRefusal, appended}
+use Rattle.store.specs.Calls.{logged, logStep, markRefusal, markStep}
+use Rattle.store.specs.Interface.{machineOf}
+use Rattle.store.specs.inner.Checked.{Checked, drainedState}
+use Rattle.store.specs.inner.StoreLaws.{first-holds, first-fails, first-none, first-end, refuses-txn, passes-txn, checked, lane-small, at-lane, after-lane}
+use Rattle.store.specs.inner.StoreLaws.{lane-passed, step-taken, drained-by, drained-state, drained-clock, drained-lane, drained-keeps}
+use Rattle.store.specs.inner.CachedWritesLaws.{count-of, full-list, writes-of}
+use Rattle.append.specs.declared.Plan.{Plan}
+use Rattle.append.specs.inner.Plans.{roomRefusal, logChecks, Planned, Searchable, Appendable, AfterDrain, loggedStep}
+
+-- ---- refusals 8 and 9
+-- the record that the code drains, by the latest sequence that it has found
+drained-is : (z : Sizes) (r d : Record) (q : Latest) (cache : List ℕ) (L : ℕ) → q ≡ latestIn z cache L → d ≡ withLane r L (drainedLane q (laneAt r L))
+    → d ≡ drainedState z cache L r
+unfolding drainedState
+drained-is z r d q cache L f e = e ∙ rw f
+
+-- it has kept the lane's next slot
+pub next-kept : (z : Sizes) (r d : Record) (q : Latest) (cache : List ℕ) (L : ℕ) → q ≡ latestIn z cache L → d ≡ withLane r L (drainedLane q (laneAt r L))
+    → laneAt r L .next < z .slots → laneAt d L .next < z .slots
+next-kept z r d q cache L f e h = rw (drained-is z r d q cache L f e, drained-keeps z cache L r .next) h
+
+module _ (z : Sizes) (r : Record) (cache : List ℕ) (L n : ℕ) where
+  pub room-spent : spent r ≡ true → 8 ≡ roomRefusal z r cache L n
+  unfolding roomRefusal
+  room-spent e = sym (first-holds _ _ e)
+
+  module _ (d : Record) (q : Latest) (f : q ≡ latestIn z cache L) (e : d ≡ withLane r L (drainedLane q (laneAt r L))) where
+    -- a hit is looked for in the part of the image that is the lane's log
+    module _ (log : List ℕ) (bound : Timestamp) (hit : Bool) (p : log ≡ logOf z L cache) (b : bound ≡ boundOf z d)
+        (g : hit ≡ hits (z .slots) (laneAt d L .next) n bound (completeBelow (z .words) (z .slots) (baseOf cache) log 0 (z .slots)))
+        (s : spent r ≡ false) where
+      hit-in : hits (z .slots) (laneAt r L .next) n (boundOf z (drainedState z cache L r)) (completeIn z cache L) ≡ hit
+      hit-in =
+          rw (g, b, p, drained-is z r d q cache L f e, drained-keeps z cache L r .next)
+          (hits-in z cache L (laneAt r L .next) n (boundOf z (drainedState z cache L r)))
+
+      pub room-hit : hit ≡ true → 9 ≡ roomRefusal z r cache L n
+      unfolding roomRefusal
+      room-hit h = sym (first-fails _ _ s ∙ first-holds _ _ (hit-in ∙ h))
+
+      pub room-free : hit ≡ false → 0 ≡ roomRefusal z r cache L n
+      unfolding roomRefusal
+      room-free h = sym (first-fails _ _ s ∙ first-fails _ _ (hit-in ∙ h) ∙ first-end)
+
+-- as the calls' refusals have them
+room-left : (z : Sizes) (L n : ℕ) (m : Machine)
+    → roomRefusal z (m .state) (m .cache) L n ≡ firstCause (clockSpent m ∷ record { number = 9; holds = wouldHit z L n m } ∷ [])
+unfolding roomRefusal clockSpent wouldHit
+room-left z L n m = rw (drained-state z L m)
+
+-- ---- Log's refusals before it runs the transaction
+module _ (z : Sizes) (L : ℕ) (f : List ℕ) (m : Machine) where
+  pub checks-lane : (number : ℕ) → number ≡ drainRefusal z L m → (number ≡ 0 → ⊥) → number ≡ logChecks z L f m
+  unfolding logChecks
+  checks-lane number e h = e ∙ sym (at-lane z L m _ (λ d. h (e ∙ d)))
+
+  module _ (e : drainRefusal z L m ≡ 0) where
+    pub checks-txn : txnOk maxWrites (z .words) f ≡ false → 5 ≡ logChecks z L f m
+    unfolding logChecks
+    checks-txn h = sym (after-lane z L m _ e ∙ refuses-txn _ z f h)
+
+    module _ (h : txnOk maxWrites (z .words) f ≡ true) where
+      pub checks-logged : isLogged (laneAt (m .state) L .phase) ≡ true → 6 ≡ logChecks z L f m
+      unfolding logChecks
+      checks-logged g = sym (after-lane z L m _ e ∙ passes-txn _ z f h ∙ first-holds _ _ g)
+
+      pub checks-none : isLogged (laneAt (m .state) L .phase) ≡ false → 0 ≡ logChecks z L f m
+      unfolding logChecks
+      checks-none g = sym (after-lane z L m _ e ∙ passes-txn _ z f h ∙ first-fails _ _ g ∙ first-end)
+
+-- ---- Log's refusals, from those that it checks first
+pub some : (n : ℕ) → (n ≡ 0 → ⊥) → 1 ≤ n
+some zero h = absurd (h refl)
+some (suc n) h = omega arith
+
+-- further causes do not matter where one of the first holds
+first-more : (cs ds : List Cause) → (firstCause cs ≡ 0 → ⊥) → firstCause (cs ++ ds) ≡ firstCause cs
+first-more [] ds h = absurd (h first-end)
+first-more (c ∷ cs) ds h =
+    split (c .holds)
+    (λ t. first-holds c (cs ++ ds) t ∙ sym (first-holds c cs t))
+    (λ t. first-fails c (cs ++ ds) t ∙ first-more cs ds (λ e. h (first-fails c cs t ∙ e)) ∙ sym (first-fails c cs t))
+
+module _ (z : Sizes) (L : ℕ) (f : List ℕ) (m : Machine) where
+  log-unless : (logChecks z L f m ≡ 0 → ⊥) → logRefusal z L f m ≡ logChecks z L f m
+  unfolding logRefusal logChecks
+  log-unless h =
+      first-more (badBuffers z m ∷ badRecord z m ∷ badLane z L ∷ badTxn z f ∷ record { number = 6; holds = isLogged (laneAt (m .state) L .phase) } ∷ []) _ h
+
+  pub log-refused : (number : ℕ) → number ≡ logChecks z L f m → (number ≡ 0 → ⊥) → number ≡ logRefusal z L f m
+  log-refused number e h = e ∙ sym (log-unless (λ d. h (e ∙ d)))
+
+  log-checked : logRefusal z L f m ≡ 0 → logChecks z L f m ≡ 0
+  log-checked h = elim (ℕ-discrete (logChecks z L f m) 0) [ yes e ↦ e | no d ↦ absurd (d (sym (log-unless d) ∙ h)) ]
+
+  -- what the checks say where they find nothing
+  pub record Unrefused : Type 0 where
+    pub at-lane : drainRefusal z L m ≡ 0
+    pub txn-ok : txnOk maxWrites (z .words) f ≡ true
+    pub idle : isLogged (laneAt (m .state) L .phase) ≡ false
+
+  pub unrefused : logChecks z L f m ≡ 0 → Unrefused
+  unfolding logChecks badTxn
+  unrefused h =
+      let a = lane-passed z L m _ h in
+      let b = first-none _ _ (λ e. omega arith) (a .1) in
+      let c = first-none _ _ (λ e. omega arith) (b .1) in
+      record { at-lane = a .0; txn-ok = not-false _ (b .0); idle = c .0 }
+
+  -- the causes that are left then
+  log-left : Unrefused → logRefusal z L f m
+      ≡ firstCause
+      (record { number = 8; holds = leb 1 (length (writesOn z f m)) && spent (m .state) }
+      ∷ record { number = 9; holds = leb 1 (length (writesOn z f m)) && wouldHit z L (length (writesOn z f m) + 1) m }
+      ∷ [])
+  unfolding logRefusal
+  log-left u = after-lane z L m _ (u .at-lane) ∙ passes-txn _ z f (u .txn-ok) ∙ first-fails _ _ (u .idle)
+
+  module _ (u : Unrefused) (w : Writes) (v : w ≡ writesOf maxWrites (writesOn z f m)) where
+    -- none, where the transaction writes nothing
+    pub log-nothing : w .count ≡ 0 → 0 ≡ logRefusal z L f m
+    log-nothing e =
+        let n : length (writesOn z f m) ≡ 0 = sym (count-of w _ v) ∙ e in
+        sym (log-left u ∙ first-fails _ _ (rw n) ∙ first-fails _ _ (rw n) ∙ first-end)
+
+    -- where it writes, those of an append
+    pub log-room : (number : ℕ) → number ≡ roomRefusal z (m .state) (m .cache) L (w .count + 1) → (w .count ≡ 0 → ⊥) → number ≡ logRefusal z L f m
+    unfolding clockSpent
+    log-room number r h =
+        let n = count-of w _ v in
+        let b : leb 1 (length (writesOn z f m)) ≡ true = le-leb 1 (length (writesOn z f m)) (some _ (λ d. h (n ∙ d))) in
+        r ∙ rw n (room-left z L (length (writesOn z f m) + 1) m ∙ sym (log-left u ∙ rw b))
+
+  log-unspent : logRefusal z L f m ≡ 0 → (length (writesOn z f m) ≡ 0 → ⊥) → spent (m .state) ≡ false
+  log-unspent e h =
+      let a = first-none _ _ (λ d. omega arith) (sym (log-left (unrefused (log-checked e))) ∙ e) in
+      rw (le-leb 1 (length (writesOn z f m)) (some _ h)) at (a .0)
+
+-- ---- Mark's refusals
+module _ (z : Sizes) (L : ℕ) (m : Machine) where
+  pub mark-refused : (number : ℕ) → number ≡ drainRefusal z L m → (number ≡ 0 → ⊥) → number ≡ markRefusal z L m
+  unfolding markRefusal
+  mark-refused number e h = e ∙ sym (at-lane z L m _ (λ d. h (e ∙ d)))
+
+  pub mark-room : (number : ℕ) → drainRefusal z L m ≡ 0 → number ≡ roomRefusal z (m .state) (m .cache) L 1 → number ≡ markRefusal z L m
+  unfolding markRefusal
+  mark-room number h r = r ∙ room-left z L 1 m ∙ sym (after-lane z L m _ h)
+
+  mark-lane : markRefusal z L m ≡ 0 → drainRefusal z L m ≡ 0
+  unfolding markRefusal
+  mark-lane e = lane-passed z L m _ e .0
+
+  mark-unspent : markRefusal z L m ≡ 0 → spent (m .state) ≡ false
+  unfolding markRefusal clockSpent
+  mark-unspent e = first-none _ _ (λ d. omega arith) (lane-passed z L m _ e .1) .0
+
+-- a refused call's plan
+pub planned-refused : (p : Plan) (refusal : ℕ) (ws : List Write) (q : Latest) → p .number ≡ refusal → (p .number ≡ 0 → ⊥) → Planned p refusal ws q
+planned-refused p refusal ws q e h = record { number = e; writes = λ d. absurd (h d); latest = λ d. absurd (h d) }
+
+-- ---- what a call knows that is not refused 1, 2 or 3: its lane is in range
+module _ (z : Sizes) (state : Record) (cache nvm flags : List ℕ) (L : ℕ) (k : Checked z state cache nvm flags L)
+    (eight : length (state .lanes) ≡ maxLanes) where
+  lane-held : LaneIn z (state .clock) (laneAt state L)
+  lane-held = lane-in z _ _ (record-in z state (k .in-range) .lanes L (k .lane-below) (omega (arith, lane-small z L (k .image .sizes-ok) (k .lane-below))))
+
+  pub searchable : (q : Latest) (n : ℕ) → q ≡ latestIn z cache L → 1 ≤ n → n ≤ maxWrites + 1 → Searchable z state q cache L n
+  searchable q n f h g = record {
+    image = k .image;
+    lane-below = k .lane-below;
+    found = f;
+    next = lane-held .next;
+    least = h;
+    most = g;
+  }
+
+-- ---- what a call knows whose plan has no refusal
+pub record Known (z : Sizes) (state : Record) (cache nvm flags : List ℕ) (L : ℕ) (ws : List Write) (plan : Plan) : Type 0 where
+  pub checked : Checked z state cache nvm flags L
+  pub small : L < maxLanes
+  pub writes : plan .writes ≡ writesOf maxWrites ws
+  pub few : length ws ≤ maxWrites
+  pub low : WordsBelow maxWords ws
+  pub latest : plan .latest ≡ latestIn z cache L
+
+module _ (z : Sizes) (state : Record) (cache nvm flags : List ℕ) (L : ℕ) (plan : Plan) where
+  -- the writes of a transaction that is ok are few, and all to words that there are
+  pub log-known : (f : List ℕ)
+      → Planned plan (logRefusal z L f (machineOf state cache nvm flags)) (writesOn z f (machineOf state cache nvm flags)) (latestIn z cache L)
+      → plan .number ≡ 0 → Known z state cache nvm flags L (writesOn z f (machineOf state cache nvm flags)) plan
+  unfolding writesOn
+  log-known f p e =
+      let u = unrefused z L f (machineOf state cache nvm flags) (log-checked z L f (machineOf state cache nvm flags) (sym (p .number) ∙ e)) in
+      let k = checked z state cache nvm flags L (u .at-lane) in
+      record {
+        checked = k;
+        small = lane-small z L (k .image .sizes-ok) (k .lane-below);
+        writes = p .writes e;
+        few = few-writes maxWrites (z .words) f (dataOf z cache) (u .txn-ok);
+        low = All-map (λ w h. omega (arith, sizes-in z (k .image .sizes-ok) .words-high)) (run-low maxWrites (z .words) f (dataOf z cache) (u .txn-ok));
+        latest = p .latest e;
+      }
+
+  pub mark-known : Planned plan (markRefusal z L (machineOf state cache nvm flags)) [] (latestIn z cache L) → plan .number ≡ 0
+      → Known z state cache nvm flags L [] plan
+  mark-known p e =
+      let k = checked z state cache nvm flags L (mark-lane z L (machineOf state cache nvm flags) (sym (p .number) ∙ e)) in
+      record {
+        checked = k;
+        small = lane-small z L (k .image .sizes-ok) (k .lane-below);
+        writes = p .writes e;
+        few = omega arith;
+        low = none;
+        latest = p .latest e;
+      }
+
+  module _ (ws : List Write) (k : Known z state cache nvm flags L ws plan) where
+    -- the clock has room for a timestamp where refusal 8 is ruled out
+    clock-free : spent state ≡ false → state .clock + 3 < 2 ^ 64
+    clock-free h = clock-room state h (record-in z state (k .checked .in-range) .clock)
+
+    pub after-drain : length (state .lanes) ≡ maxLanes → state .clock + 3 < 2 ^ 64 → (flags′ : List ℕ) → flags′ ≡ drainedFlags L flags
+        → AfterDrain z state (plan .latest) cache flags′ L (plan .writes)
+    unfolding drainedFlags drainedLane cursorOf
+    after-drain eight h flags′ e =
+        let l = lane-held z state cache nvm flags L (k .checked) eight in
+        record {
+          found = k .latest;
+          appendable = record {
+            image = k .checked .image;
+            in-flags = ap length e ∙ length-map flags _ ∙ k .checked .in-flags;
+            lane-below = k .checked .lane-below;
+            place = record { slot = l .next; wrap = l .wrap };
+            room = omega (arith, h);
+            writes = record {
+              few = rw (count-of _ ws (k .writes)) (k .few);
+              full = full-list _ ws (k .writes);
+              low = rw (writes-of _ ws (k .writes) (k .few)) (k .low);
+            };
+          };
+        }
+
+  pub log-clock : (f : List ℕ)
+      → Planned plan (logRefusal z L f (machineOf state cache nvm flags)) (writesOn z f (machineOf state cache nvm flags)) (latestIn z cache L)
+      → plan .number ≡ 0 → (plan .writes .count ≡ 0 → ⊥) → state .clock + 3 < 2 ^ 64
+  log-clock f p e h =
+      clock-free _ (log-known f p e)
+      (log-unspent z L f (machineOf state cache nvm flags) (sym (p .number) ∙ e) (λ n. h (count-of _ _ (p .writes e) ∙ n)))
+
+  pub mark-clock : Planned plan (markRefusal z L (machineOf state cache nvm flags)) [] (latestIn z cache L) → plan .number ≡ 0
+      → state .clock + 3 < 2 ^ 64
+  mark-clock p e = clock-free _ (mark-known p e) (mark-unspent z L (machineOf state cache nvm flags) (sym (p .number) ∙ e))
+
+-- ---- an append
+-- where it starts: the lane's log, which is within the buffers
+pub append-at : (z : Sizes) (at : Lane) (cache flags : List ℕ) (L : ℕ) (w : Writes) (s start : ℕ) → Appendable z at cache flags L w s
+    → start ≡ logStart z L → LogAt start (z .slots) L cache flags
+append-at z at cache flags L w s start a e = record {
+  slots-high = sizes-in z (a .image .sizes-ok) .slots-high;
+  in-cache = rw (e, a .image .in-image) (log-fits z L (a .lane-below));
+  in-flags = rw (e, a .in-flags) (log-fits z L (a .lane-below));
+  lane-high = lane-small z L (a .image .sizes-ok) (a .lane-below);
+}
+
+-- what it leaves, from that place
+module _ (z : Sizes) (L s : ℕ) (at : Lane) (start : ℕ) (cursor : Cursor) (e : start ≡ logStart z L) (c : cursor ≡ cursorOf at) where
+  pub append-after : (n : ℕ) (end : Cursor) (phase : Phase) (redo : List Pair) (after : Lane) → end ≡ advance (z .slots) n cursor
+      → after ≡ appendedLane s end phase redo at → after ≡ appendedLane s (advance (z .slots) n (cursorOf at)) phase redo at
+  append-after n end phase redo after f g = g ∙ rw (f, c)
+
+  pub append-written : (ws : List Write) (cache cache′ : List ℕ) → cache′ ≡ stored (appendStores start (z .slots) s cursor ws) cache
+      → cache′ ≡ stored (appendStores (logStart z L) (z .slots) s (cursorOf at) ws) cache
+  append-written ws cache cache′ f = f ∙ rw (e, c)
+
+  pub append-flushed : (ws : List Write) (flags flags′ : List ℕ) → flags′ ≡ flushAll L (places (appendStores start (z .slots) s cursor ws)) flags
+      → flags′ ≡ flushAll L (places (appendStores (logStart z L) (z .slots) s (cursorOf at) ws)) flags
+  append-flushed ws flags flags′ f = f ∙ rw (e, c)
+
+-- on a drained machine
+append-machine : (z : Sizes) (L : ℕ) (phase : Phase) (redo : List Pair) (d : Record) (cache nvm flags : List ℕ) (w : Writes) → w .count ≤ length (w .list)
+    → (s : ℕ) (at after : Lane) (r₂ : Record) (cache′ flags′ : List ℕ) → s ≡ d .clock + 2 → at ≡ laneAt d L
+    → after ≡ appendedLane s (advance (z .slots) (w .count + 1) (cursorOf at)) phase redo at → r₂ ≡ withLane (withClock d s) L after
+    → cache′ ≡ stored (appendStores (logStart z L) (z .slots) s (cursorOf at) (take (w .count) (w .list))) cache
+    → flags′ ≡ flushAll L (places (appendStores (logStart z L) (z .slots) s (cursorOf at) (take (w .count) (w .list)))) flags
+    → machineOf r₂ cache′ nvm flags′ ≡ appended z L (take (w .count) (w .list)) phase redo (machineOf d cache nvm flags)
+unfolding appended changed
+append-machine z L phase redo d cache nvm flags w h s at after r₂ cache′ flags′ e₁ e₂ e₃ e₄ e₅ e₆ =
+    rw (e₄, e₃, e₆, e₅, e₂, e₁, length-take-le (w .count) (w .list) h)
+
+-- the record before the drain, with its clock and its lane changed, is the drained one so changed
+module _ (z : Sizes) (L : ℕ) (r : Record) (q : Latest) (cache : List ℕ) (f : q ≡ latestIn z cache L) where
+  changed-once : (s : ℕ) (after : Lane) → withLane (withClock r s) L after ≡ withLane (withClock (drainedState z cache L r) s) L after
+  unfolding drainedState
+  changed-once s after =
+      sym (rw (clock-lane r s L (drainedLane (latestIn z cache L) (laneAt r L)))
+      (lane-twice (withClock r s) L (drainedLane (latestIn z cache L) (laneAt r L)) after))
+
+  module _ (at : Lane) (e : at ≡ drainedLane q (laneAt r L)) (small : L < length (r .lanes)) where
+    lane-drained : at ≡ laneAt (drainedState z cache L r) L
+    lane-drained = e ∙ rw f (sym (drained-lane z cache L r small))
+
+    pub appended-by : (phase : Phase) (redo : List Pair) (nvm flags : List ℕ) (w : Writes) → w .count ≤ length (w .list)
+        → (after : Lane) (r₂ : Record) (cache′ flags′ : List ℕ)
+        → after ≡ appendedLane (r .clock + 2) (advance (z .slots) (w .count + 1) (cursorOf at)) phase redo at
+        → r₂ ≡ withLane (withClock r (r .clock + 2)) L after
+        → cache′ ≡ stored (appendStores (logStart z L) (z .slots) (r .clock + 2) (cursorOf at) (take (w .count) (w .list))) cache
+        → flags′ ≡ flushAll L (places (appendStores (logStart z L) (z .slots) (r .clock + 2) (cursorOf at) (take (w .count) (w .list)))) flags
+        → machineOf r₂ cache′ nvm flags′ ≡ appended z L (take (w .count) (w .list)) phase redo (machineOf (drainedState z cache L r) cache nvm flags)
+    appended-by phase redo nvm flags w h after r₂ cache′ flags′ e₁ e₂ e₃ e₄ =
+        append-machine z L phase redo (drainedState z cache L r) cache nvm flags w h (r .clock + 2) at after r₂ cache′ flags′
+        (ap (λ (k : ℕ). k + 2) (sym (drained-clock z cache L r))) lane-drained e₁ (e₂ ∙ changed-once (r .clock + 2) after) e₃ e₄
+
+    -- Log of a transaction that writes
+    pub logged-by : (redo : List Pair) (nvm flags : List ℕ) (w : Writes) → w .count ≤ length (w .list) → redo ≡ pairsOf maxWrites (take (w .count) (w .list))
+        → (machine : Machine)
+        → machine ≡ appended z L (take (w .count) (w .list)) (Holds (record { first = at .next; count = w .count; stamp = r .clock + 2 })) redo
+        (machineOf (drainedState z cache L r) cache nvm flags)
+        → record { answer = Logged (record { count = w .count; stamp = r .clock + 2 }); machine = machine }
+        ≡ loggedStep z L (take (w .count) (w .list)) (machineOf (drainedState z cache L r) cache nvm flags)
+    unfolding loggedStep logged
+    logged-by redo nvm flags w h g machine a = rw (a, g, lane-drained, drained-clock z cache L r, length-take-le (w .count) (w .list) h)
+
+-- ---- steps, from the plan and from what the drain and the append leave
+module _ (z : Sizes) (L : ℕ) (state : Record) (cache nvm flags : List ℕ) (plan : Plan) (nvm′ flags′ : List ℕ) (f₁ : nvm′ ≡ drainedNvm L flags cache nvm)
+    (f₂ : flags′ ≡ drainedFlags L flags) (e : plan .number ≡ 0) where
+  now-drained : machineOf (drainedState z cache L state) cache nvm′ flags′ ≡ drained z L (machineOf state cache nvm flags)
+  now-drained = drained-by z L state cache nvm flags (drainedState z cache L state) nvm′ flags′ refl f₁ f₂
+
+  module _ (f : List ℕ)
+      (p : Planned plan (logRefusal z L f (machineOf state cache nvm flags)) (writesOn z f (machineOf state cache nvm flags)) (latestIn z cache L)) where
+    -- a Log of a transaction that writes nothing drains its lane
+    pub log-empty : (r : Record) → r ≡ withLane state L (drainedLane (plan .latest) (laneAt state L)) → plan .writes .count ≡ 0
+        → record { answer = NoWrites; machine = machineOf r cache nvm′ flags′ } ≡ logStep z L f (machineOf state cache nvm flags)
+    unfolding logStep
+    log-empty r d h =
+        rw (drained-is z state r (plan .latest) cache L (p .latest e) d, now-drained, sym (count-of _ _ (p .writes e)) ∙ h)
+        (step-taken _ _ _ _ (p .number) e)
+
+    -- a Log of one that writes appends to it
+    pub log-writes : (step : Step)
+        → step ≡ loggedStep z L (take (plan .writes .count) (plan .writes .list)) (machineOf (drainedState z cache L state) cache nvm′ flags′)
+        → (plan .writes .count ≡ 0 → ⊥) → step ≡ logStep z L f (machineOf state cache nvm flags)
+    unfolding logStep loggedStep
+    log-writes step a h =
+        let k = log-known z state cache nvm flags L plan f p e in
+        let n = count-of _ _ (k .writes) in
+        a
+        ∙ rw (
+          writes-of _ _ (k .writes) (k .few),
+          now-drained,
+          drained-state z L (machineOf state cache nvm flags),
+          drained-clock z cache L state,
+          ne-eqb (length (writesOn z f (machineOf state cache nvm flags))) 0 (λ d. h (n ∙ d)),
+        )
+        (step-taken _ _ _ _ (p .number) e)
+
+  -- a Mark
+  module _ (p : Planned plan (markRefusal z L (machineOf state cache nvm flags)) [] (latestIn z cache L)) (at : Lane) (machine : Machine)
+      (l : at ≡ drainedLane (plan .latest) (laneAt state L))
+      (a : machine ≡ appended z L (take (plan .writes .count) (plan .writes .list)) Idle (at .redo)
+      (machineOf (drainedState z cache L state) cache nvm′ flags′)) where
+    marked-by : machine ≡ appended z L [] Idle (laneAt state L .redo) (drained z L (machineOf state cache nvm flags))
+    unfolding drainedLane
+    marked-by = a ∙ rw (writes-of _ [] (p .writes e) (omega arith), l, now-drained)
+
+    pub mark-taken : (dropped : Bool) → dropped ≡ isLogged (at .phase)
+        → record { answer = Marked (record { stamp = state .clock + 2; dropped = dropped }); machine = machine }
+        ≡ markStep z L (machineOf state cache nvm flags)
+    unfolding markStep drainedLane
+    mark-taken dropped d = rw (marked-by, d, l) (step-taken _ _ _ _ (p .number) e)

@@ -1,0 +1,76 @@
+-- Inner: how the code goes, need not be believed. What Log and Mark find out before they act: refusals 8 and 9, Log's other refusals, a plan. Assumes
+-- nothing.
+use Prim.Native.Nat.{ℕ, _+_, _^_, _≤_, _<_}
+use mathlib.Core.Path.{_≡_}
+use mathlib.Core.List.{List, [], _∷_}
+use lib.ListN.{length}
+use Rattle.txn.specs.Txn.{maxWrites}
+use Rattle.txn.specs.inner.Writes.{writesOf}
+use Rattle.txn.specs.declared.Write.{Write}
+use Rattle.txn.specs.declared.Writes.{Writes}
+use Rattle.image.specs.Image.{imageLength}
+use Rattle.image.specs.inner.Facts.{IsImage}
+use Rattle.image.specs.declared.Sizes.{Sizes}
+use Rattle.log.specs.Log.{latestIn, completeIn, hits}
+use Rattle.log.specs.inner.AppendEntries.{Loggable, Within}
+use Rattle.log.specs.declared.Latest.{Latest}
+use Rattle.record.specs.Record.{laneAt, isLogged, spent, boundOf, cursorOf, drainedLane}
+use Rattle.record.specs.declared.Lane.{Lane}
+use Rattle.record.specs.declared.Record.{Record}
+use Rattle.store.specs.declared.Answer.the-variants.{Logged}
+use Rattle.store.specs.Machine.{Machine, Step, firstCause}
+use Rattle.store.specs.Calls.{badBuffers, badRecord, badLane, badTxn, logged}
+use Rattle.store.specs.inner.Checked.{drainedState}
+use Rattle.append.specs.declared.Plan.{Plan}
+
+-- refusals 8 and 9 of a call on record r that appends n slots to lane L, floors as after the lane's drain
+unfoldable pub roomRefusal : Sizes → Record → (cache : List ℕ) → (L n : ℕ) → ℕ
+roomRefusal z r cache L n =
+    firstCause
+    (record { number = 8; holds = spent r }
+    ∷ record { number = 9; holds = hits z.slots (laneAt r L .next) n (boundOf z (drainedState z cache L r)) (completeIn z cache L) }
+    ∷ [])
+
+-- Log's refusals before it runs the transaction
+unfoldable pub logChecks : Sizes → ℕ → List ℕ → Machine → ℕ
+logChecks z L f m =
+    firstCause
+    (badBuffers z m
+    ∷ badRecord z m
+    ∷ badLane z L
+    ∷ badTxn z f
+    ∷ record { number = 6; holds = isLogged (laneAt m.state L .phase) }
+    ∷ [])
+
+-- a plan: the number of the refusal and, where it is 0, the writes and the lane's latest sequence
+pub record Planned (plan : Plan) (refusal : ℕ) (ws : List Write) (q : Latest) : Type 0 where
+  pub number : plan .number ≡ refusal
+  pub writes : plan .number ≡ 0 → plan .writes ≡ writesOf maxWrites ws
+  pub latest : plan .number ≡ 0 → plan .latest ≡ q
+
+-- what the search for a hit needs: n slots from lane L's next one on, and the lane's latest sequence
+pub record Searchable (z : Sizes) (r : Record) (latest : Latest) (cache : List ℕ) (L n : ℕ) : Type 0 where
+  pub image : IsImage z cache
+  pub lane-below : L < z .lanes
+  pub found : latest ≡ latestIn z cache L
+  pub next : laneAt r L .next < z .slots
+  pub least : 1 ≤ n
+  pub most : n ≤ maxWrites + 1
+
+-- what an append of these writes to lane L, which is drained, needs at timestamp s
+pub record Appendable (z : Sizes) (drained : Lane) (cache flags : List ℕ) (L : ℕ) (w : Writes) (s : ℕ) : Type 0 where
+  pub image : IsImage z cache
+  pub in-flags : length flags ≡ imageLength z
+  pub lane-below : L < z .lanes
+  pub place : Within (z .slots) (cursorOf drained)
+  pub room : s + 1 < 2 ^ 64
+  pub writes : Loggable w
+
+-- what Log or Mark on record r knows once it has drained the lane: its latest sequence, and that these writes may be appended
+pub record AfterDrain (z : Sizes) (r : Record) (latest : Latest) (cache flags : List ℕ) (L : ℕ) (w : Writes) : Type 0 where
+  pub found : latest ≡ latestIn z cache L
+  pub appendable : Appendable z (drainedLane latest (laneAt r L)) cache flags L w (r .clock + 2)
+
+-- Log of these writes on a drained machine
+unfoldable pub loggedStep : Sizes → ℕ → List Write → Machine → Step
+loggedStep z L ws m = record { answer = Logged (record { count = length ws; stamp = m.state .clock + 2 }); machine = logged z L ws m }

@@ -1,0 +1,201 @@
+-- Inner: how the code goes, need not be believed. Reading and writing the record's words are each other's inverse: for every record, and for words in
+-- normal form. Assumes nothing.
+use Prim.Native.Nat.{ℕ, zero, suc, _+_, _*_, _≤_}
+use mathlib.Core.Path.{_≡_, refl, sym, _∙_, ap}
+use mathlib.Core.Bool.{Bool, true, false, cond, _&&_}
+use mathlib.Core.List.{List, [], _∷_, _++_, append-assoc, append-nil}
+use native.Mathlib.Omega.{arith}
+use native.Mathlib.Nat.{mul-suc}
+use lib.Dec.{eqb}
+use lib.ListN.{length, getD, take, drop, length-append, length-drop}
+use lib.Seq.{take-all, drop-at, take-add}
+use borrow.Author.Tests.{eq-eqb, eqb-true}
+use Rattle.laws.specs.inner.Tests.{clash, and-left, and-right, and-both}
+use Rattle.laws.specs.inner.Lists.{All, none, more, All-map}
+use Rattle.txn.specs.Txn.{maxWrites}
+use Rattle.image.specs.Image.{maxLanes}
+use Rattle.log.specs.declared.Timestamp.{Timestamp}
+use Rattle.log.specs.declared.Timestamp.the-variants.{None, At}
+use Rattle.record.specs.Record.{isLogged, loggedIn}
+use Rattle.record.specs.declared.Pair.{Pair}
+use Rattle.record.specs.declared.Phase.{Phase}
+use Rattle.record.specs.declared.Phase.the-variants.{Idle, Holds}
+use Rattle.record.specs.declared.Lane.{Lane}
+use Rattle.record.specs.declared.Record.{Record}
+use Rattle.codec.specs.Fields.{laneLength, recordLength, rowOf, phaseOf, floorOf, pairOf, laneOf, recordOf}
+use Rattle.codec.specs.Fields.{rowWords, bitFor, isSet, stampOf, headWords, pairWords, laneWords, wordsOf}
+use Rattle.codec.specs.inner.Normal.{phaseNormal, floorNormal, lanesNormal, normal}
+
+-- ---- lengths
+row-length : {A : Type 0} (size : ℕ) (to : A → List ℕ) (xs : List A) → All (λ x. length (to x) ≡ size) xs → length (rowWords to xs) ≡ size * length xs
+unfolding rowWords
+row-length size to [] none = omega arith
+row-length size to (x ∷ xs) (more e es) = length-append (to x) (rowWords to xs) ∙ omega (arith, e, row-length size to xs es, mul-suc size (length xs))
+
+-- a pair has two words, and comes back whatever words follow them
+pairs-back : (ps : List Pair) → All (λ p. (length (pairWords p) ≡ 2) × ((ws : List ℕ) → pairOf (pairWords p ++ ws) ≡ p)) ps
+unfolding pairWords pairOf
+pairs-back [] = none
+pairs-back (p ∷ ps) = more (refl, λ ws. refl) (pairs-back ps)
+
+pub lane-length : (l : Lane) → length (l .redo) ≡ maxWrites → length (laneWords l) ≡ laneLength
+unfolding laneWords headWords
+lane-length l e = omega (arith, row-length 2 pairWords (l .redo) (All-map (λ p h. h .0) (pairs-back (l .redo))), e)
+
+-- ---- decoding what was encoded
+-- elements that come back, whatever words follow their own
+module _ {A : Type 0} (size : ℕ) (of : List ℕ → A) (to : A → List ℕ) where
+  row-back : (xs : List A) (rest : List ℕ) → All (λ x. (length (to x) ≡ size) × ((ws : List ℕ) → of (to x ++ ws) ≡ x)) xs
+      → rowOf size of (length xs) (rowWords to xs ++ rest) ≡ xs
+  unfolding rowOf rowWords
+  row-back [] rest none = refl
+  row-back (x ∷ xs) rest (more e es) =
+      rw (append-assoc (to x) (rowWords to xs) rest, e .1 (rowWords to xs ++ rest), drop-at (to x) (rowWords to xs ++ rest) size (e .0), row-back xs rest es)
+
+phase-back : (p : Phase) (rest : List ℕ) → phaseOf (bitFor (isLogged p) ∷ loggedIn p .first ∷ loggedIn p .count ∷ loggedIn p .stamp ∷ rest) ≡ p
+unfolding phaseOf bitFor isLogged loggedIn
+phase-back Idle rest = refl
+phase-back (Holds g) rest = refl
+
+floor-back : (f : Timestamp) (rest : List ℕ) → floorOf (bitFor (isSet f) ∷ stampOf f ∷ rest) ≡ f
+unfolding floorOf bitFor isSet stampOf
+floor-back None rest = refl
+floor-back (At s) rest = refl
+
+lane-same : (next wrap : ℕ) {p q : Phase} {f g : Timestamp} {ps qs : List Pair} → p ≡ q → f ≡ g → ps ≡ qs
+    → _≡_ {A = Lane} (record { phase = p; next = next; wrap = wrap; floor = f; redo = ps })
+    (record { phase = q; next = next; wrap = wrap; floor = g; redo = qs })
+lane-same next wrap a b c = rw (a, b, c)
+
+-- a lane of 16 pairs comes back, whatever words follow its own
+pub lane-back : (l : Lane) (rest : List ℕ) → length (l .redo) ≡ maxWrites → laneOf (laneWords l ++ rest) ≡ l
+unfolding laneOf laneWords headWords
+lane-back l rest e =
+    lane-same (l .next) (l .wrap) (phase-back (l .phase) _) (floor-back (l .floor) _)
+    (ap (λ n. rowOf 2 pairOf n (rowWords pairWords (l .redo) ++ rest)) (sym e) ∙ row-back 2 pairOf pairWords (l .redo) rest (pairs-back (l .redo)))
+
+-- the record's words are its own: 8 lanes of 16 pairs are what every record has
+pub record-back : (r : Record) → length (r .lanes) ≡ maxLanes → All (λ l. length (l .redo) ≡ maxWrites) (r .lanes) → recordOf (wordsOf r) ≡ r
+unfolding recordOf wordsOf
+record-back r e es =
+    ap (λ (ls : List Lane). record { clock = r .clock; last = r .last; lanes = ls })
+    (ap (λ n. rowOf laneLength laneOf n (rowWords laneWords (r .lanes))) (sym e)
+    ∙ ap (rowOf laneLength laneOf (length (r .lanes))) (sym (append-nil (rowWords laneWords (r .lanes))))
+    ∙ row-back laneLength laneOf laneWords (r .lanes) [] (All-map (λ l n. (lane-length l n, λ ws. lane-back l ws n)) es))
+
+-- ---- encoding what was decoded
+pairs-forth : (n : ℕ) (ws : List ℕ) → n * 2 ≤ length ws → rowWords pairWords (rowOf 2 pairOf n ws) ≡ take (n * 2) ws
+unfolding rowWords pairWords rowOf pairOf
+pairs-forth zero ws h = refl
+pairs-forth (suc n) [] h = absurd (omega arith)
+pairs-forth (suc n) (a ∷ []) h = absurd (omega arith)
+pairs-forth (suc n) (a ∷ b ∷ ws) h =
+    ap (λ (l : List ℕ). a ∷ b ∷ l) (pairs-forth n ws (omega arith))
+    ∙ ap (λ k. take k (a ∷ b ∷ ws)) (let e : suc (suc (n * 2)) ≡ suc n * 2 = omega arith in e)
+
+-- the fields of a phase and of a floor are the words that they were read from
+phase-pick : (t : Bool) (a b c d : ℕ) → eqb a 0 ≡ t → cond t (eqb b 0 && (eqb c 0 && eqb d 0)) (eqb a 1) ≡ true
+    → let p = cond t Idle (Holds (record { first = b; count = c; stamp = d })) in
+    (bitFor (isLogged p) ≡ a) × ((loggedIn p .first ≡ b) × ((loggedIn p .count ≡ c) × (loggedIn p .stamp ≡ d)))
+unfolding bitFor isLogged loggedIn
+phase-pick true a b c d e h =
+    let l = and-right (eqb b 0) (eqb c 0 && eqb d 0) h in (
+      sym (eqb-true a 0 e),
+      (
+        sym (eqb-true b 0 (and-left (eqb b 0) (eqb c 0 && eqb d 0) h)),
+        (sym (eqb-true c 0 (and-left (eqb c 0) (eqb d 0) l)), sym (eqb-true d 0 (and-right (eqb c 0) (eqb d 0) l))),
+      ),
+    )
+phase-pick false a b c d e h = (sym (eqb-true a 1 h), (refl, (refl, refl)))
+
+phase-forth : (ws : List ℕ) → phaseNormal ws ≡ true
+    → (bitFor (isLogged (phaseOf ws)) ≡ getD ws 0 0) × ((loggedIn (phaseOf ws) .first ≡ getD ws 1 0)
+    × ((loggedIn (phaseOf ws) .count ≡ getD ws 2 0) × (loggedIn (phaseOf ws) .stamp ≡ getD ws 3 0)))
+unfolding phaseNormal phaseOf
+phase-forth ws h = phase-pick (eqb (getD ws 0 0) 0) (getD ws 0 0) (getD ws 1 0) (getD ws 2 0) (getD ws 3 0) refl h
+
+floor-pick : (t : Bool) (a b : ℕ) → eqb a 0 ≡ t → cond t (eqb b 0) (eqb a 1) ≡ true
+    → (bitFor (isSet (cond t None (At b))) ≡ a) × (stampOf (cond t None (At b)) ≡ b)
+unfolding bitFor isSet stampOf
+floor-pick true a b e h = (sym (eqb-true a 0 e), sym (eqb-true b 0 h))
+floor-pick false a b e h = (sym (eqb-true a 1 h), refl)
+
+floor-forth : (ws : List ℕ) → floorNormal ws ≡ true → (bitFor (isSet (floorOf ws)) ≡ getD ws 0 0) × (stampOf (floorOf ws) ≡ getD ws 1 0)
+unfolding floorNormal floorOf
+floor-forth ws h = floor-pick (eqb (getD ws 0 0) 0) (getD ws 0 0) (getD ws 1 0) refl h
+
+eight-same : {a b c d g h a′ b′ c′ d′ g′ h′ : ℕ} (e f : ℕ) {xs ys : List ℕ} → a ≡ a′ → b ≡ b′ → c ≡ c′ → d ≡ d′ → g ≡ g′ → h ≡ h′ → xs ≡ ys
+    → _≡_ {A = List ℕ} (a ∷ b ∷ c ∷ d ∷ e ∷ f ∷ g ∷ h ∷ xs) (a′ ∷ b′ ∷ c′ ∷ d′ ∷ e ∷ f ∷ g′ ∷ h′ ∷ ys)
+eight-same e f p q r s t u v = rw (p, q, r, s, t, u, v)
+
+-- words in normal form are their lane's
+pub lane-forth : (ws : List ℕ) → laneLength ≤ length ws → phaseNormal ws ≡ true → floorNormal (drop 6 ws) ≡ true → laneWords (laneOf ws) ≡ take laneLength ws
+unfolding laneWords headWords laneOf
+lane-forth [] n p q = absurd (omega arith)
+lane-forth (a ∷ []) n p q = absurd (omega arith)
+lane-forth (a ∷ b ∷ []) n p q = absurd (omega arith)
+lane-forth (a ∷ b ∷ c ∷ []) n p q = absurd (omega arith)
+lane-forth (a ∷ b ∷ c ∷ d ∷ []) n p q = absurd (omega arith)
+lane-forth (a ∷ b ∷ c ∷ d ∷ e ∷ []) n p q = absurd (omega arith)
+lane-forth (a ∷ b ∷ c ∷ d ∷ e ∷ f ∷ []) n p q = absurd (omega arith)
+lane-forth (a ∷ b ∷ c ∷ d ∷ e ∷ f ∷ g ∷ []) n p q = absurd (omega arith)
+lane-forth (a ∷ b ∷ c ∷ d ∷ e ∷ f ∷ g ∷ h ∷ ws) n p q =
+    let x = phase-forth (a ∷ b ∷ c ∷ d ∷ e ∷ f ∷ g ∷ h ∷ ws) p in
+    let y = floor-forth (g ∷ h ∷ ws) q in
+    eight-same e f (x .0) (x .1 .0) (x .1 .1 .0) (x .1 .1 .1) (y .0) (y .1) (pairs-forth maxWrites ws (omega arith))
+
+pub lanes-forth : (n : ℕ) (ws : List ℕ) → n * laneLength ≤ length ws → lanesNormal n ws ≡ true
+    → rowWords laneWords (rowOf laneLength laneOf n ws) ≡ take (n * laneLength) ws
+unfolding lanesNormal rowWords rowOf
+lanes-forth zero ws h t = refl
+lanes-forth (suc n) ws h t =
+    let u = and-right (phaseNormal ws) (floorNormal (drop 6 ws) && lanesNormal n (drop laneLength ws)) t in
+    let a = lane-forth ws (omega arith) (and-left (phaseNormal ws) (floorNormal (drop 6 ws) && lanesNormal n (drop laneLength ws)) t)
+    (and-left (floorNormal (drop 6 ws)) (lanesNormal n (drop laneLength ws)) u) in
+    let b = lanes-forth n (drop laneLength ws) (omega (arith, length-drop laneLength ws))
+    (and-right (floorNormal (drop 6 ws)) (lanesNormal n (drop laneLength ws)) u) in
+    ap (λ (l : List ℕ). l ++ rowWords laneWords (rowOf laneLength laneOf n (drop laneLength ws))) a
+    ∙ ap (λ (l : List ℕ). take laneLength ws ++ l) b
+    ∙ sym (take-add laneLength (n * laneLength) ws)
+    ∙ ap (λ k. take k ws) (let e : laneLength + n * laneLength ≡ suc n * laneLength = omega arith in e)
+
+-- words in normal form are their record's
+pub record-forth : (ws : List ℕ) → normal ws ≡ true → wordsOf (recordOf ws) ≡ ws
+unfolding normal wordsOf recordOf
+record-forth [] t = clash false t refl
+record-forth (a ∷ []) t = clash false t refl
+record-forth (a ∷ b ∷ ws) t =
+    let n = eqb-true (length (a ∷ b ∷ ws)) recordLength (and-left (eqb (length (a ∷ b ∷ ws)) recordLength) (lanesNormal maxLanes ws) t) in
+    ap (λ (l : List ℕ). a ∷ b ∷ l)
+    (lanes-forth maxLanes ws (omega (arith, n)) (and-right (eqb (length (a ∷ b ∷ ws)) recordLength) (lanesNormal maxLanes ws) t)
+    ∙ take-all (maxLanes * laneLength) ws (omega (arith, n)))
+
+-- ---- a record's words are in normal form
+phase-normal : (p : Phase) (rest : List ℕ) → phaseNormal (bitFor (isLogged p) ∷ loggedIn p .first ∷ loggedIn p .count ∷ loggedIn p .stamp ∷ rest) ≡ true
+unfolding phaseNormal bitFor isLogged loggedIn
+phase-normal Idle rest = refl
+phase-normal (Holds g) rest = refl
+
+floor-normal : (f : Timestamp) (rest : List ℕ) → floorNormal (bitFor (isSet f) ∷ stampOf f ∷ rest) ≡ true
+unfolding floorNormal bitFor isSet stampOf
+floor-normal None rest = refl
+floor-normal (At s) rest = refl
+
+lane-normal : (l : Lane) (rest : List ℕ) → (phaseNormal (laneWords l ++ rest) ≡ true) × (floorNormal (drop 6 (laneWords l ++ rest)) ≡ true)
+unfolding laneWords headWords
+lane-normal l rest = (phase-normal (l .phase) _, floor-normal (l .floor) _)
+
+lanes-normal : (ls : List Lane) → All (λ l. length (l .redo) ≡ maxWrites) ls → lanesNormal (length ls) (rowWords laneWords ls) ≡ true
+unfolding lanesNormal rowWords
+lanes-normal [] none = refl
+lanes-normal (l ∷ ls) (more e es) =
+    let k = lane-normal l (rowWords laneWords ls) in
+    rw (k .0, k .1, drop-at (laneWords l) (rowWords laneWords ls) laneLength (lane-length l e)) (lanes-normal ls es)
+
+pub words-normal : (r : Record) → length (r .lanes) ≡ maxLanes → All (λ l. length (l .redo) ≡ maxWrites) (r .lanes) → normal (wordsOf r) ≡ true
+unfolding normal wordsOf
+words-normal r e es =
+    and-both (eqb (length (r .clock ∷ r .last ∷ rowWords laneWords (r .lanes))) recordLength) (lanesNormal maxLanes (rowWords laneWords (r .lanes)))
+    (eq-eqb (length (r .clock ∷ r .last ∷ rowWords laneWords (r .lanes))) recordLength
+    (omega (arith, row-length laneLength laneWords (r .lanes) (All-map lane-length es), e)))
+    (ap (λ n. lanesNormal n (rowWords laneWords (r .lanes))) (sym e) ∙ lanes-normal (r .lanes) es)

@@ -1,0 +1,158 @@
+-- What record, cached image and history have in common while the store runs:
+-- the book's part, which the calls alone keep, and what the logs must say. Assumes nothing.
+use mathlib.Core.Path.{_≡_, refl, ap, _∙_, sym}
+use mathlib.Core.Logic.{_≢_}
+use mathlib.Core.Bool.{Bool, true, false, _&&_}
+use mathlib.Core.List.{List, [], _∷_}
+use mathlib.Core.Option.{some}
+use Prim.Native.Nat.{ℕ, suc, _+_, _≤_, _<_}
+use native.Mathlib.Omega.{arith}
+use native.Mathlib.Nat.{le-refl}
+use lib.Dec.{eqb, ltb}
+use lib.ListN.{length, getD, take}
+use borrow.Author.Tests.{ne-eqb, ltb-true, ltb-false, lt-ltb, le-ltb}
+use Rattle.laws.specs.inner.Tests.{split, eqb-same}
+use Rattle.laws.specs.inner.Lists.{All, none as nil, more}
+use Rattle.slot.specs.declared.Content.the-variants.{Entry}
+use Rattle.txn.specs.Txn.{maxWrites, txnOk}
+use Rattle.txn.specs.inner.Writes.{noWrite}
+use Rattle.txn.specs.declared.Write.{Write}
+use Rattle.image.specs.Image.{buffersOk, logOf}
+use Rattle.image.specs.declared.Sizes.{Sizes}
+use Rattle.log.specs.Log.{slotAt, latestIn, contribution}
+use Rattle.log.specs.Append.{circular}
+use Rattle.log.specs.inner.SearchLaws.{circular-low}
+use Rattle.log.specs.declared.Timestamp.the-variants.{At}
+use Rattle.record.specs.Record.{laneAt, isLogged, loggedIn, stampOk, recordOk, pairsOf}
+use Rattle.record.specs.declared.Logged.{Logged}
+use Rattle.record.specs.declared.Phase.{Phase}
+use Rattle.record.specs.declared.Phase.the-variants.{Idle, Holds}
+use Rattle.store.specs.Machine.{Machine}
+use Rattle.store.specs.Calls.{entryMatches, entriesMatch}
+use Rattle.crash.specs.History.{Commit, History, pageAt, writesLogged, sameOlds, isAbove, commitAbove}
+use Rattle.crash.specs.Theorem.{Live}
+use Rattle.crash.proofs.recovery.Data.{Rising, last, then}
+
+-- ---- commits
+-- the timestamp of the last commit, `base` where there is none
+unfoldable pub lastOf : (base : ℕ) → List Commit → ℕ
+lastOf base [] = base
+lastOf base (c ∷ cs) = lastOf (c .stamp) cs
+
+-- ---- entries
+-- the writes stand in a log as entries, from slot j on, with any wrap bits
+pub data Entries (W N : ℕ) (log : List ℕ) : ℕ → List Write → Type 0 where
+  no-entry : {j : ℕ} → Entries W N log j []
+  entry : {j : ℕ} {w : Write} {ws : List Write} (p : ℕ) → slotAt W log j ≡ Entry (w .word) (w .old) p → Entries W N log (circular N (j + 1)) ws
+      → Entries W N log j (w ∷ ws)
+
+-- ---- the book's part
+-- lane L holds the logged transaction g: the history holds its transaction, and the redo log has its writes
+pub record Holding (z : Sizes) (base : ℕ) (h : History) (m : Machine) (L : ℕ) (g : Logged) : Type 0 where
+  pub txn : List ℕ
+  pub held : pageAt h L .held ≡ some txn
+  pub ok : txnOk maxWrites z.words txn ≡ true
+  pub newest : pageAt h L .newest ≡ At (g .stamp)
+  pub above : base ≤ g .stamp
+  pub upto : g .stamp ≤ h .clock
+  -- its timestamp is no commit's
+  pub apart : All (λ c. c .stamp ≢ g .stamp) (h .commits)
+  pub count : g .count ≡ length (writesLogged z L h)
+  pub redo : take (g .count) (laneAt (m .state) L .redo) ≡ pairsOf (g .count) (writesLogged z L h)
+
+-- `base` is the clock at the start
+pub record Book (z : Sizes) (base : ℕ) (h : History) (m : Machine) : Type 0 where
+  -- causes 1 and 2 do not hold
+  pub buffers : buffersOk z (length (m .cache)) (length (m .nvm)) (length (m .flags)) ≡ true
+  pub fields : recordOk z (m .state) ≡ true
+  pub lanes : z.lanes ≤ length (m .state .lanes)
+  pub pages : length (h .pages) ≡ z.lanes
+  pub live : Live z h m
+  pub rising : Rising (h .commits)
+  pub above : All (λ c. base < c .stamp) (h .commits)
+  pub upto : All (λ c. c .stamp ≤ h .clock) (h .commits)
+  pub low : base ≤ h .clock
+  pub last : m .state .last ≡ lastOf base (h .commits)
+  pub stamps : (L s : ℕ) → L < z.lanes → pageAt h L .newest ≡ At s → stampOk (h .clock) s ≡ true
+  pub holding : (L : ℕ) (g : Logged) → L < z.lanes → laneAt (m .state) L .phase ≡ Holds g → Holding z base h m L g
+
+-- ---- what the cached logs must say
+pub record Logs (z : Sizes) (h : History) (m : Machine) : Type 0 where
+  -- a lane's latest sequence has the newest timestamp of its page
+  pub newest : (L : ℕ) → L < z.lanes → contribution (latestIn z (m .cache) L) ≡ pageAt h L .newest
+  -- a lane that holds a transaction has its entries in its log
+  pub entries : (L : ℕ) (g : Logged) → L < z.lanes → laneAt (m .state) L .phase ≡ Holds g
+      → Entries z.words z.slots (logOf z L (m .cache)) (g .first) (writesLogged z L h)
+
+-- ---- phases
+pub is-held : (p : Phase) → isLogged p ≡ true → p ≡ Holds (loggedIn p)
+unfolding isLogged loggedIn
+is-held Idle e = absurd (let z : _≡_ {A = ℕ} 0 1 = cc in omega arith)
+is-held (Holds g) e = refl
+
+-- ---- stale
+-- commits that rise from c on do not end below it
+last-up : (b : ℕ) {cs : List Commit} → All (λ d. b < d .stamp) cs → Rising cs → b ≤ lastOf b cs
+unfolding lastOf
+last-up b nil last = le-refl b
+last-up b (more {x = c} h hs) (then a r) = omega (arith, last-up (c .stamp) a r)
+
+-- some commit is above a timestamp just where the last one is
+pub above-last : (base s : ℕ) {cs : List Commit} → base ≤ s → Rising cs → commitAbove (At s) cs ≡ ltb s (lastOf base cs)
+unfolding commitAbove isAbove lastOf
+above-last base s h last = sym (le-ltb s base h)
+above-last base s h (then {c = c} a r) =
+    split (ltb s (c .stamp))
+    (λ e. rw e (sym (lt-ltb s _ (omega (arith, ltb-true s (c .stamp) e, last-up (c .stamp) a r)))))
+    (λ e. rw e (above-last (c .stamp) s (ltb-false s (c .stamp) e) r))
+
+-- ---- matching
+swapped : (a b c : Bool) → (a && (b && c)) ≡ (b && (a && c))
+swapped true b c = refl
+swapped false true c = refl
+swapped false false c = refl
+
+-- entries that stand in the log match just the writes of the same words and old values
+pub entries-match : (W N : ℕ) (log : List ℕ) {j : ℕ} {vs : List Write} → Entries W N log j vs → (ws : List Write)
+    → (eqb (length ws) (length vs) && entriesMatch W N log j ws) ≡ sameOlds ws vs
+unfolding entriesMatch sameOlds entryMatches
+entries-match W N log no-entry [] = refl
+entries-match W N log no-entry (w ∷ ws) = rw (ne-eqb (suc (length ws)) 0 (λ e. omega arith))
+entries-match W N log (entry {ws = vs} p e es) [] = rw (ne-eqb 0 (suc (length vs)) (λ e. omega arith))
+entries-match W N log (entry {j = j} {w = v} {ws = vs} p e es) (w ∷ ws) =
+    rw (eqb-same (suc (length ws)) (suc (length vs)) (length ws) (length vs) (λ q. omega arith) (λ q. omega arith), e)
+    (swapped (eqb (length ws) (length vs)) (eqb (w .word) (v .word) && eqb (w .old) (v .old)) (entriesMatch W N log (circular N (j + 1)) ws)
+    ∙ ap (λ t. (eqb (w .word) (v .word) && eqb (w .old) (v .old)) && t) (entries-match W N log es ws))
+
+-- the same by index: slot j + i, circularly, is the entry of write i
+circular-near : (N k : ℕ) → k < N → circular N k ≡ k
+unfolding circular
+circular-near N k h = rw (lt-ltb k N h)
+
+circular-high : (N k : ℕ) → circular N (N + k) ≡ k
+unfolding circular
+circular-high N k = rw (le-ltb (N + k) N (omega arith)) (omega arith)
+
+circular-on : (N j i : ℕ) → j < N → i < N → circular N (circular N (j + 1) + i) ≡ circular N (j + suc i)
+circular-on N j i h k =
+    split (ltb (j + 1) N)
+    (λ e. rw (circular-near N (j + 1) (ltb-true (j + 1) N e)) (ap (circular N) (let f : j + 1 + i ≡ j + suc i = omega arith in f)))
+    (λ e.
+    let d = ltb-false (j + 1) N e in
+    let f : j + 1 ≡ N + 0 = omega arith in
+    let g : j + suc i ≡ N + i = omega arith in
+    let z : 0 + i ≡ i = omega arith in
+    rw (f, g, circular-high N 0, circular-high N i, z) (circular-near N i k))
+
+pub entries-from : (W N : ℕ) (log : List ℕ) (j : ℕ) (ws : List Write) → j < N → length ws ≤ N
+    → ((i : ℕ) → i < length ws → (p : ℕ) × (slotAt W log (circular N (j + i)) ≡ Entry (getD ws i noWrite .word) (getD ws i noWrite .old) p))
+    → Entries W N log j ws
+entries-from W N log j [] h l f = no-entry
+entries-from W N log j (w ∷ ws) h l f =
+    let a = f 0 (let k : 0 < suc (length ws) = omega arith in k) in
+    let z : j + 0 ≡ j = omega arith in
+    entry (a .0) (ap (slotAt W log) (sym (circular-near N j h)) ∙ ap (λ k. slotAt W log (circular N k)) (sym z) ∙ a .1)
+    (entries-from W N log (circular N (j + 1)) ws (circular-low N (j + 1) (omega arith)) (omega arith)
+    (λ i k.
+    let b = f (suc i) (let q : suc i < suc (length ws) = omega arith in q) in
+    (b .0, ap (slotAt W log) (circular-on N j i h (omega arith)) ∙ b .1)))

@@ -1,0 +1,123 @@
+-- The history goes on: a call adds commits above the clock, at the end, and what stood below stays. Assumes nothing.
+use mathlib.Core.Path.{_≡_, refl, ap, _∙_, sym}
+use mathlib.Core.Bool.{cond}
+use mathlib.Core.List.{List, [], _∷_, _++_, append-nil}
+use mathlib.Core.Option.{Option, none, some}
+use Prim.Native.Nat.{ℕ, _+_, _≤_, _<_}
+use native.Mathlib.Omega.{arith}
+use native.Mathlib.Nat.{le-refl}
+use lib.ListN.{length, take}
+use Rattle.laws.specs.inner.Lists.{All, none as nil, more, All-append, All-map}
+use Rattle.txn.specs.Txn.{run, after}
+use Rattle.image.specs.declared.Sizes.{Sizes}
+use Rattle.log.specs.declared.Timestamp.{Timestamp}
+use Rattle.log.specs.declared.Timestamp.the-variants.{At}
+use Rattle.record.specs.Record.{laneAt, pairsOf}
+use Rattle.record.specs.declared.Logged.{Logged}
+use Rattle.store.specs.Machine.{Machine}
+use Rattle.crash.specs.History.{Commit, History, pageAt, isBelow, replay, wordsBelow, settled, stamped, released, writesLogged}
+use Rattle.crash.proofs.recovery.Data.{Rising, last, then, replay-none}
+use Rattle.crash.proofs.history.Agree.{lastOf, Holding}
+
+-- ---- commits at the end
+pub replay-append : (W : ℕ) (b : Timestamp) (cs ds : List Commit) (ws : List ℕ) → replay W b (cs ++ ds) ws ≡ replay W b ds (replay W b cs ws)
+unfolding replay
+replay-append W b [] ds ws = refl
+replay-append W b (c ∷ cs) ds ws = replay-append W b cs ds (cond (isBelow b (c .stamp)) (after W (c .txn) ws) ws)
+
+pub last-append : (base : ℕ) (cs : List Commit) (c : Commit) → lastOf base (cs ++ (c ∷ [])) ≡ c .stamp
+unfolding lastOf
+last-append base [] c = refl
+last-append base (d ∷ cs) c = last-append (d .stamp) cs c
+
+-- commits up to a clock, and then commits above it
+pub rising-append : (clock : ℕ) {cs ds : List Commit}
+    → Rising cs → All (λ c. c .stamp ≤ clock) cs → Rising ds → All (λ d. clock < d .stamp) ds → Rising (cs ++ ds)
+rising-append clock last nil r f = r
+rising-append clock (then {c = c} a q) (more h hs) r f = then (All-append a (All-map (λ d k. omega arith) f)) (rising-append clock q hs r f)
+
+-- ---- the writes that a lane has logged
+pub writes-held : (z : Sizes) (h : History) (L : ℕ) (f : List ℕ) (t : Timestamp) → pageAt h L .held ≡ some f → pageAt h L .newest ≡ t
+    → writesLogged z L h ≡ run z.words f (wordsBelow z t h)
+unfolding writesLogged
+writes-held z h L f t p q = rw (p, writesLogged) (ap (λ (b : Timestamp). run z.words f (wordsBelow z b h)) q)
+
+-- ---- the relation
+pub record Onward (h k : History) : Type 0 where
+  pub new : List Commit
+  pub start : k .start ≡ h .start
+  pub clock : h .clock ≤ k .clock
+  pub commits : k .commits ≡ h .commits ++ new
+  pub rising : Rising new
+  pub fresh : All (λ c. h .clock < c .stamp) new
+  pub upto : All (λ c. c .stamp ≤ k .clock) new
+
+pub onward-settled : (L : ℕ) (h : History) → Onward h (settled L h)
+unfolding settled
+onward-settled L h =
+    record { new = []; start = refl; clock = le-refl (h .clock); commits = sym (append-nil (h .commits)); rising = last; fresh = nil; upto = nil }
+
+pub onward-released : (L : ℕ) (h : History) → Onward h (released L h)
+unfolding released
+onward-released L h =
+    record { new = []; start = refl; clock = le-refl (h .clock); commits = sym (append-nil (h .commits)); rising = last; fresh = nil; upto = nil }
+
+-- a timestamp without a commit
+pub onward-stamped : (L : ℕ) (held : Option (List ℕ)) (h : History) → Onward h (stamped L held [] h)
+unfolding stamped
+onward-stamped L held h = record { new = []; start = refl; clock = omega arith; commits = refl; rising = last; fresh = nil; upto = nil }
+
+-- a commit
+pub onward-commit : (L : ℕ) (f : List ℕ) (h : History) → Onward h (stamped L none (f ∷ []) h)
+unfolding stamped
+onward-commit L f h =
+    record {
+      new = record { stamp = h .clock + 2; txn = f } ∷ [];
+      start = refl;
+      clock = omega arith;
+      commits = refl;
+      rising = then nil last;
+      fresh = more (let k : h .clock < h .clock + 2 = omega arith in k) nil;
+      upto = more (le-refl (h .clock + 2)) nil;
+    }
+
+-- ---- what it keeps
+module _ (z : Sizes) (h k : History) (o : Onward h k) where
+  pub rising-onward : Rising (h .commits) → All (λ c. c .stamp ≤ h .clock) (h .commits) → Rising (k .commits)
+  rising-onward r u = rw (o .commits) (rising-append (h .clock) r u (o .rising) (o .fresh))
+
+  pub above-onward : (base : ℕ) → base ≤ h .clock → All (λ c. base < c .stamp) (h .commits) → All (λ c. base < c .stamp) (k .commits)
+  above-onward base b a = rw (o .commits) (All-append a (All-map (λ c p. omega arith) (o .fresh)))
+
+  pub upto-onward : All (λ c. c .stamp ≤ h .clock) (h .commits) → All (λ c. c .stamp ≤ k .clock) (k .commits)
+  upto-onward u = rw (o .commits) (All-append (All-map (λ c p. omega (arith, p, o .clock)) u) (o .upto))
+
+  -- the words below a timestamp that was given
+  pub words-onward : (s : ℕ) → s ≤ h .clock → wordsBelow z (At s) k ≡ wordsBelow z (At s) h
+  unfolding wordsBelow
+  words-onward s l =
+      rw (o .commits, o .start, replay-append z.words (At s) (h .commits) (o .new) (h .start))
+      (replay-none z.words s (replay z.words (At s) (h .commits) (h .start)) (All-map (λ c p. omega arith) (o .fresh)))
+
+  -- a transaction that another lane holds, or that is held through a drain
+  pub holding-onward : (base : ℕ) (m n : Machine) (M : ℕ) (g : Logged) → Holding z base h m M g
+      → pageAt k M .held ≡ pageAt h M .held → pageAt k M .newest ≡ pageAt h M .newest → laneAt (n .state) M .redo ≡ laneAt (m .state) M .redo
+      → Holding z base k n M g
+  holding-onward base m n M g v p q r =
+      record {
+        txn = v .txn;
+        held = p ∙ v .held;
+        ok = v .ok;
+        newest = q ∙ v .newest;
+        above = v .above;
+        upto = omega (arith, v .upto, o .clock);
+        apart = rw (o .commits) (All-append (v .apart) (All-map (λ c i e. omega (arith, v .upto)) (o .fresh)));
+        count = v .count ∙ sym (ap length same);
+        redo = ap (take (g .count)) r ∙ v .redo ∙ ap (pairsOf (g .count)) (sym same);
+      }
+    where
+      same : writesLogged z M k ≡ writesLogged z M h
+      same =
+          writes-held z k M (v .txn) (At (g .stamp)) (p ∙ v .held) (q ∙ v .newest)
+          ∙ ap (run z.words (v .txn)) (words-onward (g .stamp) (v .upto))
+          ∙ sym (writes-held z h M (v .txn) (At (g .stamp)) (v .held) (v .newest))

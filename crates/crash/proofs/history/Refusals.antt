@@ -1,0 +1,153 @@
+-- A call's refusal is the one that the theorem gives: causes 1 and 2 do not hold, and the others are the same tests, of machine or history. Assumes nothing.
+use mathlib.Core.Path.{_≡_, refl, ap, _∙_, sym}
+use mathlib.Core.Bool.{Bool, true, false, cond, not, _&&_, and-false}
+use mathlib.Core.List.{List, [], _∷_, _++_}
+use Prim.Native.Nat.{ℕ, zero, suc, _+_, _-_, _^_, _<_}
+use lib.Dec.{eqb, leb}
+use lib.ListN.{length}
+use native.Mathlib.Omega.{arith}
+use borrow.Author.Tests.{leb-false, le-leb, le-ltb, ne-eqb}
+use Rattle.txn.specs.Txn.{run}
+use Rattle.image.specs.Image.{buffersOk}
+use Rattle.image.specs.declared.Sizes.{Sizes}
+use Rattle.log.specs.Log.{Complete, completeIn, back, ahead, overlaps, hitsFrom, hits}
+use Rattle.log.specs.declared.Timestamp.{Timestamp}
+use Rattle.log.specs.declared.Timestamp.the-variants.{None, At}
+use Rattle.record.specs.Record.{laneAt, isLogged, recordOk, spent, boundOf}
+use Rattle.store.specs.Machine.{Machine, Step, Cause, firstCause, unless, said}
+use Rattle.store.specs.Calls.{badBuffers, badRecord, badLane, badTxn, notLogged, clockSpent, drained, wouldHit, writesOn, drainRefusal, drainStep}
+use Rattle.store.specs.Calls.{logRefusal, logStep, redoRefusal, redoStep, isStale, validateRefusal, validateStep, matches, markRefusal, markStep}
+use Rattle.crash.specs.Events.{Call, log, redo, validate, mark, drain, laneOf, callStep}
+use Rattle.crash.specs.History as book
+use Rattle.crash.specs.History.{History, settled, leastFloorOf, writesNow, holdsOne, causesBy, slotsBy}
+use Rattle.crash.specs.Theorem.{Live, isFull, refusalBy}
+use Rattle.crash.proofs.induction.Moves.{refusalOf, unless-by}
+
+-- causes 1 and 2 do not hold
+pub record Fine (z : Sizes) (m : Machine) : Type 0 where
+  pub buffers : buffersOk z (length (m .cache)) (length (m .nvm)) (length (m .flags)) ≡ true
+  pub fields : recordOk z (m .state) ≡ true
+
+-- a last cause that does not hold
+pub end-false : (cs : List Cause) (n : ℕ) → firstCause (cs ++ (record { number = n; holds = false } ∷ [])) ≡ firstCause cs
+unfolding firstCause
+end-false [] n = refl
+end-false (c ∷ cs) n = ap (cond (c .holds) (c .number)) (end-false cs n)
+
+-- no slots hit nothing
+over-nothing : (N k j n : ℕ) → overlaps N k 0 j n ≡ false
+unfolding overlaps
+over-nothing N k j zero = le-ltb (ahead N k j) 0 (omega arith)
+over-nothing N k j (suc n) = rw (le-ltb (ahead N k (back N j (suc n))) 0 (omega arith), over-nothing N k j n)
+
+from-nothing : (N k b : ℕ) (qs : List Complete) → hitsFrom N k 0 b qs ≡ false
+unfolding hitsFrom
+from-nothing N k b [] = refl
+from-nothing N k b (q ∷ qs) = rw (over-nothing N k (q .slot) (length (q .entries)), and-false (leb b (q .stamp)), from-nothing N k b qs)
+
+hits-nothing : (N k : ℕ) (b : Timestamp) (qs : List Complete) → hits N k 0 b qs ≡ false
+unfolding hits
+hits-nothing N k None qs = refl
+hits-nothing N k (At b) qs = from-nothing N k b qs
+
+-- the first two causes of a list do not hold, and where the third does not, the rest are the same
+pub past-two : (a b c : Bool) (n : ℕ) (cs ds : List Cause) → a ≡ true → b ≡ true → (c ≡ false → firstCause cs ≡ firstCause ds)
+    → firstCause (record { number = 1; holds = not a } ∷ record { number = 2; holds = not b } ∷ record { number = n; holds = c } ∷ cs)
+    ≡ firstCause (record { number = n; holds = c } ∷ ds)
+unfolding firstCause
+past-two a b true n cs ds p q f = rw (p, q)
+past-two a b false n cs ds p q f = rw (p, q) (f refl)
+
+-- ---- the tests that machine and history share
+module _ (z : Sizes) (h : History) (m : Machine) (v : Live z h m) where
+  pub same-writes : (f : List ℕ) → writesOn z f m ≡ writesNow z f h
+  unfolding writesOn writesNow
+  same-writes f = ap (run z.words f) (v .words)
+
+  pub same-spent : spent (m .state) ≡ book.clockSpent h
+  unfolding spent book.clockSpent
+  same-spent = ap (leb (2 ^ 64 - 2)) (v .clock)
+
+  pub same-held : (L : ℕ) → L < z.lanes → isLogged (laneAt (m .state) L .phase) ≡ holdsOne L h
+  unfolding holdsOne
+  same-held L l = v .held L l
+
+  -- an append that would hit something, by the history's least floor
+  module _ (bound : (L : ℕ) → L < z.lanes → boundOf z (drained z L m .state) ≡ leastFloorOf (settled L h .pages)) where
+    same-hit : (L n : ℕ) → L < z.lanes
+        → wouldHit z L n m ≡ hits z.slots (laneAt (m .state) L .next) n (leastFloorOf (settled L h .pages)) (completeIn z (m .cache) L)
+    unfolding wouldHit
+    same-hit L n l = ap (λ (b : Timestamp). hits z.slots (laneAt (m .state) L .next) n b (completeIn z (m .cache) L)) (bound L l)
+
+    log-full : (L : ℕ) (f : List ℕ) → L < z.lanes
+        → (leb 1 (length (writesNow z f h)) && wouldHit z L (length (writesNow z f h) + 1) m) ≡ isFull z (log L f) h m
+    unfolding isFull slotsBy laneOf
+    log-full L f l = go (length (writesNow z f h))
+      where
+        go : (n : ℕ) → (leb 1 n && wouldHit z L (n + 1) m)
+            ≡ hits z.slots (laneAt (m .state) L .next) (cond (eqb n 0) 0 (n + 1)) (leastFloorOf (settled L h .pages)) (completeIn z (m .cache) L)
+        go zero = sym (hits-nothing z.slots (laneAt (m .state) L .next) (leastFloorOf (settled L h .pages)) (completeIn z (m .cache) L))
+        go (suc n) = rw (le-leb 1 (suc n) (omega arith), ne-eqb (suc n) 0 (λ e. omega arith)) (same-hit L (suc n + 1) l)
+
+    mark-full : (L : ℕ) → L < z.lanes → wouldHit z L 1 m ≡ isFull z (mark L) h m
+    unfolding isFull slotsBy laneOf
+    mark-full L l = same-hit L 1 l
+
+    -- a call that appends nothing
+    none-full : (c : Call) → slotsBy z c h ≡ 0 → refusalBy z c h m ≡ firstCause (causesBy z c h)
+    unfolding refusalBy isFull
+    none-full c e =
+        rw (e, hits-nothing z.slots (laneAt (m .state) (laneOf c) .next) (leastFloorOf (settled (laneOf c) h .pages)) (completeIn z (m .cache) (laneOf c)))
+        (end-false (causesBy z c h) 9)
+
+    module _ (ok : Fine z m) where
+      log-refusal : (L : ℕ) (f : List ℕ) → refusalOf z (log L f) m ≡ refusalBy z (log L f) h m
+      unfolding refusalOf logRefusal refusalBy causesBy badBuffers badRecord badLane badTxn
+      log-refusal L f =
+          past-two _ _ (leb z.lanes L) 3 _ _ (ok .buffers) (ok .fields)
+          (λ e. let l = leb-false z.lanes L e in rw (same-writes f, same-spent, same-held L l, log-full L f l))
+
+      mark-refusal : (L : ℕ) → refusalOf z (mark L) m ≡ refusalBy z (mark L) h m
+      unfolding refusalOf markRefusal refusalBy causesBy badBuffers badRecord badLane clockSpent
+      mark-refusal L =
+          past-two _ _ (leb z.lanes L) 3 _ _ (ok .buffers) (ok .fields) (λ e. rw (same-spent, mark-full L (leb-false z.lanes L e)))
+
+      redo-refusal : (L : ℕ) → refusalOf z (redo L) m ≡ firstCause (causesBy z (redo L) h)
+      unfolding refusalOf redoRefusal causesBy badBuffers badRecord badLane notLogged clockSpent book.notHeld
+      redo-refusal L =
+          past-two _ _ (leb z.lanes L) 3 _ _ (ok .buffers) (ok .fields) (λ e. rw (same-spent, same-held L (leb-false z.lanes L e)))
+
+      validate-refusal : (L : ℕ) (f : List ℕ) → refusalOf z (validate L f) m ≡ firstCause (causesBy z (validate L f) h)
+      unfolding refusalOf validateRefusal causesBy badBuffers badRecord badLane badTxn notLogged clockSpent book.notHeld
+      validate-refusal L f =
+          past-two _ _ (leb z.lanes L) 3 _ _ (ok .buffers) (ok .fields) (λ e. rw (same-spent, same-held L (leb-false z.lanes L e)))
+
+      drain-refusal : (L : ℕ) → refusalOf z (drain L) m ≡ firstCause (causesBy z (drain L) h)
+      unfolding refusalOf drainRefusal causesBy badBuffers badRecord badLane
+      drain-refusal L = past-two _ _ (leb z.lanes L) 3 _ _ (ok .buffers) (ok .fields) (λ e. refl)
+
+      pub refusal-by : (c : Call) → refusalOf z c m ≡ refusalBy z c h m
+      unfolding slotsBy
+      refusal-by (log L f) = log-refusal L f
+      refusal-by (redo L) = redo-refusal L ∙ sym (none-full (redo L) refl)
+      refusal-by (validate L f) = validate-refusal L f ∙ sym (none-full (validate L f) refl)
+      refusal-by (mark L) = mark-refusal L
+      refusal-by (drain L) = drain-refusal L ∙ sym (none-full (drain L) refl)
+
+-- ---- the number in the answer
+number-unless : (n : ℕ) (m : Machine) (s : Step) → said (s .answer) .number ≡ 0 → said (unless n m s .answer) .number ≡ n
+unfolding said
+number-unless n m s e = unless-by (λ (t : Step). said (t .answer) .number ≡ n) n m s (λ d. refl) (λ p. e ∙ sym p)
+
+number-cond : (b : Bool) (s t : Step) → said (s .answer) .number ≡ 0 → said (t .answer) .number ≡ 0 → said (cond b s t .answer) .number ≡ 0
+number-cond true s t p q = p
+number-cond false s t p q = q
+
+-- a call answers the number of its refusal
+pub number-is : (z : Sizes) (m : Machine) (c : Call) → said (callStep z c m .answer) .number ≡ refusalOf z c m
+unfolding callStep refusalOf logStep redoStep validateStep markStep drainStep said
+number-is z m (log L f) = number-unless (logRefusal z L f m) m _ (number-cond (eqb (length (writesOn z f m)) 0) _ _ refl refl)
+number-is z m (redo L) = number-unless (redoRefusal z L m) m _ (number-cond (isStale L m) _ _ refl refl)
+number-is z m (validate L f) = number-unless (validateRefusal z L f m) m _ (number-cond (matches z L (writesOn z f m) m) _ _ refl refl)
+number-is z m (mark L) = number-unless (markRefusal z L m) m _ refl
+number-is z m (drain L) = number-unless (drainRefusal z L m) m _ refl

@@ -1,0 +1,133 @@
+-- A start, by Format or a finished recovery: the book's part; and the image that Format makes. Assumes nothing.
+use mathlib.Core.Path.{_≡_, refl, ap, _∙_, sym, subst}
+use mathlib.Core.Bool.{true}
+use mathlib.Core.List.{List, _∷_}
+use Prim.Native.Nat.{ℕ, _+_, _-_, _*_, _%_, _≤_, _<_}
+use native.Mathlib.Omega.{arith}
+use native.Mathlib.Nat.{le-refl}
+use lib.ListN.{length, getD, replicate, length-replicate, getD-replicate}
+use lib.Seq.{take-at, getD-append-add, ext-getD}
+use Rattle.laws.specs.inner.Lists.{none as nil}
+use Rattle.image.specs.Image.{maxLanes, sizesOk, imageLength, baseOf, dataOf, logStart, logOf}
+use Rattle.image.specs.inner.ImageLaws.{sizes-in, getD-log, length-log, buffers-good}
+use Rattle.image.specs.inner.BulkLaws.{getD-zeros}
+use Rattle.image.specs.declared.Sizes.{Sizes}
+use Rattle.log.specs.declared.Timestamp.the-variants.{At}
+use Rattle.record.specs.Record.{startLane, startRecord, laneAt, isLogged, floorOk, phaseOk, recordOk}
+use Rattle.record.specs.inner.RecordLaws.{LaneIn}
+use Rattle.record.specs.declared.Phase.the-variants.{Idle, Holds}
+use Rattle.record.specs.declared.Lane.{Lane}
+use Rattle.record.specs.declared.Logged.{Logged}
+use Rattle.store.specs.Calls.{started, startImage}
+use Rattle.store.specs.inner.FormatLaws.{length-startImage}
+use Rattle.crash.specs.History.{Page, blankPage, pageAt, opened, replay, wordsBelow, present, isSome}
+use Rattle.crash.specs.Theorem.{Live}
+use Rattle.crash.proofs.recovery.Data.{last}
+use Rattle.crash.proofs.history.Lanes.{lane-start}
+use Rattle.crash.proofs.history.Ranges.{RecordRange, record-ranged, stamp-now}
+use Rattle.crash.proofs.history.Agree.{lastOf, Book}
+
+-- ---- the book
+module _ (z : Sizes) (base : ℕ) (image words : List ℕ) (ok : sizesOk z ≡ true)
+    (even : base % 2 ≡ 0) (long : length image ≡ imageLength z) (same : dataOf z image ≡ words) where
+  eight : z.lanes ≤ maxLanes
+  eight = sizes-in z ok .lanes-high
+
+  page-start : (M : ℕ) → M < z.lanes → pageAt (opened z words base) M ≡ blankPage
+  unfolding pageAt opened
+  page-start M i = getD-replicate z.lanes M blankPage blankPage i
+
+  start-range : LaneIn z base startLane
+  unfolding startLane floorOk phaseOk
+  start-range = record { next = let k = sizes-in z ok .slots-low in omega arith; wrap = omega arith; floor = refl; phase = refl }
+
+  eight-lanes : length (startRecord base .lanes) ≡ maxLanes
+  unfolding startRecord
+  eight-lanes = length-replicate maxLanes startLane
+
+  ranges-start : RecordRange z (startRecord base)
+  unfolding startRecord
+  ranges-start = record { even = even; last = stamp-now base even; lanes = λ M i. subst (LaneIn z base) (sym (lane-start z base eight M i)) start-range }
+
+  in-range : recordOk z (startRecord base) ≡ true
+  in-range = record-ranged z (startRecord base) (rw eight-lanes eight) ranges-start
+
+  idle-start : (M : ℕ) → M < z.lanes → laneAt (startRecord base) M .phase ≡ Idle
+  unfolding startLane
+  idle-start M i = ap (λ (l : Lane). l .phase) (lane-start z base eight M i)
+
+  pub none-held : {A : Type 0} (M : ℕ) (g : Logged) → M < z.lanes → laneAt (started z base image .state) M .phase ≡ Holds g → A
+  unfolding started
+  none-held M g i e = absurd (let d = idle-start M i in let z : _≡_ {A = ℕ} 0 1 = cc in omega arith)
+
+  floors-start : (M : ℕ) → M < z.lanes → laneAt (startRecord base) M .floor ≡ pageAt (opened z words base) M .floor
+  unfolding startLane
+  floors-start M i = rw (lane-start z base eight M i, page-start M i)
+
+  held-start : (M : ℕ) → M < z.lanes → isLogged (laneAt (startRecord base) M .phase) ≡ isSome (pageAt (opened z words base) M .held)
+  unfolding startLane isLogged isSome
+  held-start M i = rw (lane-start z base eight M i, page-start M i)
+
+  no-stamp : {A : Type 0} (M s : ℕ) → M < z.lanes → pageAt (opened z words base) M .newest ≡ At s → A
+  no-stamp M s i e =
+      absurd (let d = ap (λ (p : Page). p .newest) (page-start M i) in let z : _≡_ {A = ℕ} 0 1 = cc in omega arith)
+
+  live-start : Live z (opened z words base) (started z base image)
+  unfolding started opened present wordsBelow replay startRecord
+  live-start =
+      record {
+        words = same;
+        clock = refl;
+        floors = floors-start;
+        held = held-start;
+      }
+
+  pub book-start : Book z base (opened z words base) (started z base image)
+  unfolding started opened lastOf startRecord
+  book-start =
+      record {
+        buffers = buffers-good z _ _ _ ok long long (length-replicate (imageLength z) 0);
+        fields = in-range;
+        lanes = rw eight-lanes eight;
+        pages = length-replicate z.lanes blankPage;
+        live = live-start;
+        rising = last;
+        above = nil;
+        upto = nil;
+        low = le-refl base;
+        last = refl;
+        stamps = λ M s i e. no-stamp M s i e;
+        holding = λ M g i e. none-held M g i e;
+      }
+
+-- ---- the image of Format
+module _ (z : Sizes) (start : List ℕ) (words : length start ≡ z.words) where
+  pub image-data : dataOf z (startImage z start) ≡ start
+  unfolding startImage dataOf
+  image-data = take-at start (replicate (2 * z.lanes * z.slots) 0) z.words words
+
+  pub image-base : baseOf (startImage z start) ≡ 0
+  unfolding startImage baseOf
+  image-base = refl
+
+  word-past : (k : ℕ) → getD (startImage z start) (length (0 ∷ start) + k) 0 ≡ 0
+  unfolding startImage
+  word-past k = getD-append-add (0 ∷ start) (replicate (2 * z.lanes * z.slots) 0) k 0 ∙ getD-zeros (2 * z.lanes * z.slots) k
+
+  word-late : (i : ℕ) → 1 + z.words ≤ i → getD (startImage z start) i 0 ≡ 0
+  word-late i h =
+      let e : length (0 ∷ start) + (i - length (0 ∷ start)) ≡ i = omega arith in
+      ap (λ (j : ℕ). getD (startImage z start) j 0) (sym e) ∙ word-past (i - length (0 ∷ start))
+
+  late : (L j : ℕ) → 1 + z.words ≤ logStart z L + j
+  unfolding logStart
+  late L j = omega arith
+
+  pub image-log : (L : ℕ) → L < z.lanes → logOf z L (startImage z start) ≡ replicate (2 * z.slots) 0
+  image-log L h =
+      ext-getD 0 (logOf z L (startImage z start)) (replicate (2 * z.slots) 0) (len ∙ sym (length-replicate (2 * z.slots) 0))
+      (λ j g. let k : j < 2 * z.slots = rw len at g in
+      getD-log z L (startImage z start) j k ∙ word-late (logStart z L + j) (late L j) ∙ sym (getD-zeros (2 * z.slots) j))
+    where
+      len : length (logOf z L (startImage z start)) ≡ 2 * z.slots
+      len = length-log z L (startImage z start) (length-startImage z start words) h

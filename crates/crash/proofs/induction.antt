@@ -1,0 +1,5 @@
+-- The calls as moves, and the theorem from an invariant by induction over the events.
+pub mod Moves
+pub mod Fed
+pub mod Skeleton
+pub mod FromLogs

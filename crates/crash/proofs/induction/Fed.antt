@@ -1,0 +1,86 @@
+-- What the history does with each move, and which calls are taken: one equation a move. Assumes nothing.
+use mathlib.Core.Path.{_≡_, refl}
+use mathlib.Core.Bool.{true, false, not}
+use mathlib.Core.List.{List, [], _∷_}
+use mathlib.Core.Option.{none, some}
+use Prim.Native.Nat.{ℕ, _+_, _<_}
+use lib.ListN.{length}
+use borrow.Author.Tests.{le-leb, lt-leb}
+use Rattle.laws.specs.inner.Tests.{clash}
+use Rattle.txn.specs.Txn.{maxWrites, txnOk}
+use Rattle.image.specs.declared.Sizes.{Sizes}
+use Rattle.record.specs.Record.{laneAt, isLogged, pairsOf}
+use Rattle.record.specs.declared.Phase.the-variants.{Idle}
+use Rattle.store.specs.Machine.{Machine, Step, firstCause, unless, said}
+use Rattle.store.specs.Calls.{badBuffers, badRecord, badLane, drained, writesOn, appended, logged}
+use Rattle.store.specs.Calls.{committed, isStale, redoPairs, matches, drainRefusal, drainStep}
+use Rattle.store.specs.Calls as calls
+use Rattle.store.specs.declared.Answer.{Answer}
+use Rattle.store.specs.declared.Answer.the-variants.{Refused, Done}
+use Rattle.crash.specs.Events.{Call, drain, laneOf, callStep, vandzulge, isTaken}
+use Rattle.crash.specs.History.{History, pageAt, settled, stamped, released, heldBy, isCounted, taken, afterCall}
+use Rattle.crash.proofs.induction.Moves.{Known, Room, Ready, Drains, quiet, late, plain}
+use Rattle.crash.proofs.induction.Moves.{Move, refusing, draining, logging, redoing, validating, giving-up, marking, call-moves}
+
+-- ---- the history
+pub fed-refusing : (c : Call) (n : ℕ) (h : History) → afterCall c (Refused n) h ≡ h
+unfolding afterCall said
+fed-refusing c n h = refl
+
+pub fed-draining : (z : Sizes) (m : Machine) {c : Call} {a : Answer} (h : History) → Drains z m c a → afterCall c a h ≡ settled (laneOf c) h
+unfolding afterCall said taken isCounted laneOf
+fed-draining z m h (quiet L f ok i e) = refl
+fed-draining z m h (late L r t) = refl
+fed-draining z m h (plain L) = refl
+
+-- what each move does to machine and history together: an invariant is kept by calls if it is kept so
+pub record Steps (z : Sizes) (Inv : Machine → History → Type 0) : Type 0 where
+  pub drains : (m : Machine) (h : History) (L : ℕ) → Inv m h → Known z m L → Inv (drained z L m) (settled L h)
+  pub logs : (m : Machine) (h : History) (L : ℕ) (f : List ℕ) → Inv m h → Known z m L → txnOk maxWrites z.words f ≡ true
+      → isLogged (laneAt (m .state) L .phase) ≡ false → 0 < length (writesOn z f m) → Room z m L (length (writesOn z f m) + 1)
+      → Inv (logged z L (writesOn z f m) (drained z L m)) (stamped L (some f) [] (settled L h))
+  pub redoes : (m : Machine) (h : History) (L : ℕ) → Inv m h → Known z m L → Ready m L → isStale L m ≡ false
+      → Inv (committed z L (redoPairs L m) (drained z L m)) (stamped L none (heldBy (pageAt h L .held)) (settled L h))
+  pub validates : (m : Machine) (h : History) (L : ℕ) (f : List ℕ) → Inv m h → Known z m L → txnOk maxWrites z.words f ≡ true
+      → Ready m L → matches z L (writesOn z f m) m ≡ true
+      → Inv (committed z L (pairsOf (length (writesOn z f m)) (writesOn z f m)) (drained z L m)) (stamped L none (f ∷ []) (settled L h))
+  pub gives-up : (m : Machine) (h : History) (L : ℕ) (f : List ℕ) → Inv m h → Known z m L → txnOk maxWrites z.words f ≡ true
+      → Ready m L → matches z L (writesOn z f m) m ≡ false
+      → Inv (calls.released L (drained z L m)) (released L (settled L h))
+  pub marks : (m : Machine) (h : History) (L : ℕ) → Inv m h → Known z m L → Room z m L 1
+      → Inv (appended z L [] Idle (laneAt (m .state) L .redo) (drained z L m)) (stamped L none [] (settled L h))
+
+module _ (z : Sizes) (Inv : Machine → History → Type 0) (steps : Steps z Inv) where
+  by-move : (m : Machine) (h : History) {c : Call} {s : Step} → Move z m c s → Inv m h → Inv (s .machine) (afterCall c (s .answer) h)
+  unfolding afterCall said taken isCounted
+  by-move m h {c} (refusing n e p) v = rw (fed-refusing c n h) v
+  by-move m h (draining k d) v = rw (fed-draining z m h d) (steps .drains m h _ v k)
+  by-move m h (logging L f k ok i p r) v = rw (le-leb 1 (length (writesOn z f m)) p) (steps .logs m h L f v k ok i p r)
+  by-move m h (redoing L k r t) v = steps .redoes m h L v k r t
+  by-move m h (validating L f k ok r t) v = steps .validates m h L f v k ok r t
+  by-move m h (giving-up L f k ok r t) v = steps .gives-up m h L f v k ok r t
+  by-move m h (marking L k r) v = steps .marks m h L v k r
+
+  pub call-by-steps : (m : Machine) (h : History) (c : Call) → Inv m h → Inv (callStep z c m .machine) (afterCall c (callStep z c m .answer) h)
+  call-by-steps m h c v = by-move m h (call-moves z m c) v
+
+-- ---- taken calls
+taken-by : (z : Sizes) (m : Machine) {c : Call} {s : Step} → Move z m c s → not (said (s .answer) .refused) ≡ true → Known z m (laneOf c)
+unfolding said laneOf
+taken-by z m (refusing n e p) t = clash false t refl
+taken-by z m (draining k d) t = k
+taken-by z m (logging L f k ok i p r) t = k
+taken-by z m (redoing L k r u) t = k
+taken-by z m (validating L f k ok r u) t = k
+taken-by z m (giving-up L f k ok r u) t = k
+taken-by z m (marking L k r) t = k
+
+-- a call that is taken has checked buffers, record and lane
+pub taken-known : (z : Sizes) (c : Call) (m : Machine) → isTaken vandzulge z c m ≡ true → Known z m (laneOf c)
+unfolding isTaken vandzulge
+taken-known z c m t = taken-by z m (call-moves z m c) t
+
+-- and then a Drain of its lane is taken
+pub drain-taken : (z : Sizes) (m : Machine) (L : ℕ) → Known z m L → callStep z (drain L) m ≡ record { answer = Done; machine = drained z L m }
+unfolding callStep drainStep drainRefusal badBuffers badRecord badLane firstCause unless
+drain-taken z m L k = rw (k .buffers, k .fields, lt-leb z.lanes L (k .lane))

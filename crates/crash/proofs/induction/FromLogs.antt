@@ -1,0 +1,182 @@
+-- The crash theorem from an invariant of the logs: the book's part and the recovery half put in. What is left are the fields of `LogLaws`. Assumes nothing.
+use mathlib.Core.Path.{_≡_, refl}
+use mathlib.Core.Bool.{true, false}
+use mathlib.Core.List.{List, [], _∷_}
+use mathlib.Core.Option.{none, some}
+use Prim.Native.Nat.{ℕ, _+_, _*_, _%_, _<_}
+use lib.ListN.{length, replicate}
+use Rattle.txn.specs.Txn.{maxWrites, txnOk}
+use Rattle.image.specs.Image.{sizesOk, imageLength, baseOf, dataOf, logOf}
+use Rattle.image.specs.Flush.{writtenBack}
+use Rattle.image.specs.inner.FlushLaws.{length-writtenBack}
+use Rattle.image.specs.declared.Sizes.{Sizes}
+use Rattle.record.specs.Record.{laneAt, isLogged, pairsOf}
+use Rattle.record.specs.declared.Phase.the-variants.{Idle}
+use Rattle.store.specs.Machine.{Machine}
+use Rattle.store.specs.Calls.{started, startImage, drained, writesOn, appended, logged, committed, isStale, redoPairs, matches}
+use Rattle.store.specs.inner.FormatLaws.{length-startImage}
+use Rattle.store.specs.Calls as calls
+use Rattle.recovery.specs.Recovery.{boundary, newBase}
+use Rattle.crash.specs.Events.{vandzulge}
+use Rattle.crash.specs.History.{History, opened, pageAt, wordsBelow, settled, stamped, released, heldBy, restarted, leastFloorOf}
+use Rattle.crash.specs.Theorem.{NotBelow, CrashTheorem}
+use Rattle.recovery.specs.inner.SequenceLaws.{newBase-even}
+use Rattle.recovery.specs.inner.AgainLaws.{recoveredImage}
+use Rattle.recovery.specs.inner.FreshLaws.{recovered-length, recovered-base, recovered-log}
+use Rattle.crash.proofs.recovery.Recovered.{Shows, recovered-right}
+use Rattle.crash.proofs.induction.Moves.{Known, Room, Ready}
+use Rattle.crash.proofs.induction.Fed.{Steps, call-by-steps}
+use Rattle.crash.proofs.history.Agree.{Book, Logs}
+use Rattle.crash.proofs.history.Answers.{answers}
+use Rattle.crash.proofs.history.Books.{book-drains, book-logs, book-marks, book-gives-up, book-validates, book-redoes}
+use Rattle.crash.proofs.history.Start.{book-start, image-data, image-base, image-log}
+use Rattle.crash.proofs.induction.Skeleton.{Laws, crash-theorem-from}
+
+-- ---- the cells when power fails
+pub record AtCut (z : Sizes) (cells : List ℕ) (h : History) : Type 0 where
+  pub size : length cells ≡ imageLength z
+  pub even : baseOf cells % 2 ≡ 0
+  pub shows : Shows z cells (h .start) (h .commits)
+  pub floors : NotBelow (leastFloorOf (h .pages)) (boundary z cells)
+
+-- ---- what is left: an invariant G of base, machine and history
+pub record LogLaws (z : Sizes) (G : ℕ → Machine → History → Type 0) : Type 0 where
+  -- what it says of the cached logs, and of the cells
+  pub logs : (base : ℕ) (m : Machine) (h : History) → Book z base h m → G base m h → Logs z h m
+  pub cuts : (base : ℕ) (m : Machine) (h : History) → Book z base h m → G base m h → AtCut z (m .nvm) h
+  -- a start: logs of 0s
+  pub starts : (base : ℕ) (image words : List ℕ) → base % 2 ≡ 0 → length image ≡ imageLength z → baseOf image ≡ base → dataOf z image ≡ words
+      → ((L : ℕ) → L < z.lanes → logOf z L image ≡ replicate (2 * z.slots) 0)
+      → G base (started z base image) (opened z words base)
+  -- it is kept by write-backs and by each move
+  pub writes : (base : ℕ) (m : Machine) (h : History) (i : ℕ) → Book z base h m → G base m h → i < imageLength z
+      → G base (record { state = m .state; cache = m .cache; nvm = writtenBack i (m .cache) (m .nvm); flags = m .flags }) h
+  pub drains : (base : ℕ) (m : Machine) (h : History) (L : ℕ) → Book z base h m → G base m h → Known z m L → G base (drained z L m) (settled L h)
+  pub appends : (base : ℕ) (m : Machine) (h : History) (L : ℕ) (f : List ℕ) → Book z base h m → G base m h → Known z m L → txnOk maxWrites z.words f ≡ true
+      → isLogged (laneAt (m .state) L .phase) ≡ false → 0 < length (writesOn z f m) → Room z m L (length (writesOn z f m) + 1)
+      → G base (logged z L (writesOn z f m) (drained z L m)) (stamped L (some f) [] (settled L h))
+  pub redoes : (base : ℕ) (m : Machine) (h : History) (L : ℕ) → Book z base h m → G base m h → Known z m L → Ready m L → isStale L m ≡ false
+      → G base (committed z L (redoPairs L m) (drained z L m)) (stamped L none (heldBy (pageAt h L .held)) (settled L h))
+  pub validates : (base : ℕ) (m : Machine) (h : History) (L : ℕ) (f : List ℕ) → Book z base h m → G base m h → Known z m L → txnOk maxWrites z.words f ≡ true
+      → Ready m L → matches z L (writesOn z f m) m ≡ true
+      → G base (committed z L (pairsOf (length (writesOn z f m)) (writesOn z f m)) (drained z L m)) (stamped L none (f ∷ []) (settled L h))
+  pub gives-up : (base : ℕ) (m : Machine) (h : History) (L : ℕ) (f : List ℕ) → Book z base h m → G base m h → Known z m L → txnOk maxWrites z.words f ≡ true
+      → Ready m L → matches z L (writesOn z f m) m ≡ false
+      → G base (calls.released L (drained z L m)) (released L (settled L h))
+  pub marks : (base : ℕ) (m : Machine) (h : History) (L : ℕ) → Book z base h m → G base m h → Known z m L → Room z m L 1
+      → G base (appended z L [] Idle (laneAt (m .state) L .redo) (drained z L m)) (stamped L none [] (settled L h))
+
+-- ---- the whole invariant
+pub record Inv (z : Sizes) (G : ℕ → Machine → History → Type 0) (m : Machine) (h : History) : Type 0 where
+  pub base : ℕ
+  pub book : Book z base h m
+  pub rest : G base m h
+
+module _ (z : Sizes) (ok : sizesOk z ≡ true) (G : ℕ → Machine → History → Type 0) (laws : LogLaws z G) where
+  says : (m : Machine) (h : History) (v : Inv z G m h) → Logs z h m
+  says m h v = laws .logs (v .base) m h (v .book) (v .rest)
+
+  steps : Steps z (Inv z G)
+  steps =
+      record {
+        drains = λ m h L v k.
+            record { base = v .base; book = book-drains z (v .base) h m (v .book) (says m h v) L k; rest = laws .drains (v .base) m h L (v .book) (v .rest) k };
+        logs = λ m h L f v k t i p r.
+            record {
+              base = v .base;
+              book = book-logs z (v .base) h m (v .book) (says m h v) L k f t p;
+              rest = laws .appends (v .base) m h L f (v .book) (v .rest) k t i p r;
+            };
+        redoes = λ m h L v k y t.
+            record {
+              base = v .base;
+              book = book-redoes z (v .base) h m (v .book) (says m h v) L k y t;
+              rest = laws .redoes (v .base) m h L (v .book) (v .rest) k y t;
+            };
+        validates = λ m h L f v k t y e.
+            record {
+              base = v .base;
+              book = book-validates z (v .base) h m (v .book) (says m h v) L k y f t;
+              rest = laws .validates (v .base) m h L f (v .book) (v .rest) k t y e;
+            };
+        gives-up = λ m h L f v k t y e.
+            record {
+              base = v .base;
+              book = book-gives-up z (v .base) h m (v .book) (says m h v) L k;
+              rest = laws .gives-up (v .base) m h L f (v .book) (v .rest) k t y e;
+            };
+        marks = λ m h L v k r.
+            record { base = v .base; book = book-marks z (v .base) h m (v .book) (says m h v) L k; rest = laws .marks (v .base) m h L (v .book) (v .rest) k r };
+      }
+
+  -- a start is one of the book and of the logs
+  fresh : (base : ℕ) (image words : List ℕ) → base % 2 ≡ 0 → length image ≡ imageLength z → baseOf image ≡ base → dataOf z image ≡ words
+      → ((L : ℕ) → L < z.lanes → logOf z L image ≡ replicate (2 * z.slots) 0) → Inv z G (started z base image) (opened z words base)
+  fresh base image words even long at same blank =
+      record { base = base; book = book-start z base image words ok even long same; rest = laws .starts base image words even long at same blank }
+
+  written : (m : Machine) (h : History) (i : ℕ) (v : Inv z G m h)
+      → Book z (v .base) h (record { state = m .state; cache = m .cache; nvm = writtenBack i (m .cache) (m .nvm); flags = m .flags })
+  written m h i v =
+      let b = v .book in
+      record {
+        buffers = rw (length-writtenBack i (m .cache) (m .nvm)) (b .buffers);
+        fields = b .fields;
+        lanes = b .lanes;
+        pages = b .pages;
+        live = record { words = b .live .words; clock = b .live .clock; floors = b .live .floors; held = b .live .held };
+        rising = b .rising;
+        above = b .above;
+        upto = b .upto;
+        low = b .low;
+        last = b .last;
+        stamps = b .stamps;
+        holding = λ L g i e.
+            let x = b .holding L g i e in
+            record {
+              txn = x .txn;
+              held = x .held;
+              ok = x .ok;
+              newest = x .newest;
+              above = x .above;
+              upto = x .upto;
+              apart = x .apart;
+              count = x .count;
+              redo = x .redo;
+            };
+      }
+
+  restarted-so : (cells : List ℕ) (h : History) → AtCut z cells h → Inv z G (started z (newBase z cells) (recoveredImage z cells)) (restarted z cells h)
+  unfolding restarted wordsBelow
+  restarted-so cells h a =
+      fresh (newBase z cells) (recoveredImage z cells) (wordsBelow z (boundary z cells) h) (newBase-even z cells (a .even)) (recovered-length z cells (a .size))
+      (recovered-base z cells (a .size)) (recovered-right z cells (h .start) (h .commits) (a .shows)) (λ L i. recovered-log z cells (a .size) L i)
+
+  words-so : (cells : List ℕ) (h : History) → AtCut z cells h → dataOf z (recoveredImage z cells) ≡ wordsBelow z (boundary z cells) h
+  unfolding wordsBelow
+  words-so cells h a = recovered-right z cells (h .start) (h .commits) (a .shows)
+
+  zero-even : _≡_ {A = ℕ} (0 % 2) 0
+  zero-even = refl
+
+  pub all-laws : Laws z (Inv z G) (AtCut z)
+  all-laws =
+      record {
+        formats = λ start e. fresh 0 (startImage z start) start zero-even (length-startImage z start e) (image-base z start e) (image-data z start e)
+            (λ L i. image-log z start e L i);
+        lives = λ m h v. v .book .live;
+        buffers = λ m h v. v .book .buffers;
+        calls = call-by-steps z (Inv z G) steps;
+        answers = λ m h c v. answers z (v .base) h m (v .book) (says m h v) c;
+        writes = λ m h i v l. record { base = v .base; book = written m h i v; rest = laws .writes (v .base) m h i (v .book) (v .rest) l };
+        cuts = λ m h v. laws .cuts (v .base) m h (v .book) (v .rest);
+        size = λ cells h a. a .size;
+        even = λ cells h a. a .even;
+        words = words-so;
+        floors = λ cells h a. a .floors;
+        restarts = restarted-so;
+      }
+
+-- the crash theorem, from the logs' laws
+pub crash-theorem-by-logs : (G : Sizes → ℕ → Machine → History → Type 0) → ((z : Sizes) → sizesOk z ≡ true → LogLaws z (G z)) → CrashTheorem vandzulge
+crash-theorem-by-logs G laws = crash-theorem-from (λ z. Inv z (G z)) AtCut (λ z ok. all-laws z ok (G z) (laws z ok))

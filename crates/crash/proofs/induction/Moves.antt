@@ -1,0 +1,185 @@
+-- Every call is one of seven moves, with the facts that it has checked: an invariant goes by cases on the move and opens no step. Assumes nothing.
+use mathlib.Core.Path.{_≡_, refl}
+use mathlib.Core.Bool.{Bool, true, false, cond, not, _&&_}
+use mathlib.Core.List.{List, [], _∷_}
+use Prim.Native.Nat.{ℕ, suc, _+_, _<_}
+use native.Mathlib.Omega.{arith}
+use lib.Dec.{eqb, leb}
+use lib.ListN.{length}
+use borrow.Author.Tests.{eqb-true, eqb-false, leb-false, not-false, le-leb}
+use Rattle.laws.specs.inner.Tests.{split, clash}
+use Rattle.txn.specs.Txn.{maxWrites, txnOk}
+use Rattle.image.specs.Image.{buffersOk}
+use Rattle.image.specs.declared.Sizes.{Sizes}
+use Rattle.record.specs.Record.{laneAt, isLogged, recordOk, spent, pairsOf}
+use Rattle.record.specs.declared.Phase.the-variants.{Idle}
+use Rattle.store.specs.Machine.{Machine, Step, Cause, firstCause, unless}
+use Rattle.store.specs.Calls.{badBuffers, badRecord, badLane, badTxn, notLogged, clockSpent, drained, wouldHit, writesOn}
+use Rattle.store.specs.Calls.{appended, logged, committed, isStale, redoPairs, matches, released, drainRefusal, drainStep}
+use Rattle.store.specs.Calls.{logRefusal, logStep, redoRefusal, redoStep, validateRefusal, validateStep, markRefusal, markStep}
+use Rattle.store.specs.declared.Answer.{Answer}
+use Rattle.store.specs.declared.Answer.the-variants.{Refused, Done, NoWrites, Logged, Committed, Stale, Changed, Marked}
+use Rattle.crash.specs.Events.{Call, log, redo, validate, mark, drain, laneOf, callStep}
+
+-- ---- what a call has checked
+-- every call that is not refused: causes 1, 2 and 3 do not hold
+pub record Known (z : Sizes) (m : Machine) (L : ℕ) : Type 0 where
+  pub buffers : buffersOk z (length (m .cache)) (length (m .nvm)) (length (m .flags)) ≡ true
+  pub fields : recordOk z (m .state) ≡ true
+  pub lane : L < z.lanes
+
+-- an append of n slots: causes 8 and 9 do not hold
+pub record Room (z : Sizes) (m : Machine) (L n : ℕ) : Type 0 where
+  pub clock : spent (m .state) ≡ false
+  pub slots : wouldHit z L n m ≡ false
+
+-- a commit or a Validate: causes 7 and 8 do not hold
+pub record Ready (m : Machine) (L : ℕ) : Type 0 where
+  pub held : isLogged (laneAt (m .state) L .phase) ≡ true
+  pub clock : spent (m .state) ≡ false
+
+-- the number of a call's refusal, 0 where it is none
+unfoldable pub refusalOf : Sizes → Call → Machine → ℕ
+refusalOf z (log L f) m = logRefusal z L f m
+refusalOf z (redo L) m = redoRefusal z L m
+refusalOf z (validate L f) m = validateRefusal z L f m
+refusalOf z (mark L) m = markRefusal z L m
+refusalOf z (drain L) m = drainRefusal z L m
+
+-- ---- the moves
+-- the calls that only drain: a Log that writes nothing, a Redo that is stale, a Drain
+pub data Drains (z : Sizes) (m : Machine) : Call → Answer → Type 0 where
+  quiet : (L : ℕ) (f : List ℕ) → txnOk maxWrites z.words f ≡ true → isLogged (laneAt (m .state) L .phase) ≡ false → length (writesOn z f m) ≡ 0
+      → Drains z m (log L f) NoWrites
+  late : (L : ℕ) → Ready m L → isStale L m ≡ true → Drains z m (redo L) Stale
+  plain : (L : ℕ) → Drains z m (drain L) Done
+
+pub data Move (z : Sizes) (m : Machine) : Call → Step → Type 0 where
+  refusing : {c : Call} (n : ℕ) → refusalOf z c m ≡ n → (n ≡ 0 → ⊥) → Move z m c (record { answer = Refused n; machine = m })
+  draining : {c : Call} {a : Answer} → Known z m (laneOf c) → Drains z m c a → Move z m c (record { answer = a; machine = drained z (laneOf c) m })
+  logging : (L : ℕ) (f : List ℕ) → Known z m L → txnOk maxWrites z.words f ≡ true → isLogged (laneAt (m .state) L .phase) ≡ false
+      → 0 < length (writesOn z f m) → Room z m L (length (writesOn z f m) + 1)
+      → Move z m (log L f)
+      (record {
+        answer = Logged (record { count = length (writesOn z f m); stamp = m .state .clock + 2 });
+        machine = logged z L (writesOn z f m) (drained z L m);
+      })
+  redoing : (L : ℕ) → Known z m L → Ready m L → isStale L m ≡ false
+      → Move z m (redo L) (record { answer = Committed (m .state .clock + 2); machine = committed z L (redoPairs L m) (drained z L m) })
+  validating : (L : ℕ) (f : List ℕ) → Known z m L → txnOk maxWrites z.words f ≡ true → Ready m L → matches z L (writesOn z f m) m ≡ true
+      → Move z m (validate L f)
+      (record {
+        answer = Committed (m .state .clock + 2);
+        machine = committed z L (pairsOf (length (writesOn z f m)) (writesOn z f m)) (drained z L m);
+      })
+  giving-up : (L : ℕ) (f : List ℕ) → Known z m L → txnOk maxWrites z.words f ≡ true → Ready m L → matches z L (writesOn z f m) m ≡ false
+      → Move z m (validate L f) (record { answer = Changed; machine = released L (drained z L m) })
+  marking : (L : ℕ) → Known z m L → Room z m L 1
+      → Move z m (mark L)
+      (record {
+        answer = Marked (record { stamp = m .state .clock + 2; dropped = isLogged (laneAt (m .state) L .phase) });
+        machine = appended z L [] Idle (laneAt (m .state) L .redo) (drained z L m);
+      })
+
+-- ---- refusals
+-- no cause holds: not the first, and none of the rest
+pub none-holds : (b : Bool) (n : ℕ) (cs : List Cause) → firstCause (record { number = suc n; holds = b } ∷ cs) ≡ 0 → (b ≡ false) × (firstCause cs ≡ 0)
+unfolding firstCause
+none-holds true n cs e = absurd (omega arith)
+none-holds false n cs e = (refl, e)
+
+pub unless-by : (P : Step → Type 0) (n : ℕ) (m : Machine) (s : Step)
+    → ((n ≡ 0 → ⊥) → P (record { answer = Refused n; machine = m })) → (n ≡ 0 → P s) → P (unless n m s)
+unfolding unless
+unless-by P n m s r f = split (eqb n 0) (λ e. rw e (f (eqb-true n 0 e))) (λ e. rw e (r (eqb-false n 0 e)))
+
+pub cond-by : {A : Type 0} (P : A → Type 0) (b : Bool) (x y : A) → (b ≡ true → P x) → (b ≡ false → P y) → P (cond b x y)
+cond-by P true x y f g = f refl
+cond-by P false x y f g = g refl
+
+rest : (a b : Bool) → a ≡ true → (a && b) ≡ false → b ≡ false
+rest true b p q = q
+rest false b p q = clash false p refl
+
+positive : (n : ℕ) → (n ≡ 0 → ⊥) → 0 < n
+positive n h = omega arith
+
+-- ---- each call
+module _ (z : Sizes) (m : Machine) (L : ℕ) where
+  -- causes 1, 2 and 3, and what is left of the list
+  first-three : (cs : List Cause)
+      → firstCause (record { number = 1; holds = not (buffersOk z (length (m .cache)) (length (m .nvm)) (length (m .flags))) }
+      ∷ record { number = 2; holds = not (recordOk z (m .state)) } ∷ record { number = 3; holds = leb z.lanes L } ∷ cs) ≡ 0
+      → Known z m L × (firstCause cs ≡ 0)
+  first-three cs e =
+      let c₁ = none-holds _ _ _ e in
+      let c₂ = none-holds _ _ _ (c₁ .1) in
+      let c₃ = none-holds _ _ _ (c₂ .1) in
+      (record { buffers = not-false _ (c₁ .0); fields = not-false _ (c₂ .0); lane = leb-false z.lanes L (c₃ .0) }, c₃ .1)
+
+  pub drain-moves : Move z m (drain L) (drainStep z L m)
+  unfolding drainStep drainRefusal badBuffers badRecord badLane refusalOf laneOf
+  drain-moves = unless-by (Move z m (drain L)) _ m _ (refusing _ refl) (λ e. draining (first-three _ e .0) (plain L))
+
+  pub redo-moves : Move z m (redo L) (redoStep z L m)
+  unfolding redoStep redoRefusal badBuffers badRecord badLane notLogged clockSpent refusalOf laneOf
+  redo-moves =
+      unless-by (Move z m (redo L)) _ m _ (refusing _ refl)
+      (λ e.
+      let k = first-three _ e in
+      let c₇ = none-holds _ _ _ (k .1) in
+      let c₈ = none-holds _ _ _ (c₇ .1) in
+      let r : Ready m L = record { held = not-false (isLogged (laneAt (m .state) L .phase)) (c₇ .0); clock = c₈ .0 } in
+      cond-by (Move z m (redo L)) (isStale L m) _ _ (λ t. draining (k .0) (late L r t)) (λ t. redoing L (k .0) r t))
+
+  pub mark-moves : Move z m (mark L) (markStep z L m)
+  unfolding markStep markRefusal badBuffers badRecord badLane clockSpent refusalOf
+  mark-moves =
+      unless-by (Move z m (mark L)) _ m _ (refusing _ refl)
+      (λ e.
+      let k = first-three _ e in
+      let c₈ = none-holds _ _ _ (k .1) in
+      let c₉ = none-holds _ _ _ (c₈ .1) in
+      marking L (k .0) (record { clock = c₈ .0; slots = c₉ .0 }))
+
+  module _ (f : List ℕ) where
+    pub log-moves : Move z m (log L f) (logStep z L f m)
+    unfolding logStep logRefusal badBuffers badRecord badLane badTxn refusalOf laneOf
+    log-moves =
+        unless-by (Move z m (log L f)) _ m _ (refusing _ refl)
+        (λ e.
+        let k = first-three _ e in
+        let c₅ = none-holds _ _ _ (k .1) in
+        let c₆ = none-holds _ _ _ (c₅ .1) in
+        let c₈ = none-holds _ _ _ (c₆ .1) in
+        let c₉ = none-holds _ _ _ (c₈ .1) in
+        let ok = not-false (txnOk maxWrites z.words f) (c₅ .0) in
+        cond-by (Move z m (log L f)) (eqb n 0) _ _ (λ t. draining (k .0) (quiet L f ok (c₆ .0) (eqb-true n 0 t)))
+        (λ t.
+        let p : 0 < n = positive n (eqb-false n 0 t) in
+        logging L f (k .0) ok (c₆ .0) p
+        (record { clock = rest (leb 1 n) _ (le-leb 1 n p) (c₈ .0); slots = rest (leb 1 n) _ (le-leb 1 n p) (c₉ .0) })))
+      where
+        n : ℕ
+        n = length (writesOn z f m)
+
+    pub validate-moves : Move z m (validate L f) (validateStep z L f m)
+    unfolding validateStep validateRefusal badBuffers badRecord badLane badTxn notLogged clockSpent refusalOf
+    validate-moves =
+        unless-by (Move z m (validate L f)) _ m _ (refusing _ refl)
+        (λ e.
+        let k = first-three _ e in
+        let c₅ = none-holds _ _ _ (k .1) in
+        let c₇ = none-holds _ _ _ (c₅ .1) in
+        let c₈ = none-holds _ _ _ (c₇ .1) in
+        let ok = not-false (txnOk maxWrites z.words f) (c₅ .0) in
+        let r : Ready m L = record { held = not-false (isLogged (laneAt (m .state) L .phase)) (c₇ .0); clock = c₈ .0 } in
+        cond-by (Move z m (validate L f)) (matches z L (writesOn z f m) m) _ _ (λ t. validating L f (k .0) ok r t) (λ t. giving-up L f (k .0) ok r t))
+
+pub call-moves : (z : Sizes) (m : Machine) (c : Call) → Move z m c (callStep z c m)
+unfolding callStep
+call-moves z m (log L f) = log-moves z m L f
+call-moves z m (redo L) = redo-moves z m L
+call-moves z m (validate L f) = validate-moves z m L f
+call-moves z m (mark L) = mark-moves z m L
+call-moves z m (drain L) = drain-moves z m L

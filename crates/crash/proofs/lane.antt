@@ -1,0 +1,22 @@
+-- One lane's log, its ghost history, and what a cut shows of it; then all lanes.
+pub mod Absolute
+pub mod Ghost
+pub mod Found
+pub mod Room
+pub mod Window
+pub mod Regions
+pub mod Seqs
+pub mod Append
+pub mod Memory
+pub mod Restamp
+pub mod View
+pub mod Shown
+pub mod Latest
+pub mod Written
+pub mod Shape
+pub mod Log
+pub mod Others
+pub mod Reads
+pub mod Cut
+pub mod Running
+pub mod RunningCut

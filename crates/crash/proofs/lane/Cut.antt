@@ -1,0 +1,298 @@
+-- One lane at a cut: its log in non-volatile memory shows the present history or that of the last drain. So all that is found there is of one of the
+-- two, the lane gives its newest timestamp of one of the two to the boundary, never below its floor, and the sequences that stand whole are found.
+-- Assumes nothing.
+use mathlib.Core.Path.{_≡_, refl, ap, _∙_, sym, subst}
+use mathlib.Core.Logic.{_⊎_, inl, inr}
+use mathlib.Core.List.{List, [], _∷_, _++_}
+use Prim.Native.Nat.{ℕ, suc, _≤_, _<_}
+use native.Mathlib.Omega.{arith}
+use native.Mathlib.Nat.{le-refl}
+use lib.ListN.{length, set, length-set}
+use Rattle.laws.specs.inner.Lists.{All, All-map}
+use Rattle.image.specs.Image.{baseOf, logOf}
+use Rattle.image.specs.inner.ImageLaws.{InRange}
+use Rattle.image.specs.declared.Sizes.{Sizes}
+use Rattle.log.specs.Log.{Old, Complete, completeBelow, completeIn, latest, latestIn, contribution}
+use Rattle.log.specs.declared.Timestamp.{Timestamp}
+use Rattle.log.specs.declared.Timestamp.the-variants.{None, At}
+use Rattle.record.specs.Record.{laneAt}
+use Rattle.store.specs.Machine.{Machine}
+use Rattle.crash.specs.History.{floorOr}
+use Rattle.crash.specs.Theorem.{NotBelow, noBoundary, atLeast}
+use Rattle.laws.specs.inner.Members.{In, here, there, in-cases, In-All}
+use Rattle.recovery.specs.inner.BoundaryLaws.{latest-above, latest-in}
+use Rattle.crash.proofs.lane.Ghost.{Past, sta}
+use Rattle.crash.proofs.lane.Seqs.{Seq, Hist, Since, level, grown, sealed, next, restamped, pastOf, length-new, stands, newest-end}
+use Rattle.crash.proofs.lane.Memory.{mix-log}
+use Rattle.crash.proofs.lane.View.{View, present, former, view}
+use Rattle.crash.proofs.lane.Shown.{Shown, Listed, shown-found, shown-there}
+use Rattle.crash.proofs.lane.Written.{Falls, onto, Written, Whole, foundAs, newestIn, newest-stamp, newest-whole, shown-nothing, shown-latest}
+use Rattle.crash.proofs.lane.Shape.{Shape}
+use Rattle.crash.proofs.lane.Log.{Track, LaneLog}
+
+-- a log shows the present history or the former, both exact as far as the former goes
+pub data CutLog (z : Sizes) (log : List ℕ) (prior hist : List Past) (priors gs : List Seq) : Type 0 where
+  now : Shown z log hist gs (length prior) → CutLog z log prior hist priors gs
+  before : Shown z log prior priors (length prior) → CutLog z log prior hist priors gs
+
+-- a whole sequence of the present history at a cut: found; found with its logged timestamp, which then is the lane's latest; or just appended
+pub data CutFound (N L : ℕ) (qs : List Complete) (priors gs : List Seq) (g : Seq) : Type 0 where
+  itself : In (foundAs N L g) qs → CutFound N L qs priors gs g
+  logged : (s : ℕ) → s < g .stamp → contribution (latest qs) ≡ At s → In (foundAs N L (restamped s g)) qs → CutFound N L qs priors gs g
+  unseen : gs ≡ g ∷ priors → CutFound N L qs priors gs g
+
+-- the newest sequence, g, at a cut, where it is drained or committed: found with its timestamp or its logged one, and the lane's latest
+pub record CutNewest (N L : ℕ) (qs : List Complete) (g : Seq) : Type 0 where
+  pub stamp : ℕ
+  pub upto : stamp ≤ g .stamp
+  pub found : In (foundAs N L (restamped stamp g)) qs
+  pub latest : contribution (latest qs) ≡ At stamp
+
+-- none of falling timestamps is above the first
+falls-top : {g : Seq} {gs : List Seq} (f : Seq) → Falls (g ∷ gs) → In f (g ∷ gs) → f .stamp ≤ g .stamp
+falls-top f (onto a h) here = le-refl (f .stamp)
+falls-top {g} f (onto a h) (there i) = let b : f .stamp < g .stamp = In-All a i in omega arith
+
+-- a found sequence as one of a history
+abbrev asSeq : Complete → ℕ → Seq
+asSeq q e = record { entries = q .entries; stamp = q .stamp; end = e }
+
+-- of one sequence, that or nothing is found
+latest-one : (N : ℕ) (g : Seq) (qs : List Complete) → All (Listed N (g ∷ [])) qs
+    → (contribution (latest qs) ≡ At (g .stamp)) ⊎ (contribution (latest qs) ≡ None)
+latest-one N g qs k = go (contribution (latest qs)) refl
+  where
+    fits : (q : Complete) (e : ℕ) → (asSeq q e ≡ g) ⊎ In (asSeq q e) [] → q .stamp ≡ g .stamp
+    fits q e (inl p) = ap (λ (x : Seq). x .stamp) p
+    fits q e (inr i) = absurd (elim i [ ])
+
+    go : (c : Timestamp) → contribution (latest qs) ≡ c → (contribution (latest qs) ≡ At (g .stamp)) ⊎ (contribution (latest qs) ≡ None)
+    go None e = inr e
+    go (At m) e =
+        let b = latest-in qs m e in
+        let n = In-All k (b .found) in
+        inl (e ∙ ap At (sym (b .stamp) ∙ fits (b .by) (n .end) (in-cases (n .among))))
+
+-- where the second newest is found, that or the newest is the latest
+latest-two : (N L : ℕ) (g f : Seq) (gs : List Seq) (qs : List Complete) → All (Listed N (g ∷ f ∷ gs)) qs → Falls (f ∷ gs) → In (foundAs N L f) qs
+    → (contribution (latest qs) ≡ At (g .stamp)) ⊎ (contribution (latest qs) ≡ At (f .stamp))
+latest-two N L g f gs qs k fl i =
+    let t = latest-above i in
+    let b = latest-in qs (t .stamp) (t .is) in
+    let n = In-All k (b .found) in
+    go (t .stamp) (b .by) (n .end) (in-cases (n .among)) (t .is) (b .stamp) (t .least)
+  where
+    go : (m : ℕ) (q : Complete) (e : ℕ) → (asSeq q e ≡ g) ⊎ In (asSeq q e) (f ∷ gs) → contribution (latest qs) ≡ At m → q .stamp ≡ m → f .stamp ≤ m
+        → (contribution (latest qs) ≡ At (g .stamp)) ⊎ (contribution (latest qs) ≡ At (f .stamp))
+    go m q e (inl p) c d l = inl (c ∙ ap At (sym d ∙ ap (λ (x : Seq). x .stamp) p))
+    go m q e (inr j) c d l =
+        let top : q .stamp ≤ f .stamp = falls-top (asSeq q e) fl j in
+        inr (c ∙ ap At (let w : m ≡ f .stamp = omega arith in w))
+
+module _ (z : Sizes) (r : InRange z) (log : List ℕ) (base L : ℕ) where
+  abbrev qs : List Complete
+  qs = completeBelow z.words z.slots base log L z.slots
+
+  -- ---- a history that is shown whole
+  shown-newest : (h : List Past) {gs : List Seq} {u : ℕ} → Shown z log h gs u → Falls gs → All (λ g. base < g .stamp) gs → length h ≤ u
+      → contribution (latest qs) ≡ newestIn gs
+  unfolding latest contribution newestIn
+  shown-newest h {gs = []} s f a l = ap (λ q. contribution (latest q)) (shown-nothing z r log h base L s)
+  shown-newest h {gs = g ∷ gs} s f a l =
+      let e = shown-latest z r log h base L s f (newest-whole z r (s .history))
+      (omega (arith, stands z.words z.slots (s .history) here .below)) (In-All a here) in
+      ap contribution e ∙ newest-stamp z.slots (g ∷ gs)
+
+  newest-there : (h : List Past) {g : Seq} {gs : List Seq} {u : ℕ} → Shown z log h (g ∷ gs) u → base < g .stamp → length h ≤ u → In (foundAs z.slots L g) qs
+  newest-there h {g = g} s a l =
+      shown-there z (r .words-high) (r .slots-low) s base L g here
+      (newest-whole z r (s .history)) (omega (arith, stands z.words z.slots (s .history) here .below)) a
+
+  -- ---- one that has just grown: the new sequence, or the newest before
+  module _ (h : List Past) (es : List Old) (t : ℕ) {gs : List Seq} (H : Hist z.words z.slots h gs)
+      (s : Shown z log (h ++ pastOf es t) (next h es t ∷ gs) (length h))
+      (f : Falls (next h es t ∷ gs)) (a : All (λ g. base < g .stamp) (next h es t ∷ gs)) where
+    known : All (Listed z.slots (next h es t ∷ gs)) qs
+    known = shown-found z (r .words-high) (r .slots-low) s base L
+
+    grown-there : (g : Seq) → In g gs → Whole z.slots (h ++ pastOf es t) g → In (foundAs z.slots L g) qs
+    grown-there g i w =
+        shown-there z (r .words-high) (r .slots-low) s base L g (there i) w (stands z.words z.slots H i .below) (In-All a (there i))
+
+  grown-latest : (h : List Past) (es : List Old) (t : ℕ) {gs : List Seq} → Hist z.words z.slots h gs
+      → Shown z log (h ++ pastOf es t) (next h es t ∷ gs) (length h) → Falls (next h es t ∷ gs) → All (λ g. base < g .stamp) (next h es t ∷ gs)
+      → (contribution (latest qs) ≡ At t) ⊎ (contribution (latest qs) ≡ newestIn gs)
+  unfolding newestIn
+  grown-latest h es t {gs = []} H s f a = latest-one z.slots (next h es t) qs (known h es t H s f a)
+  grown-latest h es t {gs = g ∷ gs} H s (onto b f) a =
+      let k = known h es t H s (onto b f) a in
+      let n = stands z.words z.slots H here in
+      let few = stands z.words z.slots (s .history) here .ok .few in
+      latest-two z.slots L (next h es t) g gs qs k f
+      (grown-there h es t H s (onto b f) a g here (omega (arith, length-new h es t, newest-end z.words z.slots H, n .ok .few, few, r .slots-low)))
+
+  -- ---- at a cut
+  module _ (clock : ℕ) (cached was : List ℕ) where
+    cut-latest : {prior hist : List Past} {priors gs : List Seq} → Since prior hist priors gs → Written z base clock cached hist gs
+        → Written z base clock was prior priors
+        → CutLog z log prior hist priors gs → (contribution (latest qs) ≡ newestIn gs) ⊎ (contribution (latest qs) ≡ newestIn priors)
+    unfolding newestIn
+    cut-latest {prior = prior} c n b (before s) = inr (shown-newest prior s (b .falls) (b .above) (le-refl (length prior)))
+    cut-latest (level {h = h}) n b (now s) = inl (shown-newest h s (n .falls) (n .above) (le-refl (length h)))
+    cut-latest (grown {h = h} es t) n b (now s) = grown-latest h es t (b .history) s (n .falls) (n .above)
+    cut-latest (sealed {h = h} g c up) n b (now s) =
+        inl (shown-newest (set h (g .end) (sta (length (g .entries)) c)) s (n .falls)
+        (n .above) (omega (arith, length-set h (g .end) (sta (length (g .entries)) c))))
+
+    -- a whole sequence that is shown exactly
+    exact-there : (h : List Past) {gs : List Seq} {u : ℕ}
+        → Shown z log h gs u → All (λ g. base < g .stamp) gs → {g : Seq} → In g gs → Whole z.slots h g → g .end < u
+        → In (foundAs z.slots L g) qs
+    exact-there h s a {g} i w l = shown-there z (r .words-high) (r .slots-low) s base L g i w l (In-All a i)
+
+    cut-found : {prior hist : List Past} {priors gs : List Seq} → Since prior hist priors gs → Written z base clock cached hist gs
+        → Written z base clock was prior priors
+        → CutLog z log prior hist priors gs → {g : Seq} → In g gs → Whole z.slots hist g → CutFound z.slots L qs priors gs g
+    unfolding newestIn
+    cut-found (level {h = h}) n b (now s) {g} i w = itself (exact-there h s (n .above) i w (stands z.words z.slots (n .history) i .below))
+    cut-found (level {h = h}) n b (before s) {g} i w = itself (exact-there h s (n .above) i w (stands z.words z.slots (n .history) i .below))
+    cut-found (grown es t) n b v here w = unseen refl
+    cut-found (grown {h = h} es t) n b (now s) {g} (there i) w =
+        itself (exact-there (h ++ pastOf es t) s (n .above) (there i) w (stands z.words z.slots (b .history) i .below))
+    cut-found (grown {h = h} es t) n b (before s) {g} (there i) w =
+        itself (exact-there h s (b .above) i (omega (arith, length-new h es t)) (stands z.words z.slots (b .history) i .below))
+    cut-found (sealed {h = h} f c up) n b (now s) {g} i w =
+        itself
+        (exact-there (set h (f .end) (sta (length (f .entries)) c)) s (n .above) i w
+        (omega (arith, length-set h (f .end) (sta (length (f .entries)) c), stands z.words z.slots (n .history) i .below)))
+    cut-found (sealed {h = h} f c up) n b (before s) here w =
+        logged (f .stamp) up (shown-newest h s (b .falls) (b .above) (le-refl (length h))) (newest-there h s (In-All (b .above) here) (le-refl (length h)))
+    cut-found (sealed {h = h} f c up) n b (before s) {g} (there i) w =
+        itself (exact-there h s (b .above) (there i) (omega (arith, length-set h (f .end) (sta (length (f .entries)) c)))
+        (stands z.words z.slots (b .history) (there i) .below))
+
+    cut-newest : {prior hist : List Past} {priors rest : List Seq} {g : Seq} → Since prior hist priors (g ∷ rest) → Written z base clock cached hist (g ∷ rest)
+        → Written z base clock was prior priors → CutLog z log prior hist priors (g ∷ rest) → length priors ≡ suc (length rest) → CutNewest z.slots L qs g
+    unfolding newestIn
+    cut-newest {g = g} (level {h = h}) n b (now s) e =
+        record {
+          stamp = g .stamp;
+          upto = le-refl (g .stamp);
+          found = newest-there h s (In-All (n .above) here) (le-refl (length h));
+          latest = shown-newest h s (n .falls) (n .above) (le-refl (length h));
+        }
+    cut-newest {g = g} (level {h = h}) n b (before s) e =
+        record {
+          stamp = g .stamp;
+          upto = le-refl (g .stamp);
+          found = newest-there h s (In-All (n .above) here) (le-refl (length h));
+          latest = shown-newest h s (n .falls) (n .above) (le-refl (length h));
+        }
+    cut-newest (grown es t) n b v e = absurd (omega arith)
+    cut-newest (sealed {h = h} f c up) n b (now s) e =
+        let k : length (set h (f .end) (sta (length (f .entries)) c)) ≤ length h = omega (arith, length-set h (f .end) (sta (length (f .entries)) c)) in
+        record {
+          stamp = c;
+          upto = le-refl c;
+          found = newest-there (set h (f .end) (sta (length (f .entries)) c)) s (In-All (n .above) here) k;
+          latest = shown-newest (set h (f .end) (sta (length (f .entries)) c)) s (n .falls) (n .above) k;
+        }
+    cut-newest (sealed {h = h} f c up) n b (before s) e =
+        record {
+          stamp = f .stamp;
+          upto = omega arith;
+          found = newest-there h s (In-All (b .above) here) (le-refl (length h));
+          latest = shown-newest h s (b .falls) (b .above) (le-refl (length h));
+        }
+
+    -- ---- the floor
+    -- the newest of the last drain is not above the newest now
+    cut-floor : {prior hist : List Past} {priors gs : List Seq} → Since prior hist priors gs → Written z base clock cached hist gs → (c : Timestamp)
+        → (c ≡ newestIn gs) ⊎ (c ≡ newestIn priors) → NotBelow (floorOr (newestIn priors) (newestIn gs)) c
+    unfolding newestIn floorOr
+    cut-floor (level {gs = []}) n c (inl e) = rw e noBoundary
+    cut-floor (level {gs = []}) n c (inr e) = rw e noBoundary
+    cut-floor (level {gs = g ∷ gs}) n c (inl e) = rw e (atLeast (le-refl (g .stamp)))
+    cut-floor (level {gs = g ∷ gs}) n c (inr e) = rw e (atLeast (le-refl (g .stamp)))
+    cut-floor (grown {gs = []} es t) n c (inl e) = rw e (atLeast (le-refl t))
+    cut-floor (grown {gs = []} es t) n c (inr e) = rw e noBoundary
+    cut-floor (grown {gs = g ∷ gs} es t) n c (inl e) = rw e (atLeast (falls-top g (n .falls) (there here)))
+    cut-floor (grown {gs = g ∷ gs} es t) n c (inr e) = rw e (atLeast (le-refl (g .stamp)))
+    cut-floor (sealed g d up) n c (inl e) = rw e (atLeast (let l : g .stamp ≤ d = omega arith in l))
+    cut-floor (sealed g d up) n c (inr e) = rw e (atLeast (le-refl (g .stamp)))
+
+    -- where the lane gives nothing, nothing was ever drained
+    cut-none : {prior hist : List Past} {priors gs : List Seq} → Since prior hist priors gs → (None ≡ newestIn gs) ⊎ (None ≡ newestIn priors) → priors ≡ []
+    unfolding newestIn
+    cut-none (level {gs = []}) e = refl
+    cut-none (level {gs = g ∷ gs}) (inl e) = absurd (let z : _≡_ {A = ℕ} 0 1 = cc in omega arith)
+    cut-none (level {gs = g ∷ gs}) (inr e) = absurd (let z : _≡_ {A = ℕ} 0 1 = cc in omega arith)
+    cut-none (grown {gs = []} es t) e = refl
+    cut-none (grown {gs = g ∷ gs} es t) (inl e) = absurd (let z : _≡_ {A = ℕ} 0 1 = cc in omega arith)
+    cut-none (grown {gs = g ∷ gs} es t) (inr e) = absurd (let z : _≡_ {A = ℕ} 0 1 = cc in omega arith)
+    cut-none (sealed g c up) (inl e) = absurd (let z : _≡_ {A = ℕ} 0 1 = cc in omega arith)
+    cut-none (sealed g c up) (inr e) = absurd (let z : _≡_ {A = ℕ} 0 1 = cc in omega arith)
+
+-- ---- a lane of a running store
+module _ (z : Sizes) (L : ℕ) (m : Machine) (t : Track) (s : Shape z m) (l : LaneLog z L m t) where
+  r : InRange z
+  r = s .sizes
+
+  -- over the base in non-volatile memory, which is the cached one
+  nvm-now : Written z (baseOf (m .nvm)) (m .state .clock) (logOf z L (m .cache)) (t .hist) (t .gs)
+  nvm-now = subst (λ b. Written z b (m .state .clock) (logOf z L (m .cache)) (t .hist) (t .gs)) (sym (s .base)) (l .now)
+
+  nvm-before : Written z (baseOf (m .nvm)) (m .state .clock) (t .was) (t .prior) (t .priors)
+  nvm-before = subst (λ b. Written z b (m .state .clock) (t .was) (t .prior) (t .priors)) (sym (s .base)) (l .before)
+
+  -- what its log shows
+  pub lane-cut : CutLog z (logOf z L (m .nvm)) (t .prior) (t .hist) (t .priors) (t .gs)
+  lane-cut =
+      go (view z.slots (s .sizes .slots-low) (logOf z L (m .cache)) (t .was) (logOf z L (m .nvm)) (mix-log z L (l .mem)) z.words
+      (l .since) (l .before .history) (l .now .history) (l .now .window) (l .before .window))
+    where
+      go : View z.slots (t .prior) (t .hist) (logOf z L (m .nvm)) → CutLog z (logOf z L (m .nvm)) (t .prior) (t .hist) (t .priors) (t .gs)
+      go (present v) = now (record { history = l .now .history; shows = v })
+      go (former v) = before (record { history = l .before .history; shows = v })
+
+  -- all that is found is of the present history or of the former
+  pub lane-cut-known : All (λ q. Listed z.slots (t .gs) q ⊎ Listed z.slots (t .priors) q) (completeIn z (m .nvm) L)
+  unfolding completeIn
+  lane-cut-known = go lane-cut
+    where
+      go : CutLog z (logOf z L (m .nvm)) (t .prior) (t .hist) (t .priors) (t .gs)
+          → All (λ q. Listed z.slots (t .gs) q ⊎ Listed z.slots (t .priors) q) (completeBelow z.words z.slots (baseOf (m .nvm)) (logOf z L (m .nvm)) L z.slots)
+      go (now v) = All-map (λ q k. inl k) (shown-found z (s .sizes .words-high) (s .sizes .slots-low) v (baseOf (m .nvm)) L)
+      go (before v) = All-map (λ q k. inr k) (shown-found z (s .sizes .words-high) (s .sizes .slots-low) v (baseOf (m .nvm)) L)
+
+  -- what it gives to the boundary
+  pub lane-cut-latest : (contribution (latestIn z (m .nvm) L) ≡ newestIn (t .gs)) ⊎ (contribution (latestIn z (m .nvm) L) ≡ newestIn (t .priors))
+  unfolding latestIn completeIn
+  lane-cut-latest =
+      cut-latest z r (logOf z L (m .nvm)) (baseOf (m .nvm)) L (m .state .clock) (logOf z L (m .cache)) (t .was) (l .since) nvm-now nvm-before lane-cut
+
+  -- it is not below the floor
+  pub lane-cut-floor : NotBelow (laneAt (m .state) L .floor) (contribution (latestIn z (m .nvm) L))
+  lane-cut-floor =
+      rw (l .floor)
+      (cut-floor z r (logOf z L (m .nvm)) (baseOf (m .nvm)) L (m .state .clock) (logOf z L (m .cache))
+      (t .was) (l .since) nvm-now (contribution (latestIn z (m .nvm) L)) lane-cut-latest)
+
+  -- a lane that gives nothing has never drained a sequence
+  pub lane-cut-none : contribution (latestIn z (m .nvm) L) ≡ None → t .priors ≡ []
+  lane-cut-none e =
+      cut-none z r (logOf z L (m .nvm)) (baseOf (m .nvm)) L (m .state .clock) (logOf z L (m .cache)) (t .was) (l .since) (rw e at lane-cut-latest)
+
+  -- the sequences that are whole in the cached log
+  pub lane-cut-found : {g : Seq} → In g (t .gs) → Whole z.slots (t .hist) g → CutFound z.slots L (completeIn z (m .nvm) L) (t .priors) (t .gs) g
+  unfolding completeIn
+  lane-cut-found i w =
+      cut-found z r (logOf z L (m .nvm)) (baseOf (m .nvm)) L (m .state .clock) (logOf z L (m .cache)) (t .was) (l .since) nvm-now nvm-before lane-cut i w
+
+  -- the newest, unless it is just appended
+  pub lane-cut-newest : {g : Seq} {rest : List Seq} → t .gs ≡ g ∷ rest → length (t .priors) ≡ length (t .gs) → CutNewest z.slots L (completeIn z (m .nvm) L) g
+  unfolding completeIn
+  lane-cut-newest e k =
+      cut-newest z r (logOf z L (m .nvm)) (baseOf (m .nvm)) L (m .state .clock) (logOf z L (m .cache))
+      (t .was) (rw e at (l .since)) (rw e at nvm-now) nvm-before (rw e at lane-cut)
+      (k ∙ ap length e)

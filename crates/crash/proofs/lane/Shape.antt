@@ -1,0 +1,160 @@
+-- Sizes and lengths, and the base timestamp, the same in cache and non-volatile memory: kept by every call and every change of memory. Assumes nothing.
+use mathlib.Core.Path.{_≡_, _∙_, sym}
+use mathlib.Core.List.{List}
+use Prim.Native.Nat.{ℕ, _+_, _%_, _≤_, _<_}
+use native.Mathlib.Omega.{arith}
+use native.Mathlib.Nat.{le-trans}
+use lib.Dec.{eqb}
+use lib.ListN.{length, getD}
+use Rattle.laws.specs.inner.Tests.{split}
+use Rattle.laws.specs.inner.Lists.{All, none, more, All-append, All-map}
+use Rattle.txn.specs.declared.Write.{Write}
+use Rattle.image.specs.Image.{imageLength, baseOf, logStart}
+use Rattle.image.specs.inner.ImageLaws.{InRange, image-filled}
+use Rattle.image.specs.Flush.{flushed, writtenBack, drainedNvm}
+use Rattle.image.specs.inner.FlushLaws.{length-flushAll, length-writtenBack, getD-writtenBack, length-drainedNvm, getD-drainedNvm, length-drainedFlags}
+use Rattle.image.specs.Stores.{Store, places}
+use Rattle.image.specs.inner.StoresLaws.{length-stored}
+use Rattle.image.specs.declared.Sizes.{Sizes}
+use Rattle.log.specs.Append.{appendStores, restampStore}
+use Rattle.record.specs.Record.{laneAt, cursorOf, withLane, withClock, withLast}
+use Rattle.record.specs.declared.Pair.{Pair}
+use Rattle.record.specs.declared.Phase.{Phase}
+use Rattle.record.specs.declared.Record.{Record}
+use Rattle.store.specs.Machine.{Machine}
+use Rattle.store.specs.Calls.{drained, changed, appended, pairStores, commitStores, committed, released}
+use Rattle.crash.proofs.history.Lanes.{lane-drained, lane-appended, lane-committed, lane-released}
+use Rattle.crash.proofs.lane.Regions.{inside-late, stored-base}
+use Rattle.crash.proofs.lane.Append.{append-inside}
+
+pub record Shape (z : Sizes) (m : Machine) : Type 0 where
+  pub sizes : InRange z
+  pub in-cache : length (m .cache) ≡ imageLength z
+  pub in-nvm : length (m .nvm) ≡ imageLength z
+  pub in-flags : length (m .flags) ≡ imageLength z
+  pub lanes : z.lanes ≤ length (m .state .lanes)
+  -- the clock is even, and so is the base, which is not above it
+  pub clock : m .state .clock % 2 ≡ 0
+  pub even : baseOf (m .cache) % 2 ≡ 0
+  pub low : baseOf (m .cache) ≤ m .state .clock
+  pub base : baseOf (m .nvm) ≡ baseOf (m .cache)
+
+-- the machine with another non-volatile memory
+abbrev pub withNvm : Machine → List ℕ → Machine
+withNvm m nvm = record { state = m .state; cache = m .cache; nvm = nvm; flags = m .flags }
+
+-- ---- where the stores of a commit go
+pub pairs-data : (W : ℕ) {ps : List Pair} → All (λ p. p .word < W) ps → All (λ x. (1 ≤ x .at) × (x .at < 1 + W)) (pairStores ps)
+unfolding pairStores
+pairs-data W none = none
+pairs-data W (more {x = p} l h) = more (word p l) (pairs-data W h)
+  where
+    word : (p : Pair) → p .word < W → (1 ≤ 1 + p .word) × (1 + p .word < 1 + W)
+    word p l = (omega arith, omega arith)
+
+as-many : {n a b : ℕ} → b ≡ a → n ≤ a → n ≤ b
+as-many e h = rw e h
+
+module _ (z : Sizes) (m : Machine) (s : Shape z m) where
+  -- ---- non-volatile memory alone
+  pub shape-nvm : (nvm : List ℕ) → length nvm ≡ length (m .nvm) → baseOf nvm ≡ baseOf (m .cache) → Shape z (withNvm m nvm)
+  shape-nvm nvm l b =
+      record {
+        sizes = s .sizes;
+        in-cache = s .in-cache;
+        in-nvm = l ∙ s .in-nvm;
+        in-flags = s .in-flags;
+        lanes = s .lanes;
+        clock = s .clock;
+        even = s .even;
+        low = s .low;
+        base = b;
+      }
+
+  -- the base after a write-back of any word
+  written-base : (i : ℕ) (nvm : List ℕ) → length nvm ≡ imageLength z → baseOf nvm ≡ baseOf (m .cache)
+      → baseOf (writtenBack i (m .cache) nvm) ≡ baseOf (m .cache)
+  unfolding baseOf
+  written-base i nvm l e =
+      getD-writtenBack i (m .cache) nvm 0 (image-filled z (length nvm) l) ∙ split (eqb i 0) (λ t. rw t) (λ t. rw t e)
+
+  pub shape-writtenBack : (i : ℕ) → Shape z (withNvm m (writtenBack i (m .cache) (m .nvm)))
+  shape-writtenBack i = shape-nvm (writtenBack i (m .cache) (m .nvm)) (length-writtenBack i (m .cache) (m .nvm)) (written-base i (m .nvm) (s .in-nvm) (s .base))
+
+  -- ---- a drain
+  drained-base : (L : ℕ) → baseOf (drainedNvm L (m .flags) (m .cache) (m .nvm)) ≡ baseOf (m .cache)
+  unfolding baseOf
+  drained-base L =
+      getD-drainedNvm L (m .flags) (m .cache) (m .nvm) 0 (image-filled z _ (s .in-flags)) (image-filled z _ (s .in-cache)) (image-filled z _ (s .in-nvm))
+      ∙ split (flushed L (getD (m .flags) 0 0)) (λ t. rw t) (λ t. rw t (s .base))
+
+  module _ (L : ℕ) (lane : L < z.lanes) where
+    inside : L < length (m .state .lanes)
+    inside = le-trans lane (s .lanes)
+
+    pub shape-drained : Shape z (drained z L m)
+    unfolding drained withLane
+    shape-drained =
+        record {
+          sizes = s .sizes;
+          in-cache = s .in-cache;
+          in-nvm = length-drainedNvm L (m .flags) (m .cache) (m .nvm) ∙ s .in-nvm;
+          in-flags = length-drainedFlags L (m .flags) ∙ s .in-flags;
+          lanes = as-many (lane-drained z L m inside .lanes) (s .lanes);
+          clock = s .clock;
+          even = s .even;
+          low = s .low;
+          base = drained-base L;
+        }
+
+    -- ---- cached stores past the base
+    pub shape-changed : (xs : List Store) (r : Record) → All (λ x. 1 ≤ x .at) xs → z.lanes ≤ length (r .lanes) → m .state .clock ≤ r .clock → r .clock % 2 ≡ 0
+        → Shape z (changed L xs r m)
+    unfolding changed
+    shape-changed xs r past l up even =
+        let b = stored-base (m .cache) past in
+        record {
+          sizes = s .sizes;
+          in-cache = length-stored xs (m .cache) ∙ s .in-cache;
+          in-nvm = s .in-nvm;
+          in-flags = length-flushAll L (places xs) (m .flags) ∙ s .in-flags;
+          lanes = l;
+          clock = even;
+          even = rw b (s .even);
+          low = rw b (le-trans (s .low) up);
+          base = s .base ∙ sym b;
+        }
+
+    pub shape-appended : (ws : List Write) (phase : Phase) (redo : List Pair) → laneAt (m .state) L .next < z.slots → Shape z (appended z L ws phase redo m)
+    unfolding appended changed withLane withClock cursorOf
+    shape-appended ws phase redo next =
+        shape-changed (appendStores (logStart z L) z.slots (m .state .clock + 2) (cursorOf (laneAt (m .state) L)) ws) _
+        (All-map (λ x i. le-trans (let e : 1 ≤ 1 + z.words = omega arith in e) (inside-late z L (x .at) i))
+        (append-inside z L lane (omega arith) (m .state .clock + 2) (cursorOf (laneAt (m .state) L)) ws next))
+        (as-many (lane-appended z L m inside ws phase redo .lanes) (s .lanes)) (omega arith) (omega (arith, s .clock))
+
+    -- a commit's stores: data words, and the value word of a slot
+    pub commit-past : (ps : List Pair) → All (λ p. p .word < z.words) ps → All (λ x. 1 ≤ x .at) (commitStores z L ps m)
+    unfolding commitStores restampStore
+    commit-past ps low = All-append (All-map (λ x h. h .0) (pairs-data z.words low)) (more (let e : 1 ≤ _ + 1 = omega arith in e) none)
+
+    pub shape-committed : (ps : List Pair) → All (λ p. p .word < z.words) ps → Shape z (committed z L ps m)
+    unfolding committed changed withLane withClock withLast
+    shape-committed ps low =
+        shape-changed (commitStores z L ps m) _ (commit-past ps low)
+        (as-many (lane-committed z L m inside ps .lanes) (s .lanes)) (omega arith) (omega (arith, s .clock))
+
+    pub shape-released : Shape z (released L m)
+    unfolding released withLane
+    shape-released =
+        record {
+          sizes = s .sizes;
+          in-cache = s .in-cache;
+          in-nvm = s .in-nvm;
+          in-flags = s .in-flags;
+          lanes = as-many (lane-released z L m inside .lanes) (s .lanes);
+          clock = s .clock;
+          even = s .even;
+          low = s .low;
+          base = s .base;
+        }

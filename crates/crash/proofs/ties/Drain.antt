@@ -1,0 +1,156 @@
+-- The ties are kept by a drain and by a Validate that gives up: flushed data words reach non-volatile memory, the lane's floor rises to its newest
+-- timestamp, and no sequence changes. Assumes nothing.
+use mathlib.Core.Path.{_≡_, refl, ap, _∙_, sym, subst}
+use mathlib.Core.Logic.{_⊎_, inl, inr}
+use mathlib.Core.Bool.{true, false}
+use mathlib.Core.List.{List, [], _∷_}
+use mathlib.Core.Option.{none}
+use Prim.Native.Nat.{ℕ, _+_, _<_}
+use native.Mathlib.Omega.{arith}
+use native.Mathlib.Nat.{le-trans}
+use lib.ListN.{length, getD}
+use Rattle.laws.specs.inner.Tests.{clash}
+use Rattle.laws.specs.inner.Lists.{more}
+use Rattle.txn.specs.Txn.{maxWrites, txnOk}
+use Rattle.image.specs.declared.Sizes.{Sizes}
+use Rattle.record.specs.Record.{laneAt, drainedLane, idleLane}
+use Rattle.record.specs.declared.Phase.the-variants.{Idle, Holds}
+use Rattle.record.specs.declared.Lane.{Lane}
+use Rattle.store.specs.Machine.{Machine}
+use Rattle.store.specs.Calls.{drained, matches, writesOn}
+use Rattle.store.specs.Calls as calls
+use Rattle.crash.specs.History.{Page, History, pageAt, floorOr, settled, released}
+use Rattle.crash.proofs.recovery.Data.{oldsOf}
+use Rattle.crash.proofs.induction.Moves.{Known, Ready}
+use Rattle.crash.proofs.history.Lanes.{lane-drained, lane-released, page-settled, page-released}
+use Rattle.crash.proofs.history.Agree.{Book}
+use Rattle.crash.proofs.history.Onward.{onward-settled, onward-released}
+use Rattle.crash.proofs.history.Books.{book-drains, not-held}
+use Rattle.crash.proofs.lane.Seqs.{Seq, Since, level, grown, sealed}
+use Rattle.crash.proofs.lane.Ghost.{Past}
+use Rattle.crash.proofs.lane.Written.{Falls, onto, newestIn}
+use Rattle.crash.proofs.lane.Log.{Track, levelled}
+use Rattle.crash.proofs.lane.Running.{Running, running-drains, running-releases, updated}
+use Rattle.crash.proofs.ties.Ties.{Flushes, Ties}
+use Rattle.crash.proofs.ties.Logs.{ties-logs}
+use Rattle.crash.proofs.ties.Laws.{AtMost, at-most, track-to, cells-drained, drained-mine, drained-others}
+use Rattle.crash.proofs.ties.Laws.{all-onward, logged-onward, given-now, given-before, Moving, TiesOf, ties-moved}
+
+-- ---- a lane's floor
+-- a drain makes it the newest timestamp, which is not below it
+pub floor-rises : {prior hist : List Past} {priors gs : List Seq} → Since prior hist priors gs → Falls gs → (x : ℕ)
+    → AtMost (floorOr (newestIn gs) (floorOr (newestIn priors) (newestIn gs))) x → AtMost (floorOr (newestIn priors) (newestIn gs)) x
+unfolding floorOr newestIn
+floor-rises (level {gs = []}) f x a = a
+floor-rises (level {gs = g ∷ gs}) f x a = a
+floor-rises (grown {gs = []} es s) f x a = a
+floor-rises (grown {gs = g ∷ gs} es s) (onto (more l h) f) x a = record { stamp = g .stamp; is = refl; low = let k = at-most s x a in omega arith }
+floor-rises (sealed g c up) f x a = record { stamp = g .stamp; is = refl; low = let k = at-most c x a in omega arith }
+
+-- nothing is appended to a lane that has just drained
+pub not-longer : {A : Type 0} (g : Seq) (gs : List Seq) → gs ≡ g ∷ gs → A
+not-longer g gs e = absurd (omega (arith, ap length e))
+
+-- ---- a drain
+module _ (z : Sizes) (base : ℕ) (h : History) (m : Machine) (b : Book z base h m) (t : Ties z base m h) (L : ℕ) (lane : L < z.lanes) where
+  abbrev after : ℕ → Track
+  after = updated L (levelled z L m (t .ts L)) (t .ts)
+
+  inside : L < length (m .state .lanes)
+  inside = le-trans lane (b .lanes)
+
+  paged : L < length (h .pages)
+  paged = rw (b .pages) lane
+
+  page-floor : pageAt h L .floor ≡ floorOr (newestIn (t .ts L .priors)) (newestIn (t .ts L .gs))
+  page-floor = sym (b .live .floors L lane) ∙ t .running .lanes L lane .floor
+
+  moving : Moving z L h (settled L h) m (drained z L m) (t .ts) after
+  unfolding drained drainedLane settled
+  moving =
+      let a = lane-drained z L m inside in
+      let p = page-settled L h paged in
+      record {
+        track = levelled z L m (t .ts L);
+        tracks = track-to L (levelled z L m (t .ts L)) (t .ts);
+        page = record { held = pageAt h L .held; newest = pageAt h L .newest; floor = floorOr (pageAt h L .newest) (pageAt h L .floor) };
+        pages = p;
+        onward = onward-settled L h;
+        running = running-drains z m (t .ts) (t .running) L lane;
+        at-base = refl;
+        phases = λ M d. ap (λ (l : Lane). l .phase) (a .others M d);
+        newest = t .newest L lane;
+        entries = λ x e g gs q.
+            let f : laneAt (m .state) L .phase ≡ Holds x = ap (λ (l : Lane). l .phase) (sym (a .here)) ∙ e in
+            t .entries L lane x f g gs q
+            ∙ ap oldsOf (sym (logged-onward z h (settled L h) (onward-settled L h) base m L x (b .holding L x lane f)
+            (ap (λ (p : Page). p .held) (p .here)) (ap (λ (p : Page). p .newest) (p .here))));
+        now = all-onward z h (settled L h) (onward-settled L h) (given-now z base h m b t L lane) (t .now L lane);
+        before = all-onward z h (settled L h) (onward-settled L h) (given-now z base h m b t L lane) (t .now L lane);
+        open′ = λ g e. not-longer g (t .ts L .gs) e;
+        cells = cells-drained z m (t .running .shape) (t .cells) L lane;
+        own = λ w i e. clash _ e (drained-mine z m (t .running .shape) L (1 + w));
+        others = λ M d w i. drained-others z m (t .running .shape) L M d (1 + w);
+        floor = λ x l f.
+            rw page-floor (floor-rises (t .running .lanes L lane .since) (t .running .lanes L lane .now .falls) x (rw (t .newest L lane, page-floor) at f));
+        stays = λ c i g j e. j;
+        kept = λ g j. inl (j, λ a w. w);
+        fresh = λ c i. inl i;
+      }
+
+  -- what it leaves
+  pub drained-ties : TiesOf z base (drained z L m) (settled L h) after
+  drained-ties = ties-moved z base L h (settled L h) m (drained z L m) b t after moving
+
+-- ---- a lane that gives up what it holds
+module _ (z : Sizes) (base : ℕ) (h : History) (m : Machine) (b : Book z base h m) (t : Ties z base m h) (L : ℕ) (lane : L < z.lanes)
+    (run : Running z (calls.released L m) (t .ts)) where
+  releasing : Moving z L h (released L h) m (calls.released L m) (t .ts) (t .ts)
+  unfolding calls.released released idleLane
+  releasing =
+      let a = lane-released z L m (le-trans lane (b .lanes)) in
+      let o = onward-released L h in
+      record {
+        track = t .ts L;
+        tracks = record { here = refl; others = λ M d. refl };
+        page = record { held = none; newest = pageAt h L .newest; floor = pageAt h L .floor };
+        pages = page-released L h (rw (b .pages) lane);
+        onward = o;
+        running = run;
+        at-base = refl;
+        phases = λ M d. ap (λ (l : Lane). l .phase) (a .others M d);
+        newest = t .newest L lane;
+        entries = λ x e g gs q. not-held Idle x refl (ap (λ (l : Lane). l .phase) (sym (a .here)) ∙ e);
+        now = all-onward z h (released L h) o (given-now z base h m b t L lane) (t .now L lane);
+        before = all-onward z h (released L h) o (given-before z base h m b t L lane) (t .before L lane);
+        open′ = λ g e. t .open′ L lane g e;
+        cells = λ w i. same w (t .cells w i);
+        own = λ w i e. t .flags L lane w i e;
+        others = λ M d w i. refl;
+        floor = λ x l f. f;
+        stays = λ c i g j e. j;
+        kept = λ g j. inl (j, λ a w. w);
+        fresh = λ c i. inl i;
+      }
+    where
+      same : (w : ℕ) → (getD (m .nvm) (1 + w) 0 ≡ getD (m .cache) (1 + w) 0) ⊎ Flushes z m w
+          → (getD (m .nvm) (1 + w) 0 ≡ getD (m .cache) (1 + w) 0) ⊎ Flushes z (calls.released L m) w
+      same w (inl e) = inl e
+      same w (inr f) = inr (record { lane = f .lane; low = f .low; bit = f .bit })
+
+  pub released-ties : TiesOf z base (calls.released L m) (released L h) (t .ts)
+  released-ties = ties-moved z base L h (released L h) m (calls.released L m) b t (t .ts) releasing
+
+-- ---- the calls
+pub ties-drains : (z : Sizes) (base : ℕ) (m : Machine) (h : History) (L : ℕ) → Book z base h m → Ties z base m h → Known z m L
+    → Ties z base (drained z L m) (settled L h)
+ties-drains z base m h L b t k = drained-ties z base h m b t L (k .lane) .ties
+
+pub ties-gives-up : (z : Sizes) (base : ℕ) (m : Machine) (h : History) (L : ℕ) (f : List ℕ)
+    → Book z base h m → Ties z base m h → Known z m L → txnOk maxWrites z.words f ≡ true
+    → Ready m L → matches z L (writesOn z f m) m ≡ false → Ties z base (calls.released L (drained z L m)) (released L (settled L h))
+ties-gives-up z base m h L f b t k ok y e =
+    let d = drained-ties z base h m b t L (k .lane) in
+    released-ties z base (settled L h) (drained z L m) (book-drains z base h m b (ties-logs z base m h b t) L k) (d .ties) L (k .lane)
+    (subst (Running z (calls.released L (drained z L m))) (sym (d .tracks)) (running-releases z m (t .ts) (t .running) L (k .lane)))
+    .ties

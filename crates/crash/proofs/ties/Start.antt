@@ -1,0 +1,80 @@
+-- The ties at a start, whose logs are 0s, and under write-backs, which change non-volatile memory alone. Assumes nothing.
+use mathlib.Core.Path.{_≡_, refl, ap, _∙_}
+use mathlib.Core.Logic.{inl}
+use mathlib.Core.Bool.{true, false}
+use mathlib.Core.List.{List, [], _∷_}
+use Prim.Native.Nat.{ℕ, _+_, _*_, _%_, _<_}
+use native.Mathlib.Omega.{arith}
+use lib.ListN.{length, getD, replicate, getD-replicate}
+use Rattle.laws.specs.inner.Tests.{clash}
+use Rattle.laws.specs.inner.Lists.{none as nil}
+use Rattle.image.specs.Image.{sizesOk, imageLength, baseOf, dataOf, logOf}
+use Rattle.image.specs.inner.ImageLaws.{sizes-in}
+use Rattle.image.specs.Flush.{flushed, writtenBack}
+use Rattle.image.specs.inner.FlushLaws.{flushed-zero}
+use Rattle.image.specs.declared.Sizes.{Sizes}
+use Rattle.store.specs.Machine.{Machine}
+use Rattle.store.specs.Calls.{started}
+use Rattle.crash.specs.History.{Commit, Page, History, blankPage, pageAt, opened}
+use Rattle.laws.specs.inner.Members.{In}
+use Rattle.crash.proofs.history.Agree.{Book}
+use Rattle.crash.proofs.lane.Seqs.{Seq}
+use Rattle.crash.proofs.lane.Written.{newestIn}
+use Rattle.crash.proofs.lane.Running.{startTrack, running-start, running-writtenBack}
+use Rattle.crash.proofs.ties.Ties.{Ties}
+use Rattle.crash.proofs.ties.Laws.{word-in, cells-writtenBack}
+
+-- ---- a start
+module _ (z : Sizes) (ok : sizesOk z ≡ true) (base : ℕ) (image words : List ℕ)
+    (even : base % 2 ≡ 0) (long : length image ≡ imageLength z) (at : baseOf image ≡ base)
+    (same : dataOf z image ≡ words) (blank : (L : ℕ) → L < z.lanes → logOf z L image ≡ replicate (2 * z.slots) 0) where
+  page-start : (L : ℕ) → L < z.lanes → pageAt (opened z words base) L .newest ≡ newestIn []
+  unfolding pageAt opened newestIn
+  page-start L i = ap (λ (p : Page). p .newest) (getD-replicate z.lanes L blankPage blankPage i)
+
+  unflushed : (L w : ℕ) → w < z.words → flushed L (getD (started z base image .flags) (1 + w) 0) ≡ false
+  unfolding started
+  unflushed L w i = ap (flushed L) (getD-replicate (imageLength z) (1 + w) 0 0 (word-in z w (imageLength z) i refl)) ∙ flushed-zero L
+
+  none-in : {A : Type 0} {c : Commit} → In c [] → A
+  none-in i = elim i [ ]
+
+  no-more : {A : Type 0} {g : Seq} {gs : List Seq} → _≡_ {A = List Seq} [] (g ∷ gs) → A
+  no-more e = absurd (omega (arith, ap length e))
+
+  pub ties-starts : Ties z base (started z base image) (opened z words base)
+  unfolding started opened
+  ties-starts =
+      record {
+        ts = startTrack z image;
+        running = running-start z (sizes-in z ok) base image even long at blank;
+        at-base = at;
+        newest = page-start;
+        entries = λ L i x e g gs q. no-more q;
+        now = λ L i. nil;
+        before = λ L i. nil;
+        open′ = λ L i g q. no-more q;
+        cells = λ w i. inl refl;
+        flags = λ L i w j e. clash _ e (unflushed L w j);
+        backed = λ c i. none-in i;
+        whole = λ L i b e g j l. elim j [ ];
+      }
+
+-- ---- a write-back
+pub ties-writes : (z : Sizes) (base : ℕ) (m : Machine) (h : History) (i : ℕ) → Book z base h m → Ties z base m h → i < imageLength z
+    → Ties z base (record { state = m .state; cache = m .cache; nvm = writtenBack i (m .cache) (m .nvm); flags = m .flags }) h
+ties-writes z base m h i b t l =
+    record {
+      ts = t .ts;
+      running = running-writtenBack z m (t .ts) (t .running) i;
+      at-base = t .at-base;
+      newest = t .newest;
+      entries = t .entries;
+      now = t .now;
+      before = t .before;
+      open′ = t .open′;
+      cells = cells-writtenBack z m (t .running .shape) (t .cells) i;
+      flags = t .flags;
+      backed = t .backed;
+      whole = t .whole;
+    }

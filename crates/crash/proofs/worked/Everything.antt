@@ -1,0 +1,51 @@
+-- One name that opens every definition, for worked values that the checker computes. Assumes nothing.
+use Prim.Native.Nat.{ℕ}
+use Rattle.slot.specs.Slot as slots
+use Rattle.txn.specs.Txn as txns
+use Rattle.image.specs.Image as images
+use Rattle.image.specs.Flush as flushes
+use Rattle.image.specs.Stores as stores
+use Rattle.log.specs.Log as logs
+use Rattle.log.specs.Append as appends
+use Rattle.record.specs.Record as records
+use Rattle.store.specs.Machine as machines
+use Rattle.store.specs.Calls as calls
+use Rattle.recovery.specs.Recovery as recoveries
+use Rattle.crash.specs.Events as events
+use Rattle.crash.specs.History as histories
+use Rattle.crash.specs.Theorem as theorems
+
+unfoldable pub everything : ℕ
+unfolding slots.entryOf slots.stampOf slots.entryShape slots.stampShape slots.wholeOf slots.readOf
+    txns.instructionAt txns.instructionsFrom txns.instructions txns.setOk txns.copyOk txns.addOk txns.pokeOk txns.skipOk txns.instructionOk txns.allOk
+    txns.txnOk txns.target txns.result txns.emit txns.passed txns.applied txns.runFrom txns.run txns.after
+    images.sizesOk images.imageLength images.buffersOk images.baseOf images.dataOf images.logStart images.logOf
+    flushes.flushed flushes.flush flushes.unflush flushes.flushAll flushes.writtenBack flushes.drainedNvm flushes.drainedFlags
+    stores.stored stores.places
+    logs.slotAt logs.back logs.backWrap logs.entryIn logs.entriesBack logs.closes logs.completeBelow logs.completeIn logs.sequenceOf logs.later
+    logs.latest logs.latestIn logs.contribution logs.ahead logs.overlaps logs.hitsFrom logs.hits
+    appends.onward appends.advance appends.slotStores appends.appendFrom appends.appendStores appends.circular appends.restampStore
+    records.startLane records.startRecord records.laneAt records.cursorOf records.isLogged records.loggedIn records.stampOk records.floorOk
+    records.pairsOk records.phaseOk records.laneOk records.lanesOk records.recordOk records.spent records.lesser records.leastFloor records.boundOf
+    records.floorAfterDrain records.floorAfterAppend records.withLane records.withClock records.withLast records.drainedLane records.appendedLane
+    records.idleLane records.pairsOf
+    machines.firstCause machines.unless machines.said
+    calls.badBuffers calls.badRecord calls.badLane calls.badTxn calls.notLogged calls.clockSpent calls.drained calls.changed calls.wouldHit
+    calls.startImage calls.started calls.formatRefusal calls.formatStep calls.writeBackRefusal calls.writeBackStep calls.drainRefusal calls.drainStep
+    calls.writesOn calls.logRefusal calls.appended calls.logged calls.logStep calls.pairStores calls.commitStores calls.committed calls.redoRefusal
+    calls.isStale calls.redoPairs calls.redoStep calls.validateRefusal calls.entryMatches calls.entriesMatch calls.matches calls.released
+    calls.validateStep calls.markRefusal calls.markStep
+    recoveries.boundaryBelow recoveries.boundary recoveries.completeOf recoveries.atOrAbove recoveries.undoneBefore recoveries.insert
+    recoveries.ordered recoveries.undoneFrom recoveries.undone recoveries.undoEntries recoveries.undoSequences recoveries.undoStores
+    recoveries.wholeStamp recoveries.greatestBelow recoveries.greatestOf recoveries.newBase recoveries.zeros recoveries.recoveryStores
+    recoveries.recoveredNvm recoveries.oddBase recoveries.recoverRefusal recoveries.allMade recoveries.recoverStep recoveries.told
+    events.nvmOf events.laneOf events.callStep events.vandzulge events.isTaken events.fitted events.fit events.partlyDrained events.bare
+    events.foundOr events.afterStep events.afterFormat events.recoveredSystem events.afterRecovery events.afterFailure events.notOffered
+    events.happens
+    histories.pageAt histories.opened histories.isBelow histories.replay histories.wordsBelow histories.floorOr histories.settled histories.stamped
+    histories.released histories.isSome histories.heldBy histories.isCounted histories.taken histories.restarted histories.afterCall
+    histories.afterRecovered histories.fedAnswer histories.fedFailure histories.fed histories.leastFloorOf histories.present histories.writesNow
+    histories.writesLogged histories.sameOlds histories.isAbove histories.commitAbove histories.holdsOne histories.notHeld histories.clockSpent
+    histories.causesBy histories.slotsBy histories.takenAnswer
+    theorems.isFull theorems.refusalBy theorems.answerBy theorems.recoveryAnswer
+everything = 0

@@ -1,0 +1,220 @@
+-- Worked lists of events, computed by the checker: the theorem's claims are not empty. Each was worked out by hand first. Assumes nothing.
+use Prim.Native.Nat.{ℕ, zero, suc}
+use mathlib.Core.Path.{_≡_, refl}
+use mathlib.Core.Bool.{true, false}
+use mathlib.Core.List.{List, [], _∷_, _++_}
+use Rattle.image.specs.Image.{dataOf}
+use Rattle.image.specs.declared.Sizes.{Sizes}
+use Rattle.log.specs.declared.Timestamp.the-variants.{None, At}
+use Rattle.store.specs.Calls.{started, startImage}
+use Rattle.record.specs.Record.{noLane, laneAt}
+use Rattle.record.specs.declared.Lane.{Lane}
+use Rattle.store.specs.declared.Answer.the-variants.{Refused, Logged, Committed, Stale, Changed, Marked}
+use Rattle.recovery.specs.declared.Recovered.the-variants.{Cut, Finished}
+use Rattle.crash.specs.Events.{log, redo, validate, mark, drain, Event, call, recover, fails, failsInDrain, failsAfterDrain, failsInRecovery}
+use Rattle.crash.specs.Events.{System, live, down, Reply, answered, recovered, failed, vandzulge, happens}
+use Rattle.crash.proofs.worked.Everything.{everything}
+use Rattle.crash.proofs.worked.Worked.{small, junk, set0, copy, writeBacks, twoLanes}
+
+-- ---- running a list of events
+unfoldable replies : Sizes → System → List Event → List Reply
+replies z y [] = []
+replies z y (e ∷ es) = happens vandzulge z y e .reply ∷ replies z (happens vandzulge z y e .system) es
+
+unfoldable afterAll : Sizes → System → List Event → System
+afterAll z y [] = y
+afterAll z y (e ∷ es) = afterAll z (happens vandzulge z y e .system) es
+
+-- the data words in non-volatile memory
+unfoldable wordsIn : Sizes → System → List ℕ
+wordsIn z (live m) = dataOf z (m .nvm)
+wordsIn z (down nvm j found) = dataOf z nvm
+
+-- and in the cache; a lane's state
+unfoldable cachedIn : Sizes → System → List ℕ
+cachedIn z (live m) = dataOf z (m .cache)
+cachedIn z (down nvm j found) = dataOf z (j .cache)
+
+unfoldable laneIn : ℕ → System → Lane
+laneIn L (live m) = laneAt (m .state) L
+laneIn L (down nvm j found) = noLane
+
+-- both data words are 0 at first
+abbrev begun : System
+begun = live (started small 0 (startImage small (0 ∷ 0 ∷ [])))
+
+-- ---- the two-lane scenario
+two-lanes : replies small begun twoLanes
+    ≡ answered (Logged (record { count = 1; stamp = 2 }))
+    ∷ answered (Logged (record { count = 1; stamp = 4 }))
+    ∷ answered (Committed 6)
+    ∷ answered Stale
+    ∷ answered (Committed 8)
+    ∷ answered (Logged (record { count = 1; stamp = 10 }))
+    ∷ []
+unfolding everything replies
+two-lanes = refl
+
+-- all is written back and power is cut: the boundary is 6, and both words return to 0
+abbrev twoLanesCut : System
+twoLanesCut = afterAll small begun (twoLanes ++ (writeBacks 0 139 ++ (fails junk ∷ [])))
+
+two-lanes-recover : replies small twoLanesCut (recover 1000 junk ∷ []) ≡ recovered (Finished (record { boundary = At 6; undone = 3 })) ∷ []
+unfolding everything replies afterAll writeBacks
+two-lanes-recover = refl
+
+two-lanes-words : wordsIn small (afterAll small twoLanesCut (recover 1000 junk ∷ [])) ≡ 0 ∷ 0 ∷ []
+unfolding everything afterAll writeBacks wordsIn
+two-lanes-words = refl
+
+-- ---- a cut inside a drain: of the commit's two flushed words, the data word and the timestamp's, only the data word is stored
+abbrev inDrain : List Event
+inDrain = call (log 0 (set0 2)) ∷ call (redo 0) ∷ failsInDrain (drain 0) (1 ∷ []) junk ∷ []
+
+in-drain : replies small begun (inDrain ++ (recover 1000 junk ∷ []))
+    ≡ answered (Logged (record { count = 1; stamp = 2 }))
+    ∷ answered (Committed 4)
+    ∷ failed false
+    ∷ recovered (Finished (record { boundary = At 2; undone = 1 }))
+    ∷ []
+unfolding everything replies
+in-drain = refl
+
+in-drain-found : wordsIn small (afterAll small begun inDrain) ≡ 2 ∷ 0 ∷ []
+unfolding everything afterAll wordsIn
+in-drain-found = refl
+
+in-drain-words : wordsIn small (afterAll small begun (inDrain ++ (recover 1000 junk ∷ []))) ≡ 0 ∷ 0 ∷ []
+unfolding everything afterAll wordsIn
+in-drain-words = refl
+
+-- ---- the same with recovery cut twice: after the undone entry and before the base timestamp, and past the base timestamp, which leaves nothing to be undone
+cut-twice : replies small (afterAll small begun inDrain) (recover 1 junk ∷ recover 5 junk ∷ recover 1000 junk ∷ [])
+    ≡ recovered Cut ∷ recovered Cut ∷ recovered (Finished (record { boundary = None; undone = 0 })) ∷ []
+unfolding everything replies afterAll
+cut-twice = refl
+
+cut-twice-words : wordsIn small (afterAll small begun (inDrain ++ (recover 1 junk ∷ recover 5 junk ∷ recover 1000 junk ∷ []))) ≡ 0 ∷ 0 ∷ []
+unfolding everything afterAll wordsIn
+cut-twice-words = refl
+
+-- ---- a cut inside a call, after its whole drain: the mark at 6 has reached the log, so the commit at 4 is below the boundary and stays;
+-- what the second Log would have done is lost
+abbrev afterDrain : List Event
+afterDrain = call (log 0 (set0 2)) ∷ call (redo 0) ∷ call (mark 0) ∷ failsAfterDrain (log 0 (set0 3)) junk ∷ []
+
+after-drain : replies small begun (afterDrain ++ (recover 1000 junk ∷ []))
+    ≡ answered (Logged (record { count = 1; stamp = 2 }))
+    ∷ answered (Committed 4)
+    ∷ answered (Marked (record { stamp = 6; dropped = false }))
+    ∷ failed true
+    ∷ recovered (Finished (record { boundary = At 6; undone = 0 }))
+    ∷ []
+unfolding everything replies
+after-drain = refl
+
+after-drain-words : wordsIn small (afterAll small begun (afterDrain ++ (recover 1000 junk ∷ []))) ≡ 2 ∷ 0 ∷ []
+unfolding everything afterAll wordsIn
+after-drain-words = refl
+
+-- ---- power failing inside recovery: after its first store, which undoes the entry; at the second try after the base timestamp's;
+-- and after its last store, before it answers
+abbrev inRecovery : List Event
+inRecovery = failsInRecovery 1 junk ∷ failsInRecovery 2 junk ∷ failsInRecovery 138 junk ∷ []
+
+in-recovery : replies small (afterAll small begun inDrain) (inRecovery ++ (recover 1000 junk ∷ []))
+    ≡ failed false ∷ failed false ∷ failed false ∷ recovered (Finished (record { boundary = None; undone = 0 })) ∷ []
+unfolding everything replies afterAll
+in-recovery = refl
+
+in-recovery-words : wordsIn small (afterAll small begun (inDrain ++ (inRecovery ++ (recover 1000 junk ∷ [])))) ≡ 0 ∷ 0 ∷ []
+unfolding everything afterAll wordsIn
+in-recovery-words = refl
+
+-- ---- a Validate after its word was changed, and changed back: lane 1 commits 7 at 6 and 0 at 10, lane 0, logged at 2, commits 5 at 12.
+-- All is written back; the boundary is 10, and what is committed below it leaves 7
+abbrev changedBack : List Event
+changedBack =
+    call (log 0 (set0 5))
+    ∷ call (log 1 (set0 7))
+    ∷ call (redo 1)
+    ∷ call (log 1 (set0 0))
+    ∷ call (redo 1)
+    ∷ call (redo 0)
+    ∷ call (validate 0 (set0 5))
+    ∷ []
+
+changed-back : replies small begun changedBack
+    ≡ answered (Logged (record { count = 1; stamp = 2 }))
+    ∷ answered (Logged (record { count = 1; stamp = 4 }))
+    ∷ answered (Committed 6)
+    ∷ answered (Logged (record { count = 1; stamp = 8 }))
+    ∷ answered (Committed 10)
+    ∷ answered Stale
+    ∷ answered (Committed 12)
+    ∷ []
+unfolding everything replies
+changed-back = refl
+
+abbrev changedBackCut : System
+changedBackCut = afterAll small begun (changedBack ++ (writeBacks 0 139 ++ (fails junk ∷ [])))
+
+changed-back-recover : replies small changedBackCut (recover 1000 junk ∷ []) ≡ recovered (Finished (record { boundary = At 10; undone = 2 })) ∷ []
+unfolding everything replies afterAll writeBacks
+changed-back-recover = refl
+
+changed-back-words : wordsIn small (afterAll small changedBackCut (recover 1000 junk ∷ [])) ≡ 7 ∷ 0 ∷ []
+unfolding everything afterAll writeBacks wordsIn
+changed-back-words = refl
+
+-- ---- the traps
+-- a Mark drops the transaction that its lane holds: it cannot commit behind the mark
+mark-drops : replies small begun (call (log 0 (set0 2)) ∷ call (mark 0) ∷ call (redo 0) ∷ [])
+    ≡ answered (Logged (record { count = 1; stamp = 2 })) ∷ answered (Marked (record { stamp = 4; dropped = true })) ∷ answered (Refused 7) ∷ []
+unfolding everything replies
+mark-drops = refl
+
+-- a lane's first sequence sets its floor, before it is drained
+first-floor : laneIn 0 (afterAll small begun (call (log 0 (set0 2)) ∷ [])) .floor ≡ At 2
+unfolding everything afterAll laneIn
+first-floor = refl
+
+-- every commit writes, the second as the first
+commits : cachedIn small (afterAll small begun (call (log 0 (set0 2)) ∷ call (redo 0) ∷ call (log 0 (set0 3)) ∷ call (redo 0) ∷ [])) ≡ 3 ∷ 0 ∷ []
+unfolding everything afterAll cachedIn
+commits = refl
+
+-- a second attempt is appended after the first: two sequences of two slots each
+abbrev secondAttempt : List Event
+secondAttempt =
+    call (log 0 copy)
+    ∷ call (log 1 (1 ∷ 1 ∷ 0 ∷ 9 ∷ []))
+    ∷ call (redo 1)
+    ∷ call (redo 0)
+    ∷ call (validate 0 copy)
+    ∷ call (log 0 copy)
+    ∷ []
+
+second-attempt : replies small begun secondAttempt
+    ≡ answered (Logged (record { count = 1; stamp = 2 }))
+    ∷ answered (Logged (record { count = 1; stamp = 4 }))
+    ∷ answered (Committed 6)
+    ∷ answered Stale
+    ∷ answered Changed
+    ∷ answered (Logged (record { count = 1; stamp = 8 }))
+    ∷ []
+unfolding everything replies
+second-attempt = refl
+
+second-after-first : laneIn 0 (afterAll small begun secondAttempt) .next ≡ 4
+unfolding everything afterAll laneIn
+second-after-first = refl
+
+-- 34 marks fill lane 0's log; lane 1's floor, 2, keeps the first of them from being overwritten
+unfoldable marks : ℕ → List Event
+marks zero = []
+marks (suc n) = call (mark 0) ∷ marks n
+
+full-log : replies small (afterAll small begun (call (mark 1) ∷ marks 34)) (call (mark 0) ∷ []) ≡ answered (Refused 9) ∷ []
+unfolding everything replies afterAll marks
+full-log = refl

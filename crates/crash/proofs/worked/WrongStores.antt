@@ -1,0 +1,388 @@
+-- Wrong stores, and for each a list of events at whose end the crash theorem is false of it:
+-- the traps of this design, and stores that do too little or too much. Assumes nothing.
+use Prim.Native.Nat.{ℕ, zero, suc, _+_, _*_}
+use mathlib.Core.Path.{refl}
+use mathlib.Core.Bool.{cond}
+use mathlib.Core.List.{List, [], _∷_, _++_}
+use lib.Dec.{eqb, leb}
+use lib.ListN.{length, getD, set, take, drop}
+use Rattle.image.specs.Image.{logStart, baseOf}
+use Rattle.image.specs.Stores.{Store, stored}
+use Rattle.image.specs.declared.Sizes.{Sizes}
+use Rattle.log.specs.Log.{Old, Complete}
+use Rattle.log.specs.Append.{circular}
+use Rattle.log.specs.declared.Timestamp.{Timestamp}
+use Rattle.log.specs.declared.Timestamp.the-variants.{None, At}
+use Rattle.record.specs.Record.{laneAt, loggedIn, withLane}
+use Rattle.record.specs.declared.Lane.{Lane}
+use Rattle.store.specs.Machine.{Machine, Step}
+use Rattle.store.specs.Calls.{started, drained, writesOn, logged, formatStep, writeBackStep, logRefusal, logStep, redoStep, validateStep, markStep}
+use Rattle.store.specs.declared.Answer.the-variants.{Refused, Logged, Stale}
+use Rattle.recovery.specs.Recovery.{completeOf, ordered, undone, undoSequences, undoStores, newBase, zeros, recoverStep, recoveredNvm, Restarted}
+use Rattle.recovery.specs.declared.Recovered.{Recovered}
+use Rattle.recovery.specs.declared.Recovered.the-variants as recovereds
+use Rattle.crash.specs.Events.{Call, log, redo, validate, mark, drain, Event, format, writeBack, call, recover, fails, failsInDrain, Design, callStep}
+use Rattle.crash.specs.Theorem.{CrashTheorem}
+use Rattle.crash.proofs.worked.Worked.{small, junk, set0, copy, writeBacks, twoLanes}
+use Rattle.crash.proofs.worked.Refute.{wrong-words, wrong-clock, wrong-answer, wrong-count, wrong-recovery, refuting}
+
+-- A refutation names the store, the sizes, the start words, the events, then the last event, and two lists: the numbers that the store has at its end,
+-- and those that the theorem gives. `wrong-recovery` looks at the data words after a recovery, `wrong-count` at how many entries it says to have undone,
+-- `wrong-words` at the cached data words, `wrong-clock` at the clock, `wrong-answer` at the number and the timestamp of an answer.
+-- `refl` computes the list and sees that they differ.
+
+-- ---- how a store differs from ours
+-- in its calls
+abbrev Calls : Type 0
+Calls = Sizes → Call → Machine → Step
+
+unfoldable calling : Calls → Design
+calling f = record { format = formatStep; writeBack = writeBackStep; call = f; recover = recoverStep; cutShort = recoveredNvm }
+
+-- in one of them
+unfoldable logging : (Sizes → ℕ → List ℕ → Machine → Step) → Calls → Calls
+logging f rest z (log L g) m = f z L g m
+logging f rest z (redo L) m = rest z (redo L) m
+logging f rest z (validate L g) m = rest z (validate L g) m
+logging f rest z (mark L) m = rest z (mark L) m
+logging f rest z (drain L) m = rest z (drain L) m
+
+unfoldable redoing : (Sizes → ℕ → Machine → Step) → Calls → Calls
+redoing f rest z (log L g) m = rest z (log L g) m
+redoing f rest z (redo L) m = f z L m
+redoing f rest z (validate L g) m = rest z (validate L g) m
+redoing f rest z (mark L) m = rest z (mark L) m
+redoing f rest z (drain L) m = rest z (drain L) m
+
+unfoldable validating : (Sizes → ℕ → List ℕ → Machine → Step) → Calls → Calls
+validating f rest z (log L g) m = rest z (log L g) m
+validating f rest z (redo L) m = rest z (redo L) m
+validating f rest z (validate L g) m = f z L g m
+validating f rest z (mark L) m = rest z (mark L) m
+validating f rest z (drain L) m = rest z (drain L) m
+
+unfoldable marking : (Sizes → ℕ → Machine → Step) → Calls → Calls
+marking f rest z (log L g) m = rest z (log L g) m
+marking f rest z (redo L) m = rest z (redo L) m
+marking f rest z (validate L g) m = rest z (validate L g) m
+marking f rest z (mark L) m = f z L m
+marking f rest z (drain L) m = rest z (drain L) m
+
+-- in the stores that its recovery makes
+unfoldable recoverBy : (Sizes → List ℕ → List Store) → Sizes → (limit : ℕ) → Machine → Restarted
+recoverBy stores z limit m =
+    let nvm = stored (take limit (stores z (m .nvm))) (m .nvm) in
+    cond (leb (length (stores z (m .nvm))) limit)
+    (record { answer = recoverStep z limit m .answer; machine = started z (baseOf nvm) nvm })
+    (record { answer = recovereds.Cut; machine = record { state = m .state; cache = m .cache; nvm = nvm; flags = m .flags } })
+
+unfoldable storing : (Sizes → List ℕ → List Store) → Design
+storing stores =
+    record {
+      format = formatStep;
+      writeBack = writeBackStep;
+      call = callStep;
+      recover = recoverBy stores;
+      cutShort = λ z n nvm. stored (take n (stores z nvm)) nvm;
+    }
+
+-- recovery's last stores: the base timestamp's, and those that clear the logs
+unfoldable base : Sizes → List ℕ → List Store
+base z image = record { at = 0; value = newBase z image } ∷ []
+
+unfoldable clearing : Sizes → List Store
+clearing z = zeros (1 + z.words) (2 * z.lanes * z.slots)
+
+-- the same step, but for the cached image; and but for the state of lane L
+unfoldable withCache : List ℕ → Step → Step
+withCache cache s =
+    record { answer = s .answer; machine = record { state = s .machine .state; cache = cache; nvm = s .machine .nvm; flags = s .machine .flags } }
+
+unfoldable withLaneOf : ℕ → Lane → Step → Step
+withLaneOf L l s =
+    record {
+      answer = s .answer;
+      machine = record { state = withLane (s .machine .state) L l; cache = s .machine .cache; nvm = s .machine .nvm; flags = s .machine .flags };
+    }
+
+unfoldable laneIn : ℕ → Step → Lane
+laneIn L s = laneAt (s .machine .state) L
+
+-- base and data words of one image, logs of another
+unfoldable joined : Sizes → (low high : List ℕ) → List ℕ
+joined z low high = take (1 + z.words) low ++ drop (1 + z.words) high
+
+-- one name that opens all of this
+unfoldable made : ℕ
+unfolding refuting writeBacks calling logging redoing validating marking recoverBy storing base clearing withCache withLaneOf laneIn joined
+made = 0
+
+-- ---- the traps
+-- 1. A commit leaves the first, uncommitted timestamp in the log, so recovery goes by that one.
+-- In the two-lane scenario, all written back, the boundary is then 4: word 0 is lost, and word 1, which was copied from it, keeps 2
+unfoldable logsKept : Machine → Sizes → Step → Step
+logsKept m z s = withCache (joined z (s .machine .cache) (m .cache)) s
+
+unfoldable byFirstStamp : Design
+byFirstStamp = calling (redoing (λ z L m. logsKept m z (redoStep z L m)) (validating (λ z L f m. logsKept m z (validateStep z L f m)) callStep))
+
+by-first-stamp : CrashTheorem byFirstStamp → ⊥
+unfolding made byFirstStamp logsKept
+by-first-stamp = wrong-recovery byFirstStamp small (0 ∷ 0 ∷ []) (twoLanes ++ (writeBacks 0 139 ++ (fails junk ∷ []))) 1000 junk (0 ∷ 2 ∷ []) (0 ∷ 0 ∷ []) refl
+
+-- 2. Appends are never refused with 9. Lane 1's mark at 2 is the boundary; lane 0's third transaction of 16 additions is logged over its first one,
+-- which recovery then cannot undo: word 0 is left at 16
+unfoldable neverFull : Calls
+neverFull =
+    logging
+    (λ z L f m.
+    let ws = writesOn z f m in
+    cond (eqb (logRefusal z L f m) 9)
+    (record { answer = Logged (record { count = length ws; stamp = m .state .clock + 2 }); machine = logged z L ws (drained z L m) })
+    (logStep z L f m))
+    callStep
+
+-- word 0 plus 1, n times
+unfoldable additions : ℕ → List ℕ
+additions zero = []
+additions (suc n) = 3 ∷ 0 ∷ 0 ∷ 1 ∷ additions n
+
+abbrev threeOnLane0 : List Event
+threeOnLane0 =
+    call (log 0 (additions 16)) ∷ call (redo 0)
+    ∷ call (log 0 (additions 16)) ∷ call (redo 0)
+    ∷ call (log 0 (additions 16)) ∷ writeBacks 0 139 ++ (fails junk ∷ [])
+
+never-full : CrashTheorem (calling neverFull) → ⊥
+unfolding made neverFull additions
+never-full = wrong-recovery (calling neverFull) small (0 ∷ 0 ∷ []) (call (mark 1) ∷ threeOnLane0) 1000 junk (16 ∷ 0 ∷ []) (0 ∷ 0 ∷ []) refl
+
+-- 3. A second attempt is logged over the first, which was drained; 9, which would keep it from that, is never answered. The wrap bits are the same: with its
+-- first word alone stored, the first slot passes for an entry of word 1 with the old value of word 0, and word 1 becomes 0
+unfoldable overFirst : Design
+overFirst =
+    calling
+    (validating
+    (λ z L f m.
+    let s = validateStep z L f m in
+    let l = laneIn L s in
+    withLaneOf L (record { phase = l .phase; next = loggedIn (laneAt (m .state) L .phase) .first; wrap = l .wrap; floor = l .floor; redo = l .redo }) s)
+    neverFull)
+
+over-first : CrashTheorem overFirst → ⊥
+unfolding made neverFull overFirst
+over-first =
+    wrong-recovery overFirst small (0 ∷ 6 ∷ [])
+    (call (log 0 (set0 5))
+    ∷ call (drain 0)
+    ∷ call (validate 0 (1 ∷ 1 ∷ 0 ∷ 7 ∷ []))
+    ∷ call (log 0 (1 ∷ 1 ∷ 0 ∷ 7 ∷ []))
+    ∷ failsInDrain (drain 0) (3 ∷ []) junk
+    ∷ [])
+    1000 junk (0 ∷ 0 ∷ []) (0 ∷ 6 ∷ []) refl
+
+-- 4. Odd timestamps in the log: their low bit sits in the wrap bit's place, the slot is torn, and the sequence is not found.
+-- Half of a commit is stored, and nothing undoes it
+unfoldable oddAt : Sizes → (L slot : ℕ) → Step → Step
+oddAt z L slot s =
+    let i = logStart z L + 2 * slot + 1 in
+    withCache (set (s .machine .cache) i (getD (s .machine .cache) i 0 + 1)) s
+
+unfoldable oddStamps : Design
+oddStamps =
+    calling
+    (logging (λ z L f m. oddAt z L (circular z.slots (laneAt (m .state) L .next + length (writesOn z f m))) (logStep z L f m))
+    (redoing (λ z L m. let g = loggedIn (laneAt (m .state) L .phase) in oddAt z L (circular z.slots (g .first + g .count)) (redoStep z L m)) callStep))
+
+odd-stamps : CrashTheorem oddStamps → ⊥
+unfolding made oddStamps oddAt
+odd-stamps =
+    wrong-recovery oddStamps small (0 ∷ 0 ∷ []) (call (log 0 (1 ∷ 0 ∷ 0 ∷ 2 ∷ 1 ∷ 1 ∷ 0 ∷ 3 ∷ [])) ∷ call (redo 0) ∷ failsInDrain (drain 0) (1 ∷ []) junk ∷ [])
+    1000 junk (2 ∷ 0 ∷ []) (2 ∷ 3 ∷ []) refl
+
+-- 5. A Mark leaves the transaction open, and it commits behind the mark. The mark at 4 is the boundary, and what stands before it is not undone:
+-- word 0, written back, keeps the 2 of a commit that is above the boundary
+unfoldable markOpen : Design
+markOpen =
+    calling
+    (marking
+    (λ z L m.
+    let s = markStep z L m in
+    let l = laneIn L s in
+    withLaneOf L (record { phase = laneAt (m .state) L .phase; next = l .next; wrap = l .wrap; floor = l .floor; redo = l .redo }) s)
+    callStep)
+
+mark-open : CrashTheorem markOpen → ⊥
+unfolding made markOpen
+mark-open =
+    wrong-recovery markOpen small (0 ∷ 0 ∷ [])
+    (call (log 0 (set0 2)) ∷ call (mark 0) ∷ call (redo 0) ∷ writeBack 1 ∷ fails junk ∷ []) 1000 junk (2 ∷ 0 ∷ []) (0 ∷ 0 ∷ []) refl
+
+-- 6. The logs are cleared before the base timestamp is stored. Recovery of the two-lane scenario is cut when lane 0's log, 68 words, is cleared: the next one
+-- takes lane 1's newest timestamp, 10, for the boundary, and word 1 becomes 2
+unfoldable logsFirst : Design
+logsFirst = storing (λ z image. undoStores z image ++ (clearing z ++ base z image))
+
+logs-first : CrashTheorem logsFirst → ⊥
+unfolding made logsFirst
+logs-first =
+    wrong-recovery logsFirst small (0 ∷ 0 ∷ []) (twoLanes ++ (writeBacks 0 139 ++ (fails junk ∷ recover 71 junk ∷ []))) 1000 junk (0 ∷ 2 ∷ []) (0 ∷ 0 ∷ []) refl
+
+-- 7. No floor for a lane whose first sequence is not drained. Lane 1's first sequence, at 2, was written back and is the boundary, but keeps nobody from
+-- overwriting: lane 0's third transaction is logged over its first one, and word 0 is left at 16
+unfoldable noFirstFloor : Design
+noFirstFloor =
+    calling
+    (logging
+    (λ z L f m.
+    let s = logStep z L f m in
+    let l = laneIn L s in
+    withLaneOf L (record { phase = l .phase; next = l .next; wrap = l .wrap; floor = laneAt (drained z L m .state) L .floor; redo = l .redo }) s)
+    callStep)
+
+no-first-floor : CrashTheorem noFirstFloor → ⊥
+unfolding made noFirstFloor additions
+no-first-floor = wrong-recovery noFirstFloor small (0 ∷ 0 ∷ []) (call (log 1 copy) ∷ threeOnLane0) 1000 junk (16 ∷ 0 ∷ []) (0 ∷ 0 ∷ []) refl
+
+-- ---- too little, or too much
+-- 8. Recovery undoes every transaction: a commit that was drained and marked is lost
+unfoldable undoesEvery : Design
+undoesEvery = storing (λ z image. undoSequences (ordered (completeOf z image z.lanes)) ++ (base z image ++ clearing z))
+
+undoes-every : CrashTheorem undoesEvery → ⊥
+unfolding made undoesEvery
+undoes-every =
+    wrong-recovery undoesEvery small (0 ∷ 0 ∷ [])
+    (call (log 0 (set0 2)) ∷ call (redo 0) ∷ call (mark 0) ∷ call (drain 0) ∷ fails junk ∷ []) 1000 junk (0 ∷ 0 ∷ []) (2 ∷ 0 ∷ []) refl
+
+-- 9. Recovery undoes none: a commit whose timestamp did not reach the log stays
+unfoldable undoesNone : Design
+undoesNone = storing (λ z image. base z image ++ clearing z)
+
+undoes-none : CrashTheorem undoesNone → ⊥
+unfolding made undoesNone
+undoes-none =
+    wrong-recovery undoesNone small (0 ∷ 0 ∷ [])
+    (call (log 0 (set0 2)) ∷ call (redo 0) ∷ writeBack 1 ∷ fails junk ∷ []) 1000 junk (2 ∷ 0 ∷ []) (0 ∷ 0 ∷ []) refl
+
+-- 10. Sequences are undone in rising order: of two that name word 0, the later one's old value is left
+unfoldable reversed : List Complete → List Complete
+reversed [] = []
+reversed (q ∷ qs) = reversed qs ++ (q ∷ [])
+
+unfoldable risingOrder : Design
+risingOrder = storing (λ z image. undoSequences (reversed (undone z image)) ++ (base z image ++ clearing z))
+
+rising-order : CrashTheorem risingOrder → ⊥
+unfolding made risingOrder reversed
+rising-order =
+    wrong-recovery risingOrder small (0 ∷ 0 ∷ [])
+    (call (mark 1) ∷ call (log 0 (set0 2)) ∷ call (redo 0) ∷ call (log 0 (set0 3)) ∷ call (redo 0) ∷ writeBacks 0 139 ++ (fails junk ∷ []))
+    1000 junk (2 ∷ 0 ∷ []) (0 ∷ 0 ∷ []) refl
+
+-- 11. A sequence's entries are undone first to last: of two that name word 0, the second one's old value is left
+unfoldable entriesForward : List Old → List Store
+entriesForward [] = []
+entriesForward (e ∷ es) = record { at = 1 + e.word; value = e.old } ∷ entriesForward es
+
+unfoldable sequencesForward : List Complete → List Store
+sequencesForward [] = []
+sequencesForward (q ∷ qs) = entriesForward q.entries ++ sequencesForward qs
+
+unfoldable undoesForward : Design
+undoesForward = storing (λ z image. sequencesForward (undone z image) ++ (base z image ++ clearing z))
+
+undoes-forward : CrashTheorem undoesForward → ⊥
+unfolding made undoesForward sequencesForward entriesForward additions
+undoes-forward =
+    wrong-recovery undoesForward small (0 ∷ 0 ∷ [])
+    (call (log 0 (additions 2)) ∷ call (redo 0) ∷ writeBack 1 ∷ fails junk ∷ []) 1000 junk (1 ∷ 0 ∷ []) (0 ∷ 0 ∷ []) refl
+
+-- 12. An invented count of undone entries
+unfoldable inventedIn : Recovered → Recovered
+inventedIn (recovereds.Refused n) = recovereds.Refused n
+inventedIn recovereds.Cut = recovereds.Cut
+inventedIn (recovereds.Finished a) = recovereds.Finished (record { boundary = a .boundary; undone = a .undone + 1 })
+
+unfoldable inventedCount : Design
+inventedCount =
+    record {
+      format = formatStep;
+      writeBack = writeBackStep;
+      call = callStep;
+      recover = λ z limit m. let r = recoverStep z limit m in record { answer = inventedIn (r .answer); machine = r .machine };
+      cutShort = recoveredNvm;
+    }
+
+invented-count : CrashTheorem inventedCount → ⊥
+unfolding made inventedCount inventedIn
+invented-count = wrong-count inventedCount small (0 ∷ 0 ∷ []) (fails junk ∷ []) 1000 junk (1 ∷ []) (0 ∷ []) refl
+
+-- 13. A Redo stamps without writing
+unfoldable stampsOnly : Design
+stampsOnly = calling (redoing (λ z L m. let s = redoStep z L m in withCache (joined z (m .cache) (s .machine .cache)) s) callStep)
+
+stamps-only : CrashTheorem stampsOnly → ⊥
+unfolding made stampsOnly
+stamps-only = wrong-words stampsOnly small (0 ∷ 0 ∷ []) (call (log 0 (set0 2)) ∷ []) (call (redo 0)) (0 ∷ 0 ∷ []) (2 ∷ 0 ∷ []) refl
+
+-- 14. A Log answers 9 on an empty log, one of a lane without a floor, while another lane has one
+unfoldable refusedIfNone : Timestamp → Machine → Step → Step
+refusedIfNone None m s = record { answer = Refused 9; machine = m }
+refusedIfNone (At f) m s = s
+
+unfoldable nineOnEmpty : Design
+nineOnEmpty = calling (logging (λ z L f m. refusedIfNone (laneAt (m .state) L .floor) m (logStep z L f m)) callStep)
+
+nine-on-empty : CrashTheorem nineOnEmpty → ⊥
+unfolding made nineOnEmpty refusedIfNone
+nine-on-empty = wrong-answer nineOnEmpty small (0 ∷ 0 ∷ []) (call (mark 1) ∷ []) (log 0 (set0 2)) (9 ∷ []) (0 ∷ 4 ∷ []) refl
+
+-- 15. A Redo is always stale
+unfoldable alwaysStale : Design
+alwaysStale = calling (redoing (λ z L m. record { answer = Stale; machine = drained z L m }) callStep)
+
+always-stale : CrashTheorem alwaysStale → ⊥
+unfolding made alwaysStale
+always-stale = wrong-answer alwaysStale small (0 ∷ 0 ∷ []) (call (log 0 (set0 2)) ∷ []) (redo 0) (0 ∷ []) (0 ∷ 4 ∷ []) refl
+
+-- 16. The first transaction is committed; afterwards commits only move the clock
+unfoldable commitsOnce : Design
+commitsOnce =
+    calling (redoing (λ z L m. let s = redoStep z L m in cond (eqb (m .state .last) 0) s (withCache (m .cache) s)) callStep)
+
+commits-once : CrashTheorem commitsOnce → ⊥
+unfolding made commitsOnce
+commits-once =
+    wrong-words commitsOnce small (0 ∷ 0 ∷ []) (call (log 0 (set0 2)) ∷ call (redo 0) ∷ call (log 0 (set0 3)) ∷ [])
+    (call (redo 0)) (2 ∷ 0 ∷ []) (3 ∷ 0 ∷ []) refl
+
+-- 17. A step answers as it should, and leaves all unaltered
+unfoldable unaltered : Design
+unaltered = calling (λ z c m. record { answer = callStep z c m .answer; machine = m })
+
+unaltering : CrashTheorem unaltered → ⊥
+unfolding made unaltered
+unaltering = wrong-clock unaltered small (0 ∷ 0 ∷ []) [] (call (log 0 (set0 2))) (0 ∷ []) (2 ∷ []) refl
+
+-- 18. A Format that leaves the logs as they were: a sequence of before it is undone over the new start words
+unfoldable keepsLogs : Design
+keepsLogs =
+    record {
+      format = λ z start m.
+          let s = formatStep z start m .machine in
+          record {
+            answer = formatStep z start m .answer;
+            machine = record { state = s .state; cache = joined z (s .cache) (m .cache); nvm = joined z (s .nvm) (m .nvm); flags = s .flags };
+          };
+      writeBack = writeBackStep;
+      call = callStep;
+      recover = recoverStep;
+      cutShort = recoveredNvm;
+    }
+
+keeps-logs : CrashTheorem keepsLogs → ⊥
+unfolding made keepsLogs
+keeps-logs =
+    wrong-recovery keepsLogs small (0 ∷ 0 ∷ []) (call (log 0 (set0 2)) ∷ call (redo 0) ∷ call (drain 0) ∷ format (5 ∷ 6 ∷ []) ∷ fails junk ∷ [])
+    1000 junk (0 ∷ 6 ∷ []) (5 ∷ 6 ∷ []) refl

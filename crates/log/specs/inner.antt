@@ -1,0 +1,6 @@
+-- How the code goes and why it is right: need not be believed.
+pub mod LogLaws
+pub mod Search
+pub mod SearchLaws
+pub mod AppendEntries
+pub mod AppendLaws

@@ -1,0 +1,22 @@
+-- How the code goes and why it is right: need not be believed.
+pub mod ToldLaws
+pub mod Limit
+pub mod Clearing
+pub mod Picking
+pub mod Undo
+pub mod LimitLaws
+pub mod PickingLaws
+pub mod LanesLaws
+pub mod ScanLaws
+pub mod EntryLaws
+pub mod UndoLaws
+pub mod RecoveryLaws
+pub mod OrderLaws
+pub mod UndoOrderLaws
+pub mod UndoneLaws
+pub mod BaseLaws
+pub mod SequenceLaws
+pub mod BoundaryLaws
+pub mod UndoStoreLaws
+pub mod AgainLaws
+pub mod FreshLaws

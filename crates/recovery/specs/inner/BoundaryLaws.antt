@@ -1,0 +1,144 @@
+-- Inner: how the code goes, need not be believed. The boundary against the sequences found: it is the timestamp of one lane's latest, at most that of
+-- each, and none where nothing is complete. Assumes nothing.
+use mathlib.Core.Path.{_≡_, refl, ap, _∙_}
+use mathlib.Core.List.{List, [], _∷_}
+use Prim.Native.Nat.{ℕ, zero, suc, _≤_, _<_, min}
+use native.Mathlib.Omega.{arith}
+use native.Mathlib.Nat.{le-refl}
+use lib.Dec.{ltb}
+use borrow.Author.Tests.{ltb-true, ltb-false}
+use Rattle.laws.specs.inner.Tests.{split}
+use Rattle.image.specs.declared.Sizes.{Sizes}
+use Rattle.log.specs.Log.{Complete, completeIn, sequenceOf, later, latest, latestIn, contribution}
+use Rattle.log.specs.declared.Timestamp.{Timestamp}
+use Rattle.log.specs.declared.Timestamp.the-variants.{None, At}
+use Rattle.log.specs.declared.Sequence.{Sequence}
+use Rattle.log.specs.declared.Latest.{Latest}
+use Rattle.log.specs.declared.Latest.the-variants.{Nothing, Is}
+use Rattle.record.specs.Record.{lesser}
+use Rattle.recovery.specs.Recovery.{boundaryBelow, boundary, completeOf}
+use Rattle.laws.specs.inner.Members.{In, here, there}
+use Rattle.recovery.specs.inner.SequenceLaws.{lane-in}
+
+at-one : {a b : ℕ} → At a ≡ At b → a ≡ b
+at-one p = cc
+
+-- ---- a lane's latest sequence
+-- a timestamp that is there, and not below s
+pub record Above (s : ℕ) (t : Timestamp) : Type 0 where
+  pub stamp : ℕ
+  pub is : t ≡ At stamp
+  pub least : s ≤ stamp
+
+above-new : (s : Sequence) (l : Latest) → Above (s .stamp) (contribution (later s l))
+unfolding later contribution
+above-new s Nothing = record { stamp = s .stamp; is = refl; least = le-refl (s .stamp) }
+above-new s (Is r) =
+    split (ltb (r .stamp) (s .stamp))
+    (λ e. rw e (record { stamp = s .stamp; is = refl; least = le-refl (s .stamp) }))
+    (λ e. rw e (record { stamp = r .stamp; is = refl; least = ltb-false (r .stamp) (s .stamp) e }))
+
+above-old : (n : ℕ) (s : Sequence) (l : Latest) → Above n (contribution l) → Above n (contribution (later s l))
+unfolding later contribution
+above-old n s Nothing a = let e = a .is in absurd (let z : _≡_ {A = ℕ} 0 1 = cc in omega arith)
+above-old n s (Is r) a =
+    let e : r .stamp ≡ a .stamp = at-one (a .is) in
+    split (ltb (r .stamp) (s .stamp))
+    (λ t. rw t (record { stamp = s .stamp; is = refl; least = omega (arith, a .least, ltb-true (r .stamp) (s .stamp) t) }))
+    (λ t. rw t (record { stamp = r .stamp; is = refl; least = omega (arith, a .least) }))
+
+-- every sequence is at most the latest
+pub latest-above : {q : Complete} {qs : List Complete} → In q qs → Above (q .stamp) (contribution (latest qs))
+unfolding latest sequenceOf
+latest-above {q} (here {l = qs}) = above-new (sequenceOf q) (latest qs)
+latest-above {q} (there {y = r} {l = qs} i) = above-old (q .stamp) (sequenceOf r) (latest qs) (latest-above i)
+
+-- one of the list has this timestamp
+pub record Stamped (qs : List Complete) (m : ℕ) : Type 0 where
+  pub by : Complete
+  pub found : In by qs
+  pub stamp : by .stamp ≡ m
+
+-- and the latest is one of them
+pub latest-in : (qs : List Complete) (m : ℕ) → contribution (latest qs) ≡ At m → Stamped qs m
+unfolding latest sequenceOf later contribution
+latest-in [] m e = absurd (let z : _≡_ {A = ℕ} 0 1 = cc in omega arith)
+latest-in (r ∷ qs) m e = go (latest qs) refl (latest-in qs)
+  where
+    go : (l : Latest) → latest qs ≡ l → ((n : ℕ) → contribution (latest qs) ≡ At n → Stamped qs n) → Stamped (r ∷ qs) m
+    go Nothing p ih = record { by = r; found = here; stamp = at-one (rw p at e) }
+    go (Is s) p ih =
+        split (ltb (s .stamp) (r .stamp))
+        (λ t. record { by = r; found = here; stamp = at-one (rw (p, t) at e) })
+        (λ t. let i = ih m (ap contribution p ∙ rw (p, t) at e) in record { by = i .by; found = there (i .found); stamp = i .stamp })
+
+-- ---- the least of them
+-- a timestamp that is there, and not above m
+pub record Below (m : ℕ) (t : Timestamp) : Type 0 where
+  pub stamp : ℕ
+  pub is : t ≡ At stamp
+  pub most : stamp ≤ m
+
+below-left : (m : ℕ) (t u : Timestamp) → Below m t → Below m (lesser t u)
+unfolding lesser
+below-left m None u b = let e = b .is in absurd (let z : _≡_ {A = ℕ} 0 1 = cc in omega arith)
+below-left m (At a) None b = b
+below-left m (At a) (At c) b =
+    let e : a ≡ b .stamp = at-one (b .is) in
+    record { stamp = min a c; is = refl; most = omega (arith, b .most) }
+
+below-right : (m : ℕ) (t : Timestamp) → Below m (lesser t (At m))
+unfolding lesser
+below-right m None = record { stamp = m; is = refl; most = le-refl m }
+below-right m (At a) = record { stamp = min a m; is = refl; most = omega arith }
+
+module _ (z : Sizes) (image : List ℕ) where
+  below-lane : (k L m : ℕ) → L < k → contribution (latestIn z image L) ≡ At m → Below m (boundaryBelow z image k)
+  unfolding boundaryBelow
+  below-lane zero L m l e = absurd (omega arith)
+  below-lane (suc k) L m l e =
+      split (ltb L k)
+      (λ t. below-left m (boundaryBelow z image k) (contribution (latestIn z image k)) (below-lane k L m (ltb-true L k t) e))
+      (λ t. let p : L ≡ k = omega (arith, ltb-false L k t) in rw (rw p at e) (below-right m (boundaryBelow z image k)))
+
+  -- the boundary is at most each lane's latest
+  pub boundary-below : (L m : ℕ) → L < z.lanes → contribution (latestIn z image L) ≡ At m → Below m (boundary z image)
+  unfolding boundary
+  boundary-below L m l e = below-lane z.lanes L m l e
+
+  -- a lane below k whose latest sequence has this timestamp
+  pub record LaneWith (k b : ℕ) : Type 0 where
+    pub lane : ℕ
+    pub low : lane < k
+    pub latest : contribution (latestIn z image lane) ≡ At b
+
+  lane-with : (k b : ℕ) → boundaryBelow z image k ≡ At b → LaneWith k b
+  unfolding boundaryBelow lesser
+  lane-with zero b e = absurd (let z : _≡_ {A = ℕ} 0 1 = cc in omega arith)
+  lane-with (suc k) b e = go (boundaryBelow z image k) refl (contribution (latestIn z image k)) refl (lane-with k)
+    where
+      up : LaneWith k b → LaneWith (suc k) b
+      up r = record { lane = r .lane; low = omega (arith, r .low); latest = r .latest }
+
+      go : (t : Timestamp) → boundaryBelow z image k ≡ t → (u : Timestamp) → contribution (latestIn z image k) ≡ u
+          → ((a : ℕ) → boundaryBelow z image k ≡ At a → LaneWith k a) → LaneWith (suc k) b
+      go None p u q ih = record { lane = k; low = omega arith; latest = rw p at e }
+      go (At a) p None q ih = up (ih b (p ∙ rw (p, q) at e))
+      go (At a) p (At c) q ih =
+          let f : min a c ≡ b = at-one (rw (p, q) at e) in
+          split (ltb a c)
+          (λ t. up (ih b (p ∙ ap At (let g : a ≡ b = omega (arith, ltb-true a c t) in g))))
+          (λ t. record { lane = k; low = omega arith; latest = q ∙ ap At (let g : c ≡ b = omega (arith, ltb-false a c t) in g) })
+
+  -- and one lane's latest
+  pub boundary-is : (b : ℕ) → boundary z image ≡ At b → LaneWith z.lanes b
+  unfolding boundary
+  boundary-is b e = lane-with z.lanes b e
+
+  -- so it is the timestamp of a sequence
+  pub boundary-in : (b : ℕ) → boundary z image ≡ At b → Stamped (completeOf z image z.lanes) b
+  unfolding latestIn
+  boundary-in b e =
+      let r = boundary-is b e in
+      let q = latest-in (completeIn z image (r .lane)) b (r .latest) in
+      record { by = q .by; found = lane-in z image z.lanes (r .lane) (r .low) (q .found); stamp = q .stamp }

@@ -1,0 +1,236 @@
+-- Inner: how the code goes, need not be believed. Laws of reading the logs: what a slot offers, a lane's timestamps tried from the greatest down, and
+-- the lanes one after another: the boundary and the new base. Assumes nothing.
+use mathlib.Core.Path.{_≡_, refl, sym, ap, subst, _∙_}
+use mathlib.Core.Logic.{_≢_}
+use mathlib.Core.Bool.{false}
+use mathlib.Core.List.{List}
+use Prim.Native.Nat.{ℕ, _+_, _-_, _*_, max, _≤_, _<_}
+use native.Mathlib.Omega.{arith}
+use native.Mathlib.Numerals.{add-one}
+use native.Mathlib.Nat.{add-sub-cancel-left}
+use lib.Dec.{ltb, eqb}
+use lib.ListN.{length, getD, set, length-set}
+use lib.Seq.{getD-set-same, getD-set-other}
+use borrow.Author.Count.{below-none, below-more}
+use borrow.Author.Tests.{ltb-true, lt-ltb, eqb-true, eqb-false}
+use borrow.Rule.Slice.PartMut.{putMid}
+use Rattle.laws.specs.inner.Tests.{split}
+use Rattle.winners.specs.inner.Winners.{AtMost, greatestAt, Tournament}
+use Rattle.winners.specs.inner.GreatestLaws.{greatest-low, greatest-most}
+use Rattle.slot.specs.declared.Content.{Content}
+use Rattle.slot.specs.declared.Content.the-variants.{Empty, Torn, Entry, Stamp}
+use Rattle.slot.specs.Slot.{maxEntries}
+use Rattle.image.specs.Image.{baseOf, logOf}
+use Rattle.image.specs.declared.Sizes.{Sizes}
+use Rattle.log.specs.Log.{slotAt, entriesBack, latestIn, contribution}
+use Rattle.log.specs.inner.LogLaws.{stamp-in, latest-in}
+use Rattle.log.specs.inner.Search.{entryBack, closedAt}
+use Rattle.log.specs.inner.SearchLaws.{Closed, closed-from, closed-bad, closed-whole, NotAbove, Below, latest-none, latest-is}
+use Rattle.log.specs.declared.Timestamp.{Timestamp}
+use Rattle.log.specs.declared.Timestamp.the-variants.{None, At}
+use Rattle.log.specs.declared.Sequence.{Sequence}
+use Rattle.log.specs.declared.Latest.{Latest}
+use Rattle.log.specs.declared.Latest.the-variants.{Nothing, Is}
+use Rattle.record.specs.Record.{lesser}
+use Rattle.recovery.specs.Recovery.{boundaryBelow, boundary, wholeStamp, greatestBelow, greatestOf, newBase}
+use Rattle.recovery.specs.inner.Picking.{countOf, wrapOf, offered, Offers, partOf, Offering, Tournaments}
+use Rattle.recovery.specs.inner.PickingLaws.{not-above, is-below}
+use Rattle.recovery.specs.inner.LanesLaws.{lane-inside, put-here, put-other, trees-put}
+
+-- ---- one slot
+-- a timestamp that is offered says how many entries it closes
+offered-by : (base : ℕ) (c : Content) → offered base (wholeStamp c) ≢ 0
+    → (c ≡ Stamp (countOf c) (offered base (wholeStamp c)) (wrapOf c)) × (base < offered base (wholeStamp c))
+unfolding offered wholeStamp countOf wrapOf
+offered-by base Empty h = absurd (h (split (ltb base 0) (λ e. rw e) (λ e. rw e)))
+offered-by base Torn h = absurd (h (split (ltb base 0) (λ e. rw e) (λ e. rw e)))
+offered-by base (Entry i v p) h = absurd (h (split (ltb base 0) (λ e. rw e) (λ e. rw e)))
+offered-by base (Stamp n s p) h = split (ltb base s) (λ e. rw e (refl, ltb-true base s e)) (λ e. absurd (h (rw e)))
+
+never : {A : Type 0} {q : Sequence} → Nothing ≡ Is q → A
+never e = absurd (let z : _≡_ {A = ℕ} 0 1 = cc in omega arith)
+
+module _ (W N base : ℕ) (log : List ℕ) (j : ℕ) where
+  -- a complete sequence's timestamp is offered
+  pub closed-offered : (q : Sequence) → Closed W N base log j q → offered base (wholeStamp (slotAt W log j)) ≡ q .stamp
+  unfolding offered wholeStamp
+  closed-offered q c = rw (c .reads, lt-ltb base (q .stamp) (c .above))
+
+  offered-none : offered base (wholeStamp (slotAt W log j)) ≡ 0 → closedAt W N base log j ≡ Nothing
+  offered-none h = by (closedAt W N base log j) refl
+    where
+      by : (x : Latest) → closedAt W N base log j ≡ x → x ≡ Nothing
+      by Nothing e = refl
+      by (Is q) e = let c = closed-from W N base log j q e in absurd (omega (arith, closed-offered q c, c .above))
+
+-- ---- the pass over a lane's slots, up to slot j
+pub record OfferedTo (z : Sizes) (image : List ℕ) (L greatest j : ℕ) (s : List ℕ) (most : ℕ) : Type 0 where
+  pub long : length s ≡ z .slots
+  pub stamps : (i : ℕ) → i < j → getD s i 0 ≡ offered (baseOf image) (wholeStamp (slotAt (z .words) (logOf z L image) i))
+  pub whole : most ≡ max greatest (greatestBelow (z .words) (logOf z L image) j)
+
+module _ (z : Sizes) (image : List ℕ) (L greatest : ℕ) where
+  pub offered-start : (s : List ℕ) → length s ≡ z .slots → OfferedTo z image L greatest 0 s greatest
+  unfolding greatestBelow
+  offered-start s e =
+      record {
+        long = e;
+        stamps = below-none (λ i. getD s i 0 ≡ offered (baseOf image) (wholeStamp (slotAt (z .words) (logOf z L image) i)));
+        whole = omega arith;
+      }
+
+  pub offered-more : (j : ℕ) (s : List ℕ) (most : ℕ) → OfferedTo z image L greatest j s most → j < z .slots
+      → (c : Content) (w v m : ℕ) → c ≡ slotAt (z .words) (logOf z L image) j → w ≡ wholeStamp c → v ≡ offered (baseOf image) w → m ≡ max most w
+      → OfferedTo z image L greatest (j + 1) (set s j v) m
+  unfolding greatestBelow
+  offered-more j s most r h c w v m e₁ e₂ e₃ e₄ =
+      let d : w ≡ wholeStamp (slotAt (z .words) (logOf z L image) j) = e₂ ∙ ap wholeStamp e₁ in
+      record {
+        long = length-set s j v ∙ r .long;
+        stamps = below-more (λ i. getD (set s j v) i 0 ≡ offered (baseOf image) (wholeStamp (slotAt (z .words) (logOf z L image) i))) j
+            (λ i l. getD-set-other s j i v 0 (λ e. omega arith) ∙ r .stamps i l)
+            (getD-set-same s j v 0 (rw (r .long) h) ∙ e₃ ∙ ap (offered (baseOf image)) d);
+        whole = rw add-one (omega (arith, d, e₄, r .whole));
+      }
+
+  pub offered-all : (j : ℕ) (s : List ℕ) (most : ℕ) → OfferedTo z image L greatest j s most → j ≡ z .slots
+      → Offers z image L s × (most ≡ max greatest (greatestBelow (z .words) (logOf z L image) (z .slots)))
+  offered-all j s most r e = (
+    record {
+      long = r .long;
+      some = λ i h _. r .stamps i (rw e h);
+      every = λ i h d. offered-none (z .words) (z .slots) (baseOf image) (logOf z L image) i (sym (r .stamps i (rw e h)) ∙ d);
+    },
+    r .whole ∙ ap (λ n. max greatest (greatestBelow (z .words) (logOf z L image) n)) e,
+  )
+
+-- ---- the search for a lane's latest sequence: m is the place of the greatest timestamp that is offered
+module _ (z : Sizes) (image : List ℕ) (L : ℕ) (pos : 0 < z .slots) (s : List ℕ)
+    (o : Offers z image L s) (m : ℕ) (e : m ≡ greatestAt s (length s)) where
+  pub search-low : m < z .slots
+  search-low = rw (e, o .long) (greatest-low s (z .slots) pos)
+
+  most : (i : ℕ) → i < z .slots → AtMost s i m
+  most i h = rw e (greatest-most s (length s) i (rw (o .long) h))
+
+  -- none is offered
+  pub search-none : getD s m 0 ≡ 0 → None ≡ contribution (latestIn z image L)
+  unfolding contribution
+  search-none h =
+      rw (
+        latest-in z image L,
+        latest-none (z .words) (z .slots) (baseOf image) (logOf z L image) (z .slots)
+            (λ i l. o .every i l (omega (arith, not-above s i m (most i l)))),
+      )
+
+  module _ (h : getD s m 0 ≢ 0) (c : Content) (r : c ≡ slotAt (z .words) (logOf z L image) m) where
+    says : (c ≡ Stamp (countOf c) (getD s m 0) (wrapOf c)) × (baseOf image < getD s m 0)
+    says =
+        let f : getD s m 0 ≡ offered (baseOf image) (wholeStamp c) = o .some m search-low h ∙ ap (λ x. offered (baseOf image) (wholeStamp x)) (sym r) in
+        rw f (offered-by (baseOf image) c (λ d. h (f ∙ d)))
+
+    pub search-few : (countOf c ≤ maxEntries) × (wrapOf c ≤ 1)
+    search-few = let f = stamp-in (z .words) (logOf z L image) m _ _ _ (sym r ∙ says .0) in (f .count, f .wrap)
+
+    -- it is incomplete, and offered no more
+    pub search-drops : (i : ℕ) → i < countOf c → entryBack (z .words) (z .slots) (logOf z L image) m (wrapOf c) (i + 1) ≡ false
+        → Offers z image L (set s m 0)
+    search-drops i l b =
+        record {
+          long = length-set s m 0 ∙ o .long;
+          some = λ j k n. split (eqb j m)
+              (λ t. absurd (n (rw (eqb-true j m t) (getD-set-same s m 0 0 (rw (o .long) search-low)))))
+              (λ t. let g : getD (set s m 0) j 0 ≡ getD s j 0 = getD-set-other s m j 0 0 (eqb-false j m t) in g ∙ o .some j k (λ d. n (g ∙ d)));
+          every = λ j k n. split (eqb j m)
+              (λ t. rw (eqb-true j m t) (sym (closed-bad (z .words) (z .slots) (baseOf image) (logOf z L image) m r (says .0) i l b)))
+              (λ t. o .every j k (sym (getD-set-other s m j 0 0 (eqb-false j m t)) ∙ n));
+        }
+
+    -- it is complete: the latest
+    module _ (w : length (entriesBack (z .words) (z .slots) (logOf z L image) m (wrapOf c) (countOf c)) ≡ countOf c) where
+      closed-stamp : (i : ℕ) → i < z .slots → (q : Sequence) → closedAt (z .words) (z .slots) (baseOf image) (logOf z L image) i ≡ Is q → q .stamp ≡ getD s i 0
+      closed-stamp i k q x =
+          sym (o .some i k (λ d. never (sym (o .every i k d) ∙ x))
+          ∙ closed-offered (z .words) (z .slots) (baseOf image) (logOf z L image) i q
+          (closed-from (z .words) (z .slots) (baseOf image) (logOf z L image) i q x))
+
+      below : (i : ℕ) → i < m → NotAbove (getD s m 0) (closedAt (z .words) (z .slots) (baseOf image) (logOf z L image) i)
+      unfolding NotAbove
+      below i k = by (closedAt (z .words) (z .slots) (baseOf image) (logOf z L image) i) refl
+        where
+          by : (x : Latest) → closedAt (z .words) (z .slots) (baseOf image) (logOf z L image) i ≡ x → NotAbove (getD s m 0) x
+          by Nothing x = tt
+          by (Is q) x = rw (closed-stamp i (omega (arith, search-low)) q x) (not-above s i m (most i (omega (arith, search-low))))
+
+      above : (i : ℕ) → m < i → i < z .slots → Below (getD s m 0) (closedAt (z .words) (z .slots) (baseOf image) (logOf z L image) i)
+      unfolding Below
+      above i k l = by (closedAt (z .words) (z .slots) (baseOf image) (logOf z L image) i) refl
+        where
+          by : (x : Latest) → closedAt (z .words) (z .slots) (baseOf image) (logOf z L image) i ≡ x → Below (getD s m 0) x
+          by Nothing x = tt
+          by (Is q) x = rw (closed-stamp i l q x) (is-below s i m k (most i l))
+
+      pub search-latest : At (getD s m 0) ≡ contribution (latestIn z image L)
+      unfolding contribution
+      search-latest =
+          rw (
+            latest-in z image L,
+            latest-is (z .words) (z .slots) (baseOf image) (logOf z L image) m (z .slots)
+                (record { stamp = getD s m 0; count = countOf c; slot = m }) search-low
+                (sym (closed-whole (z .words) (z .slots) (baseOf image) (logOf z L image) m r (says .0) (says .1) w)) below above,
+          )
+
+-- ---- the lanes below k
+pub record Scanned (z : Sizes) (image : List ℕ) (room k : ℕ) (a t : List ℕ) (b : Timestamp) (base : ℕ) : Type 0 where
+  pub trees : Tournaments room (z .slots) k a t
+  pub offering : Offering z image k a
+  pub least : b ≡ boundaryBelow z image k
+  pub most : base ≡ max (baseOf image) (greatestOf z image k)
+
+module _ (z : Sizes) (image : List ℕ) (room : ℕ) where
+  pub scanned-none : (a t : List ℕ) → length a ≡ room → length t ≡ room → Scanned z image room 0 a t None (getD image 0 0)
+  unfolding boundaryBelow greatestOf baseOf
+  scanned-none a t e f =
+      record {
+        trees = record { long = e; tree-long = f; at = λ L h. absurd (omega arith) };
+        offering = record { at = λ L h. absurd (omega arith) };
+        least = refl;
+        most = omega arith;
+      }
+
+  module _ (i : z .lanes * z .slots ≤ room) (k : ℕ) (a t : List ℕ) (b : Timestamp) (base : ℕ) (r : Scanned z image room k a t b base) (l : k < z .lanes)
+      (s u : List ℕ)
+      (o : Offers z image k s) (w : Tournament s u) where
+    fits : k * z .slots + z .slots ≤ length a
+    fits = rw (r .trees .long) (lane-inside z k room i l)
+
+    offers : (L : ℕ) → L < k + 1 → Offers z image L (partOf (z .slots) L (putMid (k * z .slots) (z .slots) a s))
+    offers L h =
+        split (eqb L k)
+        (λ d. rw (eqb-true L k d, put-here (z .slots) k a s fits (o .long)) o)
+        (λ d. rw (put-other (z .slots) k a s fits (o .long) L (eqb-false L k d)) (r .offering .at L (omega (arith, eqb-false L k d))))
+
+    pub scanned-more : (b′ : Timestamp) (base′ : ℕ)
+        → b′ ≡ lesser b (contribution (latestIn z image k)) → base′ ≡ max base (greatestBelow (z .words) (logOf z k image) (z .slots))
+        → Scanned z image room (k + 1) (putMid (k * z .slots) (k * z .slots + z .slots - k * z .slots) a s)
+        (putMid (k * z .slots) (k * z .slots + z .slots - k * z .slots) t u) b′ base′
+    unfolding boundaryBelow greatestOf
+    scanned-more b′ base′ g h =
+        rw (add-sub-cancel-left (k * z .slots) (z .slots))
+        (record {
+          trees = trees-put room (z .slots) k a t s u (r .trees .long) (r .trees .tree-long) (lane-inside z k room i l) (o .long) w (k + 1)
+              (λ M m d. r .trees .at M (omega (arith, d)));
+          offering = record { at = offers };
+          least = rw (add-one, ← r .least) g;
+          most = rw add-one (omega (arith, h, r .most));
+        })
+
+  pub scanned-all : (k : ℕ) (a t : List ℕ) (b : Timestamp) (base : ℕ) → Scanned z image room k a t b base → k ≡ z .lanes
+      → (b ≡ boundary z image) × (base ≡ newBase z image) × Offering z image (z .lanes) a × Tournaments room (z .slots) (z .lanes) a t
+  unfolding boundary newBase
+  scanned-all k a t b base r e = (
+    r .least ∙ ap (boundaryBelow z image) e,
+    r .most ∙ ap (λ n. max (baseOf image) (greatestOf z image n)) e,
+    subst (λ n. Offering z image n a) e (r .offering),
+    subst (λ n. Tournaments room (z .slots) n a t) e (r .trees),
+  )

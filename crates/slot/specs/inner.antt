@@ -1,0 +1,3 @@
+-- How the code goes and why it is right: need not be believed.
+pub mod SlotLaws
+pub mod SlotBits

@@ -1,0 +1,21 @@
+-- Inner: how the code goes, need not be believed. A run in progress: what the code holds after some of the instructions. Assumes nothing.
+use Prim.Native.Nat.{ℕ, _-_, _≤_}
+use mathlib.Core.Path.{_≡_}
+use mathlib.Core.Bool.{true}
+use mathlib.Core.List.{List, _++_}
+use lib.ListN.{length}
+use Rattle.txn.specs.declared.Write.{Write}
+use Rattle.txn.specs.Txn.{instructionsFrom, allOk, applied, runFrom, run}
+use Rattle.txn.specs.inner.Writes.{padded}
+use Rattle.txn.specs.inner.Lookup.{Seen}
+
+-- after i of n instructions: what is written, and that the rest of them gives the rest of the run
+pub record Reached (most : ℕ) (f ws : List ℕ) (n i : ℕ) (list : List Write) (words news last : List ℕ) (count : ℕ) : Type 0 where
+  pub done : List Write
+  pub counted : count ≡ length done
+  pub listed : list ≡ padded most done
+  pub seen : Seen most ws count words news last (applied done ws)
+  pub few : count ≤ i
+  pub fits : n ≤ most
+  pub ok : allOk (length ws) (instructionsFrom f i (n - i)) ≡ true
+  pub rest : run (length ws) f ws ≡ done ++ runFrom (length ws) 0 (instructionsFrom f i (n - i)) (applied done ws)
