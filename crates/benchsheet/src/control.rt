@@ -1,50 +1,61 @@
-// The control: calls after which one word of what the store left is spoiled, so that each of them must count as one that differs.
+// The control: calls after which one word of what the store left is spoiled, so that each of them must count as one
+// that differs.
 use crate::edges;
-use crate::second;
-use crate::session;
-use crate::words::Bench;
-use crate::words::STATE;
-use crate::words::STORED;
-use crate::words::STORED_CACHE;
-use crate::words::minus;
-use crate::words::plus;
-use crate::words::set_row;
-use crate::words::times;
+use bench::regions::SPOILED_ROW;
+use bench::regions::STORED;
+use bench::regions::STORED_CACHE;
+use bench::session;
+use second::words::Arena;
+use second::words::MAX_LANES;
+use second::words::MAX_SLOTS;
+use second::words::MAX_WORDS;
+use second::words::STATE;
+use second::words::minus;
+use second::words::plus;
+use second::words::set_row;
 
-fn set_spoiled(bench: &mut Bench, region: u64, word: u64) {
-    set_row(bench, STATE, 4, region, word, 0, 0);
+fn set_spoiled(arena: &mut Arena, region: u64, word: u64) {
+    set_row(arena, STATE, SPOILED_ROW, region, word, 0, 0);
 }
 
 // The word of case i: each of the record and the answer, then each of the three buffers, of 139 words.
-fn spoil_any(bench: &mut Bench, i: u64) {
+fn spoil_any(arena: &mut Arena, i: u64) {
     if i < second::LENGTH {
-        set_spoiled(bench, STORED, i);
+        set_spoiled(arena, STORED, i);
     } else {
         let k = minus(i, second::LENGTH);
-        set_spoiled(bench, plus(STORED_CACHE, k / 139), k % 139);
+        set_spoiled(
+            arena,
+            plus(STORED_CACHE, k / edges::LENGTH),
+            k % edges::LENGTH,
+        );
     }
 }
 
 // A Redo that commits, on a small store.
-fn small(bench: &mut Bench, i: u64) {
-    edges::start_for(bench, second::REDO, 1);
-    spoil_any(bench, i);
-    edges::probe(bench, second::REDO, 1, 4);
+fn small(arena: &mut Arena, i: u64) {
+    edges::start_for(arena, second::REDO, 1);
+    spoil_any(arena, i);
+    edges::probe(arena, second::REDO, 1, 4);
 }
 
 // A Format with the greatest sizes: every 160th word of each buffer, of which the last is one.
-fn full(bench: &mut Bench, i: u64) {
-    session::set_sizes(bench, 1024, 8, 256);
-    set_spoiled(bench, plus(STORED_CACHE, i / 33), times(i % 33, 160));
-    session::call(bench, second::FORMAT, 0, 1024);
+fn full(arena: &mut Arena, i: u64) {
+    session::set_sizes(arena, MAX_WORDS, MAX_LANES, MAX_SLOTS);
+    set_spoiled(arena, plus(STORED_CACHE, i / 33), i % 33 * 160);
+    session::call(arena, second::FORMAT, 0, MAX_WORDS);
 }
 
-// 1,540 and 3 times 139 words, then 3 times 33.
-pub(crate) fn spoiled(bench: &mut Bench, i: u64) {
-    if i < 1957 {
-        small(bench, i);
+// A word of the record and the answer or of three small buffers, then 3 times 33.
+const SMALL: u64 = second::LENGTH + 3 * edges::LENGTH;
+
+pub(crate) const CASES: u64 = SMALL + 99;
+
+pub(crate) fn spoiled(arena: &mut Arena, i: u64) {
+    if i < SMALL {
+        small(arena, i);
     } else {
-        full(bench, minus(i, 1957));
+        full(arena, minus(i, SMALL));
     }
-    set_spoiled(bench, 0, 0);
+    set_spoiled(arena, 0, 0);
 }

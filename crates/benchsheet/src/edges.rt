@@ -1,173 +1,187 @@
-// Both sides of the ends of each range, one call a case, on a small store of two lanes unless the case is about sizes. Where 01 gives the number of the refusal, it is expected too.
-use crate::print;
-use crate::second;
-use crate::second::fields;
-use crate::second::reading;
-use crate::second::restart;
-use crate::session;
-use crate::words::Bench;
-use crate::words::CACHE;
-use crate::words::FLAGS;
-use crate::words::MOST;
-use crate::words::NVM;
-use crate::words::RECORD;
-use crate::words::STATE;
-use crate::words::TXN;
-use crate::words::WORDS;
-use crate::words::clear;
-use crate::words::copy;
-use crate::words::get;
-use crate::words::minus;
-use crate::words::only;
-use crate::words::plus;
-use crate::words::put;
-use crate::words::set_row;
+// Both sides of the ends of each range, one call a case, on a small store of two lanes unless the case is about sizes.
+// Where 01 gives the number of the refusal, it is expected too.
+use bench::print;
+use bench::regions::ROOM;
+use bench::regions::START;
+use bench::session;
+use second::fields;
+use second::reading;
+use second::restart;
+use second::words::Arena;
+use second::words::CACHE;
+use second::words::FLAGS;
+use second::words::MAX_LANES;
+use second::words::MAX_SLOTS;
+use second::words::MAX_STAMP;
+use second::words::MAX_WORDS;
+use second::words::MIN_SLOTS;
+use second::words::NVM;
+use second::words::RECORD;
+use second::words::STATE;
+use second::words::TXN;
+use second::words::WORDS;
+use second::words::clear;
+use second::words::copy;
+use second::words::get;
+use second::words::minus;
+use second::words::only;
+use second::words::plus;
+use second::words::put;
+use second::words::set_row;
 
-// An empty store of W 2, T 2, N 34, whose image has 139 words, and a transaction that sets word 0 to 3.
-pub(crate) fn start(bench: &mut Bench) {
-    session::set_sizes(bench, 2, 2, 34);
-    session::fit(bench);
-    clear(bench, CACHE, 5122);
-    clear(bench, FLAGS, 5122);
-    clear(bench, TXN, 1025);
-    fields::set_start(bench, 0);
-    set_row(bench, TXN, 0, 1, 0, 0, 3);
+// The words of an image of the small store: W 2, T 2, N 34.
+pub(crate) const LENGTH: u64 = 139;
+
+// An empty small store, and a transaction that sets word 0 to 3.
+pub(crate) fn start(arena: &mut Arena) {
+    session::set_sizes(arena, 2, 2, MIN_SLOTS);
+    session::fit(arena);
+    clear(arena, CACHE, ROOM);
+    clear(arena, FLAGS, ROOM);
+    clear(arena, TXN, START);
+    fields::set_start(arena, 0);
+    set_row(arena, TXN, 0, 1, 0, 0, 3);
 }
 
 // A call. Non-volatile memory lags behind the cache by data word 0, which every lane has flushed.
-pub(crate) fn probe(bench: &mut Bench, code: u64, number: u64, used: u64) {
-    copy(bench, CACHE, NVM, 0, 5122);
-    put(bench, NVM, 1, 9);
-    put(bench, FLAGS, 1, 255);
-    session::call_with(bench, code, number, used);
+pub(crate) fn probe(arena: &mut Arena, code: u64, number: u64, used: u64) {
+    copy(arena, CACHE, NVM, 0, ROOM);
+    put(arena, NVM, 1, 9);
+    put(arena, FLAGS, 1, 255);
+    session::call_with(arena, code, number, used);
 }
 
 // Counts a difference unless the call was refused with this number, or not at all where it is 0.
-pub(crate) fn expect(bench: &mut Bench, number: u64) {
-    session::expect(bench, session::refusal(bench) == number);
+pub(crate) fn expect(arena: &mut Arena, number: u64) {
+    session::expect(arena, session::refusal(arena) == number);
 }
 
 // A call at an edge, printed with what stands there.
-fn probe_at(bench: &mut Bench, code: u64, number: u64, refusal: u64, what: &[u8], n: u64) {
-    probe(bench, code, number, 4);
-    expect(bench, refusal);
-    print::edge(bench, what, n);
+fn probe_at(arena: &mut Arena, code: u64, number: u64, refusal: u64, what: &[u8], n: u64) {
+    probe(arena, code, number, 4);
+    expect(arena, refusal);
+    print::edge(arena, what, n);
 }
 
 // The two words of a slot in the cached log.
-pub(crate) fn put_slot(bench: &mut Bench, lane: u64, slot: u64, address: u64, value: u64) {
-    let at = reading::place(bench, lane, slot);
-    put(bench, CACHE, at, address);
-    put(bench, CACHE, plus(at, 1), value);
+pub(crate) fn put_slot(arena: &mut Arena, lane: u64, slot: u64, address: u64, value: u64) {
+    let at = reading::place(arena, lane, slot);
+    put(arena, CACHE, at, address);
+    put(arena, CACHE, plus(at, 1), value);
 }
 
 // The lane holds that transaction.
-fn hold(bench: &mut Bench, lane: u64) {
-    fields::set_held(bench, lane, 1, 0, 1, 2);
-    set_row(bench, RECORD, fields::pair(lane, 0), 0, 0, 3, 0);
+fn hold(arena: &mut Arena, lane: u64) {
+    fields::set_held(arena, lane, 1, 0, 1, 2);
+    set_row(arena, RECORD, fields::pair(lane, 0), 0, 0, 3, 0);
 }
 
-// The clock is 8, and in a lane's log there is one sequence, with wrap bit 1: an entry of word 0 with old value 0, and timestamp 2. The transaction set word 0 to 3, and is logged
-// where `held` is set.
-pub(crate) fn prepare(bench: &mut Bench, lane: u64, held: bool) {
-    put_slot(bench, lane, 0, 9, 1);
-    put_slot(bench, lane, 1, 32777, 3);
-    fields::set_time(bench, 8, 0);
-    fields::set_log(bench, lane, 2, 1, 2);
+// The clock is 8, and in a lane's log there is one sequence, with wrap bit 1: an entry of word 0 with old value 0, and
+// timestamp 2. The transaction set word 0 to 3, and is logged where `held` is set.
+pub(crate) fn prepare(arena: &mut Arena, lane: u64, held: bool) {
+    put_slot(arena, lane, 0, 9, 1);
+    put_slot(arena, lane, 1, 32777, 3);
+    fields::set_time(arena, 8, 0);
+    fields::set_log(arena, lane, 2, 1, 2);
     if held {
-        hold(bench, lane);
+        hold(arena, lane);
     }
 }
 
+// Does the call commit what the lane holds?
+pub(crate) fn commits(code: u64) -> bool {
+    code == second::REDO || code == second::VALIDATE
+}
+
 // A start with a lane prepared for a call.
-pub(crate) fn start_for(bench: &mut Bench, code: u64, lane: u64) {
-    start(bench);
-    prepare(bench, lane, second::commits(code));
+pub(crate) fn start_for(arena: &mut Arena, code: u64, lane: u64) {
+    start(arena);
+    prepare(arena, lane, commits(code));
 }
 
 // ---- sizes. The first seven cases are in range.
 fn words_case(i: u64) -> u64 {
     match i {
-        1 | 4 => 1024,
-        5 => 1023,
+        1 | 4 => MAX_WORDS,
+        5 => MAX_WORDS - 1,
         6 => 2,
         7 => 0,
-        8 => 1025,
-        13 => MOST,
+        8 => MAX_WORDS + 1,
+        13 => u64::MAX,
         _ => 1,
     }
 }
 
 fn lanes_case(i: u64) -> u64 {
     match i {
-        2 | 4 => 8,
-        5 => 7,
+        2 | 4 => MAX_LANES,
+        5 => MAX_LANES - 1,
         6 => 2,
         9 => 0,
-        10 => 9,
-        14 => MOST,
+        10 => MAX_LANES + 1,
+        14 => u64::MAX,
         _ => 1,
     }
 }
 
 fn slots_case(i: u64) -> u64 {
     match i {
-        3 | 4 => 256,
-        5 => 255,
-        6 => 35,
-        11 => 33,
-        12 => 257,
-        15 => MOST,
-        _ => 34,
+        3 | 4 => MAX_SLOTS,
+        5 => MAX_SLOTS - 1,
+        6 => MIN_SLOTS + 1,
+        11 => MIN_SLOTS - 1,
+        12 => MAX_SLOTS + 1,
+        15 => u64::MAX,
+        _ => MIN_SLOTS,
     }
 }
 
-fn set_size_case(bench: &mut Bench, i: u64) {
-    session::set_sizes(bench, words_case(i), lanes_case(i), slots_case(i));
-    session::fit(bench);
+fn set_size_case(arena: &mut Arena, i: u64) {
+    session::set_sizes(arena, words_case(i), lanes_case(i), slots_case(i));
+    session::fit(arena);
 }
 
 // Lane 0, word 0, or no limit; as many words as Format wants, or a transaction of four.
-fn probe_empty(bench: &mut Bench, code: u64) {
+fn probe_empty(arena: &mut Arena, code: u64) {
     let mut used = 4;
     if code == second::FORMAT {
-        used = get(bench, STATE, WORDS);
+        used = get(arena, STATE, WORDS);
     }
-    probe(bench, code, only(code == second::RECOVER, MOST), used);
+    probe(arena, code, only(code == second::RECOVER, u64::MAX), used);
 }
 
 // Each size case with each call.
-pub(crate) fn sizes(bench: &mut Bench, i: u64) {
+pub(crate) fn sizes(arena: &mut Arena, i: u64) {
     let code = i % 8 + 1;
-    start(bench);
-    set_size_case(bench, i / 8);
-    probe_empty(bench, code);
-    session::expect(bench, (session::refusal(bench) == 1) == (56 <= i));
+    start(arena);
+    set_size_case(arena, i / 8);
+    probe_empty(arena, code);
+    session::expect(arena, (session::refusal(arena) == 1) == (56 <= i));
     if code == second::FORMAT {
-        print::sizes(bench);
+        print::sizes(arena);
     }
 }
 
 // ---- buffers. One of them is a word too short or too long; with each call. Then Format with 1, 2 and 3 start words.
-fn wrong_length(bench: &mut Bench, i: u64) {
-    let all = restart::length(bench);
+fn wrong_length(arena: &mut Arena, i: u64) {
+    let all = restart::length(arena);
     let wrong = minus(plus(all, i % 2 * 2), 1);
     match i / 2 {
-        0 => session::set_lengths(bench, wrong, all, all),
-        1 => session::set_lengths(bench, all, wrong, all),
-        _ => session::set_lengths(bench, all, all, wrong),
+        0 => session::set_lengths(arena, wrong, all, all),
+        1 => session::set_lengths(arena, all, wrong, all),
+        _ => session::set_lengths(arena, all, all, wrong),
     }
 }
 
-pub(crate) fn buffers(bench: &mut Bench, i: u64) {
-    start(bench);
+pub(crate) fn buffers(arena: &mut Arena, i: u64) {
+    start(arena);
     if i < 48 {
-        wrong_length(bench, i / 8);
-        probe_empty(bench, i % 8 + 1);
-        expect(bench, 1);
+        wrong_length(arena, i / 8);
+        probe_empty(arena, i % 8 + 1);
+        expect(arena, 1);
     } else {
-        probe(bench, second::FORMAT, 0, i - 47);
-        expect(bench, only(i != 49, 1));
+        probe(arena, second::FORMAT, 0, i - 47);
+        expect(arena, only(i != 49, 1));
     }
 }
 
@@ -175,17 +189,17 @@ pub(crate) fn buffers(bench: &mut Bench, i: u64) {
 fn word_case(i: u64) -> u64 {
     match i {
         0 => 0,
-        1 => 138,
-        2 => 139,
-        _ => MOST,
+        1 => LENGTH - 1,
+        2 => LENGTH,
+        _ => u64::MAX,
     }
 }
 
-pub(crate) fn words(bench: &mut Bench, i: u64) {
-    start_for(bench, second::WRITE_BACK, 0);
+pub(crate) fn words(arena: &mut Arena, i: u64) {
+    start_for(arena, second::WRITE_BACK, 0);
     let word = word_case(i);
     probe_at(
-        bench,
+        arena,
         second::WRITE_BACK,
         word,
         only(2 <= i, 4),
@@ -198,22 +212,22 @@ fn lane_case(i: u64) -> u64 {
     match i {
         0 => 1,
         1 => 2,
-        _ => MOST,
+        _ => u64::MAX,
     }
 }
 
 // Each lane case with each call on a lane.
-pub(crate) fn lanes(bench: &mut Bench, i: u64) {
+pub(crate) fn lanes(arena: &mut Arena, i: u64) {
     let code = i % 5 + 1;
     let lane = lane_case(i / 5);
-    start_for(bench, code, lane);
-    probe_at(bench, code, lane, only(5 <= i, 3), b", lane ", lane);
+    start_for(arena, code, lane);
+    probe_at(arena, code, lane, only(5 <= i, 3), b", lane ", lane);
 }
 
 // ---- transactions
-fn put_sets(bench: &mut Bench) {
+fn put_sets(arena: &mut Arena) {
     for at in 0..20 {
-        set_row(bench, TXN, at, 1, 0, 0, 3);
+        set_row(arena, TXN, at, 1, 0, 0, 3);
     }
 }
 
@@ -222,20 +236,20 @@ fn is_bad_length(used: u64) -> bool {
 }
 
 // A transaction of so many words of SETs.
-fn length_of_txn(bench: &mut Bench, code: u64, used: u64) {
-    start_for(bench, code, 0);
-    put_sets(bench);
-    probe(bench, code, 0, used);
-    session::expect(bench, (session::refusal(bench) == 5) == is_bad_length(used));
+fn length_of_txn(arena: &mut Arena, code: u64, used: u64) {
+    start_for(arena, code, 0);
+    put_sets(arena);
+    probe(arena, code, 0, used);
+    session::expect(arena, (session::refusal(arena) == 5) == is_bad_length(used));
     if used == 64 || used == 68 {
-        print::edge(bench, b", instructions ", used / 4);
+        print::edge(arena, b", instructions ", used / 4);
     }
 }
 
 // An operand: 0, below W, W, or far from it; and k at its ends.
 fn operand_case(i: u64) -> u64 {
     match i {
-        3 => MOST,
+        3 => u64::MAX,
         _ => i,
     }
 }
@@ -244,73 +258,74 @@ fn k_case(i: u64) -> u64 {
     match i {
         3 => 15,
         4 => 16,
-        5 => MOST,
+        5 => u64::MAX,
         _ => i,
     }
 }
 
-// An instruction of codes 0 to 6 with each field at its ends, last in its transaction or followed by one or fifteen SETs.
-fn instruction_case(bench: &mut Bench, i: u64, used: u64) {
-    start_for(bench, second::LOG, 0);
-    put_sets(bench);
+// An instruction of codes 0 to 6 with each field at its ends, last in its transaction or followed by one or fifteen
+// SETs.
+fn instruction_case(arena: &mut Arena, i: u64, used: u64) {
+    start_for(arena, second::LOG, 0);
+    put_sets(arena);
     let a = operand_case(i % 4);
     let b = operand_case(i / 4 % 4);
-    set_row(bench, TXN, 0, i / 96, a, b, k_case(i / 16 % 6));
-    probe(bench, second::LOG, 0, used);
+    set_row(arena, TXN, 0, i / 96, a, b, k_case(i / 16 % 6));
+    probe(arena, second::LOG, 0, used);
 }
 
 // 0 to 69 words for Log and for Validate, then 672 instructions three times.
-pub(crate) fn txns(bench: &mut Bench, i: u64) {
+pub(crate) fn txns(arena: &mut Arena, i: u64) {
     if i < 70 {
-        length_of_txn(bench, second::LOG, i);
+        length_of_txn(arena, second::LOG, i);
     } else if i < 140 {
-        length_of_txn(bench, second::VALIDATE, i - 70);
+        length_of_txn(arena, second::VALIDATE, i - 70);
     } else if i < 812 {
-        instruction_case(bench, i - 140, 4);
+        instruction_case(arena, i - 140, 4);
     } else if i < 1484 {
-        instruction_case(bench, i - 812, 8);
+        instruction_case(arena, i - 812, 8);
     } else {
-        instruction_case(bench, i - 1484, 64);
+        instruction_case(arena, i - 1484, 64);
     }
 }
 
 // ---- the clock
-const LATE: u64 = 18446744073709551612;
+const LATE: u64 = MAX_STAMP - 2;
 
-const END: u64 = 18446744073709551614;
-
-fn clock_case(bench: &mut Bench, code: u64, clock: u64, number: u64) {
-    start_for(bench, code, 0);
-    put(bench, RECORD, fields::CLOCK, clock);
-    probe_at(bench, code, 0, number, b", clock ", clock);
+fn clock_case(arena: &mut Arena, code: u64, clock: u64, number: u64) {
+    start_for(arena, code, 0);
+    put(arena, RECORD, fields::CLOCK, clock);
+    probe_at(arena, code, 0, number, b", clock ", clock);
 }
 
 // A Log that writes nothing takes no timestamp: the SKIP passes over the SET.
-fn no_writes(bench: &mut Bench) {
-    start_for(bench, second::LOG, 0);
-    put(bench, RECORD, fields::CLOCK, END);
-    put_skip(bench);
-    probe(bench, second::LOG, 0, 8);
-    expect(bench, 0);
-    print::edge(bench, b" without writes, clock ", END);
+fn no_writes(arena: &mut Arena) {
+    start_for(arena, second::LOG, 0);
+    put(arena, RECORD, fields::CLOCK, MAX_STAMP);
+    put_skip(arena);
+    probe(arena, second::LOG, 0, 8);
+    expect(arena, 0);
+    print::edge(arena, b" without writes, clock ", MAX_STAMP);
 }
 
-fn put_skip(bench: &mut Bench) {
-    set_row(bench, TXN, 0, 5, 0, 1, 1);
-    set_row(bench, TXN, 1, 1, 0, 0, 3);
+fn put_skip(arena: &mut Arena) {
+    set_row(arena, TXN, 0, 5, 0, 1, 1);
+    set_row(arena, TXN, 1, 1, 0, 0, 3);
 }
 
-pub(crate) fn clocks(bench: &mut Bench, i: u64) {
+pub(crate) fn clocks(arena: &mut Arena, i: u64) {
     if i == 8 {
-        no_writes(bench);
+        no_writes(arena);
     } else if i % 2 == 0 {
-        clock_case(bench, i / 2 + 1, LATE, 0);
+        clock_case(arena, i / 2 + 1, LATE, 0);
     } else {
-        clock_case(bench, i / 2 + 1, END, 8);
+        clock_case(arena, i / 2 + 1, MAX_STAMP, 8);
     }
 }
 
-// ---- the record. Each of twelve cases puts one field out of its range; the last two are in range: a pair past the count, and a floor at the clock.
+// ---- the record
+// Each of twelve cases puts one field out of its range; the last two are in range: a pair past the count, and a floor
+// at the clock.
 fn field_case(i: u64) -> u64 {
     match i {
         0 => fields::NEXT,
@@ -318,15 +333,15 @@ fn field_case(i: u64) -> u64 {
         4 => fields::FIRST,
         5 | 6 => fields::COUNT,
         7 | 8 => fields::STAMPED,
-        9 => 1024,
-        10 => 1028,
+        9 => fields::PAIRS,
+        10 => fields::PAIRS + 4,
         _ => fields::FLOOR,
     }
 }
 
 fn value_case(i: u64) -> u64 {
     match i {
-        0 | 4 => 34,
+        0 | 4 => MIN_SLOTS,
         2 => 1,
         3 | 8 => 10,
         5 => 0,
@@ -338,9 +353,9 @@ fn value_case(i: u64) -> u64 {
 }
 
 // A field of a lane, or a word of its first two pairs, which stand 64 words apart too.
-fn edit_field(bench: &mut Bench, lane: u64, case: u64) {
+fn edit_field(arena: &mut Arena, lane: u64, case: u64) {
     put(
-        bench,
+        arena,
         RECORD,
         lane << 6 | field_case(case),
         value_case(case),
@@ -348,20 +363,20 @@ fn edit_field(bench: &mut Bench, lane: u64, case: u64) {
 }
 
 // Then the clock odd, and last commits odd, above the clock and at it.
-fn edit_time(bench: &mut Bench, case: u64) {
+fn edit_time(arena: &mut Arena, case: u64) {
     match case {
-        0 => put(bench, RECORD, fields::CLOCK, 9),
-        1 => put(bench, RECORD, fields::LAST, 1),
-        2 => put(bench, RECORD, fields::LAST, 10),
-        _ => put(bench, RECORD, fields::LAST, 8),
+        0 => put(arena, RECORD, fields::CLOCK, 9),
+        1 => put(arena, RECORD, fields::LAST, 1),
+        2 => put(arena, RECORD, fields::LAST, 10),
+        _ => put(arena, RECORD, fields::LAST, 8),
     }
 }
 
-fn edit(bench: &mut Bench, case: u64) {
+fn edit(arena: &mut Arena, case: u64) {
     if case < 36 {
-        edit_field(bench, case / 12, case % 12);
+        edit_field(arena, case / 12, case % 12);
     } else {
-        edit_time(bench, case - 36);
+        edit_time(arena, case - 36);
     }
 }
 
@@ -374,17 +389,17 @@ fn is_bad(case: u64) -> bool {
 }
 
 // All lanes of the small store, and one that is not in use, hold a transaction.
-fn hold_all(bench: &mut Bench) {
-    prepare(bench, 0, true);
-    prepare(bench, 1, true);
-    prepare(bench, 2, true);
+fn hold_all(arena: &mut Arena) {
+    prepare(arena, 0, true);
+    prepare(arena, 1, true);
+    prepare(arena, 2, true);
 }
 
 // Each case with each call on a lane.
-pub(crate) fn records(bench: &mut Bench, i: u64) {
-    start(bench);
-    hold_all(bench);
-    edit(bench, i / 5);
-    probe(bench, i % 5 + 1, 0, 4);
-    session::expect(bench, (session::refusal(bench) == 2) == is_bad(i / 5));
+pub(crate) fn records(arena: &mut Arena, i: u64) {
+    start(arena);
+    hold_all(arena);
+    edit(arena, i / 5);
+    probe(arena, i % 5 + 1, 0, 4);
+    session::expect(arena, (session::refusal(arena) == 2) == is_bad(i / 5));
 }

@@ -1,26 +1,17 @@
-// The bench sheet's half that is run: the store's calls against a second implementation. Prints what it ran, what the store answered, and how many calls differed.
-mod any;
-mod both;
+// The bench sheet's half that is run on fixed lists of calls: both sides of the ends of each range, sets of causes of a
+// refusal, the two-lane scenario with recovery cut after each store. The control, which spoils what the store left, is
+// here too. Prints what it ran, what the store answered, and how many calls differed from the second implementation.
 mod causes;
 mod control;
-mod convert;
 mod edges;
-mod generator;
-mod lists;
-mod power;
-mod print;
 mod scenario;
-mod second;
-mod session;
-mod words;
 
-use words::ALL;
-use words::Bench;
-use words::SEED;
-use words::STATE;
-use words::TALLY;
-use words::clear;
-use words::put;
+use bench::print;
+use bench::regions::TALLIED;
+use bench::regions::TALLY;
+use second::words::ALL;
+use second::words::Arena;
+use second::words::clear;
 
 // The groups.
 const SIZES: u64 = 0;
@@ -47,113 +38,88 @@ const TWO_LANES: u64 = 10;
 
 const CUTS: u64 = 11;
 
-const SMALL_LISTS: u64 = 12;
-
-const FULL_LISTS: u64 = 13;
-
-const SMALL_STATES: u64 = 14;
-
-const FULL_STATES: u64 = 15;
-
 // Case i of an edge.
-fn edge(bench: &mut Bench, group: u64, i: u64) {
+fn edge(arena: &mut Arena, group: u64, i: u64) {
     match group {
-        SIZES => edges::sizes(bench, i),
-        BUFFERS => edges::buffers(bench, i),
-        WORDS => edges::words(bench, i),
-        LANES => edges::lanes(bench, i),
-        TXNS => edges::txns(bench, i),
-        CLOCKS => edges::clocks(bench, i),
-        _ => edges::records(bench, i),
+        SIZES => edges::sizes(arena, i),
+        BUFFERS => edges::buffers(arena, i),
+        WORDS => edges::words(arena, i),
+        LANES => edges::lanes(arena, i),
+        TXNS => edges::txns(arena, i),
+        CLOCKS => edges::clocks(arena, i),
+        _ => edges::records(arena, i),
     }
 }
 
 // Case i of a group.
-fn case(bench: &mut Bench, group: u64, i: u64) {
+fn case(arena: &mut Arena, group: u64, i: u64) {
     match group {
-        SPOILED => control::spoiled(bench, i),
-        SETS => causes::every_set(bench, i),
-        OVERWRITING => causes::overwriting(bench, i),
-        TWO_LANES => scenario::run(bench),
-        CUTS => scenario::run_cut(bench, i),
-        SMALL_LISTS => lists::small_list(bench),
-        FULL_LISTS => lists::full_list(bench),
-        SMALL_STATES => any::small_state(bench),
-        _ => any::full_state(bench),
+        SPOILED => control::spoiled(arena, i),
+        SETS => causes::every_set(arena, i),
+        OVERWRITING => causes::overwriting(arena, i),
+        TWO_LANES => scenario::run(arena),
+        _ => scenario::run_cut(arena, i),
     }
 }
 
 // All cases of a group, counted anew.
-fn cases(bench: &mut Bench, group: u64, count: u64) {
-    clear(bench, TALLY, 32);
+fn cases(arena: &mut Arena, group: u64, count: u64) {
+    clear(arena, TALLY, TALLIED);
     for i in 0..count {
         if group <= RECORDS {
-            edge(bench, group, i);
+            edge(arena, group, i);
         } else {
-            case(bench, group, i);
+            case(arena, group, i);
         }
     }
 }
 
-// A group, and the lines about it.
-fn run(bench: &mut Bench, group: u64, count: u64, name: &[u8]) {
-    cases(bench, group, count);
-    print::group(name, bench);
-    if SMALL_LISTS <= group {
-        print::kinds(bench);
-    }
+// A group, and the line about it.
+fn run(arena: &mut Arena, group: u64, count: u64, name: &[u8]) {
+    cases(arena, group, count);
+    print::group(name, arena);
 }
 
 // Both sides of the ends of each range.
-fn first_edges(bench: &mut Bench) {
-    run(bench, SIZES, 128, b"sizes");
-    run(bench, BUFFERS, 51, b"buffers");
-    run(bench, WORDS, 4, b"words, image of 139");
-    run(bench, LANES, 15, b"lanes, T 2");
+fn first_edges(arena: &mut Arena) {
+    run(arena, SIZES, 128, b"sizes");
+    run(arena, BUFFERS, 51, b"buffers");
+    run(arena, WORDS, 4, b"words, image of 139");
+    run(arena, LANES, 15, b"lanes, T 2");
 }
 
-fn more_edges(bench: &mut Bench) {
-    run(bench, TXNS, 2156, b"transactions");
-    run(bench, CLOCKS, 9, b"clocks");
-    run(bench, RECORDS, 200, b"records");
+fn more_edges(arena: &mut Arena) {
+    run(arena, TXNS, 2156, b"transactions");
+    run(arena, CLOCKS, 9, b"clocks");
+    run(arena, RECORDS, 200, b"records");
 }
 
 // The comparison sees a spoiled word, wherever it is: all of these differ.
-fn spoiled_results(bench: &mut Bench) {
+fn spoiled_results(arena: &mut Arena) {
     run(
-        bench,
+        arena,
         SPOILED,
-        2056,
+        control::CASES,
         b"control, one word of the store's result spoiled",
     );
 }
 
-fn refusals_and_scenario(bench: &mut Bench) {
-    run(bench, SETS, 8192, b"sets of causes");
-    run(bench, OVERWRITING, 544, b"overwriting");
-    run(bench, TWO_LANES, 1, b"two lanes");
+fn refusals_and_scenario(arena: &mut Arena) {
+    run(arena, SETS, causes::CASES, b"sets of causes");
+    run(arena, OVERWRITING, 544, b"overwriting");
+    run(arena, TWO_LANES, 1, b"two lanes");
     run(
-        bench,
+        arena,
         CUTS,
         142,
         b"two lanes, recovery cut after each store",
     );
 }
 
-// Pseudo-random lists and states.
-fn random(bench: &mut Bench) {
-    put(bench, STATE, SEED, 88172645463325252);
-    run(bench, SMALL_LISTS, 50, b"small lists");
-    run(bench, FULL_LISTS, 10, b"full lists");
-    run(bench, SMALL_STATES, 6000, b"small states");
-    run(bench, FULL_STATES, 300, b"full states");
-}
-
 fn main() {
-    let mut bench = [0u64; ALL];
-    first_edges(&mut bench);
-    more_edges(&mut bench);
-    spoiled_results(&mut bench);
-    refusals_and_scenario(&mut bench);
-    random(&mut bench);
+    let mut arena = [0u64; ALL];
+    first_edges(&mut arena);
+    more_edges(&mut arena);
+    spoiled_results(&mut arena);
+    refusals_and_scenario(&mut arena);
 }

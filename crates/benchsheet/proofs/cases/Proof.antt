@@ -5,10 +5,10 @@ use Rattle.benchsheet.proofs.cases.Statement.{statement}
 use Rattle.benchsheet.proofs.cases.Tie as tie
 
 abbrev Inv-loop : tie.InvT-loop
-Inv-loop bench₀ group count i₀ bench i = Unit
+Inv-loop arena₀ group count i₀ arena i = Unit
 
 abbrev μ-loop : tie.MeasureT-loop
-μ-loop bench₀ group count i₀ bench i = count - i
+μ-loop arena₀ group count i₀ arena i = count - i
 
 clear-requires : tie.Need-clear-requires Inv-loop μ-loop
 clear-requires c κs = search needs

@@ -5,10 +5,10 @@ use Rattle.benchsheet.proofs.edges.put_sets.Statement.{statement}
 use Rattle.benchsheet.proofs.edges.put_sets.Tie as tie
 
 abbrev Inv-loop : tie.InvT-loop
-Inv-loop bench₀ at₀ bench at = Unit
+Inv-loop arena₀ at₀ arena at = Unit
 
 abbrev μ-loop : tie.MeasureT-loop
-μ-loop bench₀ at₀ bench at = 20 - at
+μ-loop arena₀ at₀ arena at = 20 - at
 
 loop-holds : tie.Need-loop-holds Inv-loop μ-loop
 loop-holds c = search needs

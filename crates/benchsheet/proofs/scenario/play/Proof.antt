@@ -5,10 +5,10 @@ use Rattle.benchsheet.proofs.scenario.play.Statement.{statement}
 use Rattle.benchsheet.proofs.scenario.play.Tie as tie
 
 abbrev Inv-loop : tie.InvT-loop
-Inv-loop bench₀ i₀ bench i = Unit
+Inv-loop arena₀ i₀ arena i = Unit
 
 abbrev μ-loop : tie.MeasureT-loop
-μ-loop bench₀ i₀ bench i = 6 - i
+μ-loop arena₀ i₀ arena i = 6 - i
 
 start-requires : tie.Need-start-requires Inv-loop μ-loop
 start-requires c κs = search needs

@@ -5,10 +5,10 @@ use Rattle.benchsheet.proofs.scenario.write_all_back.Statement.{stateme
 use Rattle.benchsheet.proofs.scenario.write_all_back.Tie as tie
 
 abbrev Inv-loop : tie.InvT-loop
-Inv-loop bench₀ i₀ i-end bench i = Unit
+Inv-loop arena₀ i₀ i-end arena i = Unit
 
 abbrev μ-loop : tie.MeasureT-loop
-μ-loop bench₀ i₀ i-end bench i = i-end - i
+μ-loop arena₀ i₀ i-end arena i = i-end - i
 
 length-requires : tie.Need-length-requires Inv-loop μ-loop
 length-requires c κs = search needs

@@ -1,0 +1,50 @@
+-- `both::keep_bytes` is safe and ends: the loop counts its turns. Assumes nothing.
+use borrow.Author.Needs.{needs}
+use Prim.Native.Nat.{_-_}
+use Rattle.bench.proofs.both.keep_bytes.Statement.{statement}
+use Rattle.bench.proofs.both.keep_bytes.Tie as tie
+
+abbrev Inv-loop : tie.InvT-loop
+Inv-loop arena₀ bytes i₀ i-end arena i = Unit
+
+abbrev μ-loop : tie.MeasureT-loop
+μ-loop arena₀ bytes i₀ i-end arena i = i-end - i
+
+loop-holds : tie.Need-loop-holds Inv-loop μ-loop
+loop-holds c = search needs
+
+shared-slice-read-wide : tie.Need-shared-slice-read-wide Inv-loop μ-loop
+shared-slice-read-wide c = search needs
+
+wide-requires : tie.Need-wide-requires Inv-loop μ-loop
+wide-requires c κs = search needs
+
+put-requires : tie.Need-put-requires Inv-loop μ-loop
+put-requires c κs = search needs
+
+add-i : tie.Need-add-i Inv-loop μ-loop
+add-i c = search needs
+
+loop-less : tie.Need-loop-less Inv-loop μ-loop
+loop-less c = search needs
+
+loop-again : tie.Need-loop-again Inv-loop μ-loop
+loop-again c = search needs
+
+returns : tie.Need-returns Inv-loop μ-loop
+returns c = search needs
+
+pub keep-bytes-spec : {M : Type 1} → statement M
+keep-bytes-spec =
+    tie.close
+    (tie.spec
+    Inv-loop
+    μ-loop
+    loop-holds
+    shared-slice-read-wide
+    wide-requires
+    put-requires
+    add-i
+    loop-less
+    loop-again
+    returns)

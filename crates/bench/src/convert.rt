@@ -1,0 +1,160 @@
+// The store's sizes, record and answers in the words of the second implementation, and back.
+use crate::regions::STORED;
+use image::MAX_LANES;
+use image::Sizes;
+use log::Timestamp;
+use record::Lane;
+use record::Logged;
+use record::Pair;
+use record::Phase;
+use record::Record;
+use second::fields;
+use second::words::Arena;
+use second::words::LANES;
+use second::words::RECORD;
+use second::words::SLOTS;
+use second::words::STATE;
+use second::words::WORDS;
+use second::words::cell;
+use second::words::clear;
+use second::words::get;
+use second::words::set_row;
+use txn::MAX_WRITES;
+
+pub(crate) fn sizes(arena: &Arena) -> Sizes {
+    Sizes {
+        words: get(arena, STATE, WORDS) as usize,
+        lanes: get(arena, STATE, LANES) as usize,
+        slots: get(arena, STATE, SLOTS) as usize,
+    }
+}
+
+fn phase_from(arena: &Arena, lane: u64) -> Phase {
+    if fields::field(arena, lane, fields::HELD) == 0 {
+        return Phase::Idle;
+    }
+    Phase::Holds(Logged {
+        first: fields::field(arena, lane, fields::FIRST) as usize,
+        count: fields::field(arena, lane, fields::COUNT) as usize,
+        stamp: fields::field(arena, lane, fields::STAMPED),
+    })
+}
+
+fn floor_from(arena: &Arena, lane: u64) -> Timestamp {
+    let floor = fields::field(arena, lane, fields::FLOOR);
+    if floor == fields::NONE {
+        return Timestamp::None;
+    }
+    Timestamp::At(floor)
+}
+
+fn pairs_from(arena: &Arena, lane: u64) -> [Pair; MAX_WRITES] {
+    let mut pairs = [Pair { word: 0, value: 0 }; MAX_WRITES];
+    for i in 0..MAX_WRITES {
+        let row = fields::pair(lane, i as u64);
+        pairs[i] = Pair {
+            word: cell(arena, RECORD, row, 0) as usize,
+            value: cell(arena, RECORD, row, 2),
+        };
+    }
+    pairs
+}
+
+fn lane_from(arena: &Arena, lane: u64) -> Lane {
+    Lane {
+        phase: phase_from(arena, lane),
+        next: fields::field(arena, lane, fields::NEXT) as usize,
+        wrap: fields::field(arena, lane, fields::PRESENT),
+        floor: floor_from(arena, lane),
+        redo: pairs_from(arena, lane),
+    }
+}
+
+// The record of the words in RECORD.
+pub(crate) fn record(arena: &Arena) -> Record {
+    let mut lanes = [lane_from(arena, 0); MAX_LANES];
+    for l in 0..MAX_LANES {
+        lanes[l] = lane_from(arena, l as u64);
+    }
+    Record {
+        clock: get(arena, RECORD, fields::CLOCK),
+        last: get(arena, RECORD, fields::LAST),
+        lanes,
+    }
+}
+
+fn put_logged(arena: &mut Arena, lane: u64, logged: Logged) {
+    let first = logged.first as u64;
+    set_row(
+        arena,
+        STORED,
+        lane << 4,
+        1,
+        first,
+        logged.count as u64,
+        logged.stamp,
+    );
+}
+
+fn put_phase(arena: &mut Arena, lane: u64, phase: Phase) {
+    match phase {
+        Phase::Idle => {}
+        Phase::Holds(logged) => put_logged(arena, lane, logged),
+    }
+}
+
+// A timestamp or none.
+fn number_of(stamp: Timestamp) -> u64 {
+    match stamp {
+        Timestamp::None => fields::NONE,
+        Timestamp::At(number) => number,
+    }
+}
+
+fn put_pairs(arena: &mut Arena, lane: u64, redo: [Pair; MAX_WRITES]) {
+    for i in 0..MAX_WRITES {
+        let pair = redo[i];
+        let row = fields::pair(lane, i as u64);
+        set_row(arena, STORED, row, pair.word as u64, 0, pair.value, 0);
+    }
+}
+
+fn put_lane(arena: &mut Arena, at: u64, lane: Lane) {
+    let phase = lane.phase;
+    let floor = lane.floor;
+    let redo = lane.redo;
+    put_phase(arena, at, phase);
+    set_row(
+        arena,
+        STORED,
+        at << 4 | 1,
+        lane.next as u64,
+        lane.wrap,
+        number_of(floor),
+        0,
+    );
+    put_pairs(arena, at, redo);
+}
+
+// The words of a record, in STORED.
+pub(crate) fn put_record(arena: &mut Arena, state: Record) {
+    clear(arena, STORED, fields::LENGTH);
+    set_row(
+        arena,
+        STORED,
+        fields::TIME_ROW,
+        state.clock,
+        state.last,
+        0,
+        0,
+    );
+    for l in 0..MAX_LANES {
+        let lane = state.lanes[l];
+        put_lane(arena, l as u64, lane);
+    }
+}
+
+// An answer, in STORED.
+pub(crate) fn put_answer(arena: &mut Arena, kind: u64, number: u64, stamp: u64) {
+    set_row(arena, STORED, second::ANSWER_ROW, kind, number, stamp, 0);
+}

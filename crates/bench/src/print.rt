@@ -1,0 +1,154 @@
+// Lines of output. The answers are the store's.
+use crate::regions::STORED;
+use crate::regions::TALLY;
+use crate::session;
+use libc::STDOUT_FILENO;
+use second::words::Arena;
+use second::words::CODE;
+use second::words::LANES;
+use second::words::SLOTS;
+use second::words::STATE;
+use second::words::WORDS;
+use second::words::get;
+use second::words::plus;
+
+fn text(bytes: &[u8]) {
+    io::write_all(STDOUT_FILENO, bytes);
+}
+
+fn counted(name: &[u8], n: u64) {
+    text(name);
+    io::print_decimal(STDOUT_FILENO, n);
+}
+
+// The numbers of an answer.
+fn logged(arena: &Arena) {
+    answered(arena, b"count ");
+    stamped(arena, b" stamp ");
+}
+
+fn stamped(arena: &Arena, name: &[u8]) {
+    counted(name, get(arena, STORED, second::STAMP));
+}
+
+fn answered(arena: &Arena, name: &[u8]) {
+    counted(name, get(arena, STORED, second::ANSWER));
+}
+
+fn recovered(arena: &Arena) {
+    stamped(arena, b"boundary ");
+    answered(arena, b", undone ");
+}
+
+// An answer without numbers.
+fn word(kind: u64) {
+    match kind {
+        second::DONE => text(b"done"),
+        second::NO_WRITES => text(b"count 0"),
+        second::STALE => text(b"stale"),
+        second::CHANGED => text(b"changed"),
+        _ => text(b"cut"),
+    }
+}
+
+fn answer(arena: &Arena) {
+    let kind = session::kind(arena);
+    match kind {
+        second::REFUSED => answered(arena, b"refused "),
+        second::LOGGED => logged(arena),
+        second::COMMITTED | second::MARKED => stamped(arena, b"stamp "),
+        second::RECOVERED => recovered(arena),
+        second::UNBOUNDED => answered(arena, b"boundary none, undone "),
+        _ => word(kind),
+    }
+    text(b"\n");
+}
+
+fn call(code: u64) {
+    match code {
+        second::LOG => text(b"Log"),
+        second::REDO => text(b"Redo"),
+        second::VALIDATE => text(b"Validate"),
+        second::MARK => text(b"Mark"),
+        second::DRAIN => text(b"Drain"),
+        second::WRITE_BACK => text(b"write-back"),
+        _ => text(b"Format"),
+    }
+}
+
+// A call at an edge, and its answer.
+pub fn edge(arena: &Arena, what: &[u8], n: u64) {
+    call(get(arena, STATE, CODE));
+    counted(what, n);
+    text(b": ");
+    answer(arena);
+}
+
+// A Format with these sizes, and its answer.
+pub fn sizes(arena: &Arena) {
+    counted(b"Format, W ", get(arena, STATE, WORDS));
+    counted(b", T ", get(arena, STATE, LANES));
+    counted(b", N ", get(arena, STATE, SLOTS));
+    text(b": ");
+    answer(arena);
+}
+
+// Two numbers behind a name.
+pub fn pair(name: &[u8], a: u64, b: u64) {
+    counted(name, a);
+    counted(b" ", b);
+    text(b"\n");
+}
+
+// What was called, and its answer.
+pub fn row(name: &[u8], arena: &Arena) {
+    text(name);
+    text(b": ");
+    answer(arena);
+}
+
+// A group's name, how many calls it made, and how many differed.
+pub fn group(name: &[u8], arena: &Arena) {
+    text(name);
+    counted(b": ", get(arena, TALLY, session::CALLS));
+    counted(b" calls, ", get(arena, TALLY, session::DIFFER));
+    text(b" differ\n");
+}
+
+fn kind(arena: &Arena, name: &[u8], kind: u64) {
+    counted(name, get(arena, TALLY, plus(session::BY_KIND, kind)));
+}
+
+// How often there was each answer of steps, and of recoveries.
+fn step_kinds(arena: &Arena) {
+    kind(arena, b"  done ", second::DONE);
+    kind(arena, b", no writes ", second::NO_WRITES);
+    kind(arena, b", logged ", second::LOGGED);
+    kind(arena, b", committed ", second::COMMITTED);
+    kind(arena, b", stale ", second::STALE);
+}
+
+fn more_kinds(arena: &Arena) {
+    kind(arena, b", changed ", second::CHANGED);
+    kind(arena, b", marked ", second::MARKED);
+    kind(arena, b", cut ", second::CUT);
+    kind(arena, b", recovered ", second::RECOVERED);
+    kind(arena, b", no boundary ", second::UNBOUNDED);
+}
+
+// How often there was each refusal.
+fn refusals(arena: &Arena) {
+    text(b"\n  refused");
+    for n in 1..11 {
+        counted(b", ", n);
+        counted(b": ", get(arena, TALLY, plus(session::BY_NUMBER, n)));
+    }
+    text(b"\n");
+}
+
+// What a group's calls answered.
+pub fn kinds(arena: &Arena) {
+    step_kinds(arena);
+    more_kinds(arena);
+    refusals(arena);
+}

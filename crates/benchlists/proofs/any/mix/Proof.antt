@@ -1,0 +1,50 @@
+-- `any::mix` is safe and ends: the loop counts its turns. Assumes nothing.
+use borrow.Author.Needs.{needs}
+use Prim.Native.Nat.{_-_}
+use Rattle.benchlists.proofs.any.mix.Statement.{statement}
+use Rattle.benchlists.proofs.any.mix.Tie as tie
+
+abbrev Inv-loop : tie.InvT-loop
+Inv-loop arena₀ i₀ i-end arena i = Unit
+
+abbrev μ-loop : tie.MeasureT-loop
+μ-loop arena₀ i₀ i-end arena i = i-end - i
+
+length-requires : tie.Need-length-requires Inv-loop μ-loop
+length-requires c κs = search needs
+
+loop-holds : tie.Need-loop-holds Inv-loop μ-loop
+loop-holds c = search needs
+
+once-in-requires : tie.Need-once-in-requires Inv-loop μ-loop
+once-in-requires c κs = search needs
+
+move-word-requires : tie.Need-move-word-requires Inv-loop μ-loop
+move-word-requires c κs = search needs
+
+add-i : tie.Need-add-i Inv-loop μ-loop
+add-i c = search needs
+
+loop-less : tie.Need-loop-less Inv-loop μ-loop
+loop-less c = search needs
+
+loop-again : tie.Need-loop-again Inv-loop μ-loop
+loop-again c = search needs
+
+returns : tie.Need-returns Inv-loop μ-loop
+returns c = search needs
+
+pub mix-spec : {M : Type 1} → statement M
+mix-spec =
+    tie.close
+    (tie.spec
+    Inv-loop
+    μ-loop
+    length-requires
+    loop-holds
+    once-in-requires
+    move-word-requires
+    add-i
+    loop-less
+    loop-again
+    returns)

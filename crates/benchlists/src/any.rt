@@ -1,0 +1,314 @@
+// Arbitrary states: images whose logs mostly decode, and records mostly in range, as no Format leads to them. Every
+// call is tried on them.
+use crate::lists;
+use bench::generator::below;
+use bench::generator::draw;
+use bench::generator::once_in;
+use bench::generator::value;
+use bench::session;
+use second::fields;
+use second::reading;
+use second::restart;
+use second::words::Arena;
+use second::words::CACHE;
+use second::words::FLAGS;
+use second::words::LANES;
+use second::words::MAX_LANES;
+use second::words::MAX_SLOTS;
+use second::words::MAX_STAMP;
+use second::words::MAX_WORDS;
+use second::words::MAX_WRITES;
+use second::words::MIN_SLOTS;
+use second::words::NVM;
+use second::words::RECORD;
+use second::words::SLOTS;
+use second::words::STATE;
+use second::words::WORDS;
+use second::words::clear;
+use second::words::get;
+use second::words::minus;
+use second::words::move_word;
+use second::words::only;
+use second::words::plus;
+use second::words::put;
+use second::words::set_row;
+
+// A number below n, now and then n itself: slightly out of range.
+fn about(arena: &mut Arena, n: u64) -> u64 {
+    if once_in(arena, 100) {
+        return n;
+    }
+    below(arena, n)
+}
+
+fn about_size(arena: &mut Arena, size: u64) -> u64 {
+    let n = get(arena, STATE, size);
+    about(arena, n)
+}
+
+// A timestamp: few different ones, so that equal ones turn up, and now and then the greatest.
+fn stamp(arena: &mut Arena) -> u64 {
+    if once_in(arena, 40) {
+        return MAX_STAMP;
+    }
+    below(arena, 24) << 1
+}
+
+// A timestamp of a record: even and at most 46, now and then odd or too great.
+fn about_stamp(arena: &mut Arena) -> u64 {
+    match below(arena, 200) {
+        0 => below(arena, 48),
+        1 => MAX_STAMP,
+        _ => below(arena, 24) << 1,
+    }
+}
+
+// The two words of a slot.
+fn put_slot(arena: &mut Arena, image: u64, at: u64, address: u64, word: u64) {
+    put(arena, image, at, address);
+    put(arena, image, plus(at, 1), word);
+}
+
+fn put_entry(arena: &mut Arena, image: u64, at: u64, wrap: u64) {
+    let word = about_size(arena, WORDS);
+    let old = value(arena);
+    let address = reading::entry_address(word, old, wrap);
+    put_slot(arena, image, at, address, reading::entry_value(old, wrap));
+}
+
+// A timestamp that closes `count` entries, now and then another number of them.
+fn put_stamp(arena: &mut Arena, image: u64, at: u64, count: u64, wrap: u64) {
+    let mut closed = count;
+    if once_in(arena, 8) {
+        closed = below(arena, 18);
+    }
+    let address = reading::stamp_address(closed, wrap);
+    let word = reading::stamp_value(stamp(arena), wrap);
+    put_slot(arena, image, at, address, word);
+}
+
+// A word as it is after a flip of one bit, or another one.
+fn torn(arena: &mut Arena, word: u64) -> u64 {
+    match below(arena, 4) {
+        0 => word ^ 1,
+        1 => word ^ 4,
+        2 => 0,
+        _ => draw(arena),
+    }
+}
+
+// Now and then one of a slot's two words becomes another one.
+fn tear(arena: &mut Arena, image: u64, at: u64) {
+    if once_in(arena, 24) {
+        let i = plus(at, below(arena, 2));
+        let word = get(arena, image, i);
+        let other = torn(arena, word);
+        put(arena, image, i, other);
+    }
+}
+
+// A slot: a timestamp over the `run` entries before it, or an entry; how many entries stand in a row then.
+fn make_slot(arena: &mut Arena, image: u64, at: u64, run: u64, wrap: u64) -> u64 {
+    if 16 <= run || once_in(arena, 3) {
+        put_stamp(arena, image, at, run, wrap);
+        return 0;
+    }
+    put_entry(arena, image, at, wrap);
+    plus(run, 1)
+}
+
+// A lane's log, that wrapped before slot `turn`: from there on the slots have the opposite bit, or, in the first lap,
+// are not written yet.
+fn fill_slots(arena: &mut Arena, image: u64, lane: u64, turn: u64, wrap: u64, first: bool) {
+    let mut run = 0;
+    for slot in 0..get(arena, STATE, SLOTS) {
+        let at = reading::place(arena, lane, slot);
+        if first && turn <= slot {
+            put_slot(arena, image, at, 0, 0);
+        } else {
+            run = make_slot(arena, image, at, run, wrap ^ only(turn <= slot, 1));
+        }
+        tear(arena, image, at);
+    }
+}
+
+fn fill_log(arena: &mut Arena, image: u64, lane: u64) {
+    let slots = get(arena, STATE, SLOTS);
+    let turn = below(arena, plus(slots, 1));
+    let wrap = below(arena, 2);
+    let first = once_in(arena, 4);
+    fill_slots(arena, image, lane, turn, wrap, first);
+}
+
+fn fill_data(arena: &mut Arena, image: u64) {
+    for i in 0..get(arena, STATE, WORDS) {
+        let word = value(arena);
+        put(arena, image, plus(1, i), word);
+    }
+}
+
+fn fill_image(arena: &mut Arena, image: u64) {
+    fill_data(arena, image);
+    for lane in 0..get(arena, STATE, LANES) {
+        fill_log(arena, image, lane);
+    }
+    let base = about_stamp(arena) % 16;
+    put(arena, image, 0, base);
+}
+
+// Non-volatile memory with most words of the cache, as when not all is written back yet.
+fn mix(arena: &mut Arena) {
+    for i in 0..restart::length(arena) {
+        if !once_in(arena, 8) {
+            move_word(arena, CACHE, NVM, i);
+        }
+    }
+}
+
+fn fill_flags(arena: &mut Arena) {
+    for i in 0..restart::length(arena) {
+        let byte = draw(arena) & draw(arena);
+        put(arena, FLAGS, i, byte % 256);
+    }
+}
+
+fn fill_pairs(arena: &mut Arena, lane: u64) {
+    for i in 0..MAX_WRITES {
+        let word = about_size(arena, WORDS);
+        let new = value(arena);
+        set_row(arena, RECORD, fields::pair(lane, i), word, 0, new, 0);
+    }
+}
+
+// A count of a logged transaction, now and then out of its range.
+fn count(arena: &mut Arena) -> u64 {
+    match below(arena, 256) {
+        0 => 0,
+        1 => 17,
+        2..=41 => plus(1, below(arena, 16)),
+        _ => plus(1, below(arena, 2)),
+    }
+}
+
+fn fill_held(arena: &mut Arena, lane: u64) {
+    let first = about_size(arena, SLOTS);
+    let count = count(arena);
+    let stamped = about_stamp(arena);
+    fields::set_held(arena, lane, 1, first, count, stamped);
+    fill_pairs(arena, lane);
+}
+
+fn about_floor(arena: &mut Arena) -> u64 {
+    if once_in(arena, 2) {
+        return about_stamp(arena);
+    }
+    fields::NONE
+}
+
+fn fill_lane(arena: &mut Arena, lane: u64) {
+    let next = about_size(arena, SLOTS);
+    let wrap = about(arena, 2);
+    if once_in(arena, 2) {
+        fill_held(arena, lane);
+    }
+    let floor = about_floor(arena);
+    fields::set_log(arena, lane, next, wrap, floor);
+}
+
+fn clock(arena: &mut Arena) -> u64 {
+    match below(arena, 32) {
+        0 => below(arena, 64),
+        1 => MAX_STAMP,
+        2..=3 => minus(MAX_STAMP, 2),
+        _ => plus(46, below(arena, 50) << 1),
+    }
+}
+
+// All eight lanes, those that are not in use too.
+fn fill_record(arena: &mut Arena) {
+    clear(arena, RECORD, fields::LENGTH);
+    let clock = clock(arena);
+    let last = about_stamp(arena);
+    fields::set_time(arena, clock, last);
+    for lane in 0..MAX_LANES {
+        fill_lane(arena, lane);
+    }
+}
+
+// The image length, now and then one word off.
+fn about_length(arena: &mut Arena) -> u64 {
+    let length = restart::length(arena);
+    if once_in(arena, 150) {
+        return minus(plus(length, below(arena, 3)), 1);
+    }
+    length
+}
+
+fn about_lengths(arena: &mut Arena) {
+    let cache = about_length(arena);
+    let nvm = about_length(arena);
+    let flags = about_length(arena);
+    session::set_lengths(arena, cache, nvm, flags);
+}
+
+fn any_limit(arena: &mut Arena) -> u64 {
+    if once_in(arena, 2) {
+        return u64::MAX;
+    }
+    below(arena, restart::length(arena) << 1)
+}
+
+fn any_number(arena: &mut Arena, code: u64) -> u64 {
+    match code {
+        second::WRITE_BACK => about(arena, restart::length(arena)),
+        second::RECOVER => any_limit(arena),
+        _ => about_size(arena, LANES),
+    }
+}
+
+// Any call.
+fn any_call(arena: &mut Arena) {
+    about_lengths(arena);
+    let code = plus(1, below(arena, 8));
+    let number = any_number(arena, code);
+    let mut used = lists::make_txn(arena);
+    if code == second::FORMAT {
+        used = get(arena, STATE, WORDS);
+    }
+    session::call_with(arena, code, number, used);
+}
+
+fn fill_buffers(arena: &mut Arena) {
+    fill_image(arena, CACHE);
+    fill_image(arena, NVM);
+    if once_in(arena, 2) {
+        mix(arena);
+    }
+    fill_flags(arena);
+}
+
+// Six calls, one after another, on an arbitrary state.
+fn state(arena: &mut Arena) {
+    fill_buffers(arena);
+    fill_record(arena);
+    for _ in 0..6u64 {
+        any_call(arena);
+    }
+}
+
+// Small sizes, now and then one of them out of range.
+pub(crate) fn small_state(arena: &mut Arena) {
+    lists::small_sizes(arena);
+    match below(arena, 100) {
+        0 => put(arena, STATE, WORDS, 0),
+        1 => put(arena, STATE, LANES, 0),
+        2 => put(arena, STATE, SLOTS, MIN_SLOTS - 1),
+        _ => {}
+    }
+    state(arena);
+}
+
+pub(crate) fn full_state(arena: &mut Arena) {
+    session::set_sizes(arena, MAX_WORDS, MAX_LANES, MAX_SLOTS);
+    state(arena);
+}

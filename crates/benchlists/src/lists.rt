@@ -1,0 +1,231 @@
+// Pseudo-random lists of calls, from a Format on: transactions, some of them damaged, commits, marks, drains,
+// write-backs, power failures and recoveries.
+use bench::generator::below;
+use bench::generator::once_in;
+use bench::generator::value;
+use bench::power;
+use bench::regions::KEPT;
+use bench::regions::SEED;
+use bench::regions::START;
+use bench::session;
+use second::restart;
+use second::words::Arena;
+use second::words::LANES;
+use second::words::MAX_LANES;
+use second::words::MAX_SLOTS;
+use second::words::MAX_WORDS;
+use second::words::MAX_WRITES;
+use second::words::MIN_SLOTS;
+use second::words::STATE;
+use second::words::TXN;
+use second::words::WORDS;
+use second::words::clear;
+use second::words::get;
+use second::words::least;
+use second::words::minus;
+use second::words::only;
+use second::words::plus;
+use second::words::put;
+use second::words::set_row;
+
+// SET, COPY, ADD, POKE or SKIP; a SKIP has an instruction after it.
+fn code_for(pick: u64, after: u64) -> u64 {
+    if pick == 4 && after == 0 {
+        return 1;
+    }
+    plus(pick, 1)
+}
+
+fn k_for(code: u64, k: u64, distance: u64) -> u64 {
+    match code {
+        2 => 0,
+        5 => distance,
+        _ => k,
+    }
+}
+
+// Instruction `at`, well formed, with `after` instructions after it.
+fn make_instruction(arena: &mut Arena, at: u64, after: u64) {
+    let words = get(arena, STATE, WORDS);
+    let a = below(arena, words);
+    let b = below(arena, words);
+    let k = value(arena);
+    let distance = plus(1, below(arena, least(after, 15)));
+    let code = code_for(below(arena, 5), after);
+    set_row(
+        arena,
+        TXN,
+        at,
+        code,
+        only(code <= 3, a),
+        only(code != 1, b),
+        k_for(code, k, distance),
+    );
+}
+
+fn instructions(arena: &mut Arena) -> u64 {
+    if once_in(arena, 4) {
+        return plus(1, below(arena, MAX_WRITES));
+    }
+    plus(1, below(arena, 4))
+}
+
+// A word that an instruction may not have there.
+fn damage(arena: &mut Arena) -> u64 {
+    match below(arena, 4) {
+        0 => get(arena, STATE, WORDS),
+        1 => u64::MAX,
+        2 => 0,
+        _ => below(arena, 18),
+    }
+}
+
+// Makes a transaction, now and then one that is damaged; its length in words.
+pub(crate) fn make_txn(arena: &mut Arena) -> u64 {
+    clear(arena, TXN, START);
+    let count = instructions(arena);
+    for at in 0..count {
+        make_instruction(arena, at, minus(count, plus(at, 1)));
+    }
+    spoil_txn(arena, count << 2)
+}
+
+fn spoil_txn(arena: &mut Arena, length: u64) -> u64 {
+    if once_in(arena, 12) {
+        let at = below(arena, length);
+        let word = damage(arena);
+        put(arena, TXN, at, word);
+    }
+    if once_in(arena, 50) {
+        return below(arena, 70);
+    }
+    length
+}
+
+// A lane: mostly lane 0, so that its log wraps while others lag behind, and now and then none.
+fn pick_lane(arena: &mut Arena) -> u64 {
+    let lanes = get(arena, STATE, LANES);
+    match below(arena, 128) {
+        0 => lanes,
+        1..=80 => 0,
+        _ => below(arena, lanes),
+    }
+}
+
+// A Log of a new transaction; the seed that makes it again is kept for the lane.
+fn log(arena: &mut Arena, lane: u64) {
+    let seed = get(arena, STATE, SEED);
+    put(arena, KEPT, lane, seed);
+    let used = make_txn(arena);
+    session::call(arena, second::LOG, lane, used);
+}
+
+// The seed of the lane's transaction, now and then of another one; 1 where there is none yet.
+fn seed_again(arena: &mut Arena, lane: u64) -> u64 {
+    if once_in(arena, 8) {
+        return value(arena);
+    }
+    let seed = get(arena, KEPT, lane);
+    if seed == 0 {
+        return 1;
+    }
+    seed
+}
+
+fn validate(arena: &mut Arena, lane: u64) {
+    let again = seed_again(arena, lane);
+    let seed = get(arena, STATE, SEED);
+    put(arena, STATE, SEED, again);
+    let used = make_txn(arena);
+    put(arena, STATE, SEED, seed);
+    session::call(arena, second::VALIDATE, lane, used);
+}
+
+// Format, with any start words.
+fn format(arena: &mut Arena) {
+    for i in 0..MAX_WORDS {
+        let word = value(arena);
+        put(arena, TXN, i, word);
+    }
+    let words = get(arena, STATE, WORDS);
+    session::call(arena, second::FORMAT, 0, words);
+}
+
+// Recovery without a failure before it; if it is cut, that is one.
+fn recover(arena: &mut Arena) {
+    let limit = below(arena, restart::length(arena) << 1);
+    session::call(arena, second::RECOVER, limit, 0);
+    if session::kind(arena) == second::CUT {
+        power::recover(arena);
+    }
+}
+
+// A start in the middle of a list: by a failure, by recovery, or by Format.
+fn start(arena: &mut Arena, lane: u64) {
+    match below(arena, 6) {
+        0 => format(arena),
+        1 => recover(arena),
+        _ => power::cut(arena, lane),
+    }
+}
+
+// Which call is made how often.
+fn code_of(pick: u64) -> u64 {
+    match pick {
+        0..=23 => second::LOG,
+        24..=35 => second::VALIDATE,
+        36..=48 => second::REDO,
+        49..=50 => second::MARK,
+        51..=55 => second::DRAIN,
+        _ => second::WRITE_BACK,
+    }
+}
+
+fn step(arena: &mut Arena, lane: u64, word: u64) {
+    let code = code_of(below(arena, 64));
+    match code {
+        second::LOG => log(arena, lane),
+        second::VALIDATE => validate(arena, lane),
+        second::WRITE_BACK => session::call(arena, code, word, 0),
+        _ => session::call(arena, code, lane, 0),
+    }
+}
+
+// One event of a list: once in `calm` times a start.
+fn event(arena: &mut Arena, calm: u64) {
+    let lane = pick_lane(arena);
+    let word = below(arena, plus(restart::length(arena), 1));
+    if once_in(arena, calm) {
+        start(arena, lane);
+    } else {
+        step(arena, lane, word);
+    }
+}
+
+// A list of 1,000 events.
+fn list(arena: &mut Arena, calm: u64) {
+    clear(arena, KEPT, 9);
+    format(arena);
+    for _ in 0..1000u64 {
+        event(arena, calm);
+    }
+}
+
+// Sizes at which logs wrap often.
+pub(crate) fn small_sizes(arena: &mut Arena) {
+    let words = plus(1, below(arena, 6));
+    let lanes = plus(1, below(arena, 3));
+    let slots = plus(MIN_SLOTS, below(arena, 7));
+    session::set_sizes(arena, words, lanes, slots);
+}
+
+pub(crate) fn small_list(arena: &mut Arena) {
+    small_sizes(arena);
+    list(arena, 64);
+}
+
+// The greatest sizes.
+pub(crate) fn full_list(arena: &mut Arena) {
+    session::set_sizes(arena, MAX_WORDS, MAX_LANES, MAX_SLOTS);
+    list(arena, 500);
+}

@@ -1,0 +1,166 @@
+// The record of the second implementation, in words: 64 for each of eight lanes, then clock and last commit, and from
+// word 1,024 on the pairs. Its range check, and the floors. 01, refusals 2 and 9.
+use crate::words::Arena;
+use crate::words::LANES;
+use crate::words::MAX_LANES;
+use crate::words::MAX_WRITES;
+use crate::words::RECORD;
+use crate::words::SLOTS;
+use crate::words::STATE;
+use crate::words::WORDS;
+use crate::words::cell;
+use crate::words::clear;
+use crate::words::get;
+use crate::words::least;
+use crate::words::plus;
+use crate::words::put;
+use crate::words::set_row;
+ghost use mathlib.Core.Path.{_≡_};
+ghost use Rattle.second.specs.inner.Words.{fieldAt, pairRow};
+
+// A lane's words: is a transaction logged, its first slot, count and timestamp, the next slot, the wrap bit, the floor.
+pub const HELD: u64 = 0;
+
+pub const FIRST: u64 = 1;
+
+pub const COUNT: u64 = 2;
+
+pub const STAMPED: u64 = 3;
+
+pub const NEXT: u64 = 4;
+
+pub const PRESENT: u64 = 5;
+
+pub const FLOOR: u64 = 6;
+
+pub const CLOCK: u64 = 512;
+
+pub const LAST: u64 = 513;
+
+// The row of these two, where the record is read as a table.
+pub const TIME_ROW: u64 = CLOCK / 4;
+
+// The first word of the pairs.
+pub const PAIRS: u64 = 1024;
+
+// The row of the first pair.
+const FIRST_PAIR: u64 = PAIRS / 4;
+
+// All words of the record.
+pub const LENGTH: u64 = 1536;
+
+// No floor, and no boundary: a number above all timestamps, which are even.
+pub const NONE: u64 = u64::MAX;
+
+pub fn field(arena: &Arena, lane: u64, field: u64) -> u64
+    ensures { λ r. ⌜ r ≡ fieldAt (now (arena .entry)) lane field ⌝ }
+{
+    get(arena, RECORD, lane << 6 | field)
+}
+
+pub fn set_field(arena: &mut Arena, lane: u64, field: u64, word: u64) {
+    put(arena, RECORD, lane << 6 | field, word);
+}
+
+// The row of a pair, where the record is read as a table: its word is field 0, its new value field 2.
+pub fn pair(lane: u64, i: u64) -> u64
+    ensures { λ r. ⌜ r ≡ pairRow lane i ⌝ }
+{
+    FIRST_PAIR | lane << 4 | i
+}
+
+// Whether a lane holds a transaction, and its first slot, count and timestamp.
+pub fn set_held(arena: &mut Arena, lane: u64, held: u64, first: u64, count: u64, stamp: u64) {
+    set_row(arena, RECORD, lane << 4, held, first, count, stamp);
+}
+
+pub(crate) fn set_idle(arena: &mut Arena, lane: u64) {
+    set_held(arena, lane, 0, 0, 0, 0);
+}
+
+// A lane's next slot, wrap bit and floor.
+pub fn set_log(arena: &mut Arena, lane: u64, next: u64, wrap: u64, floor: u64) {
+    set_row(arena, RECORD, lane << 4 | 1, next, wrap, floor, 0);
+}
+
+pub fn set_time(arena: &mut Arena, clock: u64, last: u64) {
+    set_row(arena, RECORD, TIME_ROW, clock, last, 0, 0);
+}
+
+// The record of a start: everything 0 but the wrap bits, the floors, and clock and last commit, which are the base
+// timestamp.
+pub fn set_start(arena: &mut Arena, base: u64) {
+    clear(arena, RECORD, LENGTH);
+    set_time(arena, base, base);
+    start_lanes(arena);
+}
+
+fn start_lanes(arena: &mut Arena) {
+    for lane in 0..MAX_LANES {
+        set_log(arena, lane, 0, 1, NONE);
+    }
+}
+
+// Even and not above the clock.
+fn in_time(arena: &Arena, stamp: u64) -> bool {
+    stamp % 2 == 0 && stamp <= get(arena, RECORD, CLOCK)
+}
+
+fn pairs_ok(arena: &Arena, lane: u64) -> bool {
+    for i in 0..field(arena, lane, COUNT) {
+        if get(arena, STATE, WORDS) <= cell(arena, RECORD, pair(lane, i), 0) {
+            return false;
+        }
+    }
+    true
+}
+
+fn count_ok(count: u64) -> bool {
+    1 <= count && count <= MAX_WRITES
+}
+
+fn held_ok(arena: &Arena, lane: u64) -> bool {
+    field(arena, lane, FIRST) < get(arena, STATE, SLOTS)
+        && count_ok(field(arena, lane, COUNT))
+        && in_time(arena, field(arena, lane, STAMPED))
+        && pairs_ok(arena, lane)
+}
+
+fn floor_ok(arena: &Arena, floor: u64) -> bool {
+    floor == NONE || in_time(arena, floor)
+}
+
+fn lane_ok(arena: &Arena, lane: u64) -> bool {
+    field(arena, lane, NEXT) < get(arena, STATE, SLOTS)
+        && field(arena, lane, PRESENT) < 2
+        && floor_ok(arena, field(arena, lane, FLOOR))
+        && (field(arena, lane, HELD) == 0 || held_ok(arena, lane))
+}
+
+// How many of the first T lanes are out of range?
+fn bad_lanes(arena: &Arena) -> u64 {
+    let mut bad = 0;
+    for lane in 0..get(arena, STATE, LANES) {
+        if !lane_ok(arena, lane) {
+            bad = plus(bad, 1);
+        }
+    }
+    bad
+}
+
+pub(crate) fn in_range(arena: &Arena) -> bool {
+    get(arena, RECORD, CLOCK) % 2 == 0
+        && in_time(arena, get(arena, RECORD, LAST))
+        && bad_lanes(arena) == 0
+}
+
+// The least floor, where this lane's is the one given; none is above all.
+pub(crate) fn least_floor(arena: &Arena, lane: u64, own: u64) -> u64 {
+    let mut bound = own;
+    for other in 0..get(arena, STATE, LANES) {
+        if other != lane {
+            bound = least(bound, field(arena, other, FLOOR));
+        }
+    }
+    bound
+}

@@ -1,0 +1,172 @@
+// Recovery in the second implementation: it lists all stores first, and then makes as many as the limit allows. 01,
+// "Recovery".
+use super::fields;
+use super::reading;
+use crate::words::Arena;
+use crate::words::CACHE;
+use crate::words::DECODED;
+use crate::words::FLAGS;
+use crate::words::FOUND;
+use crate::words::LANES;
+use crate::words::MAX_LANES;
+use crate::words::MAX_SLOTS;
+use crate::words::NUMBER;
+use crate::words::NVM;
+use crate::words::OWNERS;
+use crate::words::PLACES;
+use crate::words::REGION;
+use crate::words::SLOTS;
+use crate::words::STATE;
+use crate::words::VALUES;
+use crate::words::WORDS;
+use crate::words::cell;
+use crate::words::clear;
+use crate::words::copy;
+use crate::words::get;
+use crate::words::least;
+use crate::words::plus;
+use crate::words::put;
+use crate::words::times;
+ghost use mathlib.Core.Path.{_≡_};
+ghost use Rattle.second.specs.inner.Words.{lengthIn};
+
+// The words of an image.
+pub fn length(arena: &Arena) -> u64
+    ensures { λ r. ⌜ r ≡ lengthIn (now (arena .entry)) ⌝ }
+{
+    let slots = times(get(arena, STATE, LANES), get(arena, STATE, SLOTS));
+    plus(plus(1, get(arena, STATE, WORDS)), slots << 1)
+}
+
+// The boundary: going down the n sequences, the timestamp at which the last of the lanes that have one turns up.
+fn boundary_of(arena: &mut Arena, n: u64) -> u64 {
+    clear(arena, OWNERS, MAX_LANES);
+    let mut boundary = fields::NONE;
+    for row in 0..n {
+        let lane = cell(arena, FOUND, row, reading::OF_ROW) / MAX_SLOTS;
+        if get(arena, OWNERS, lane) == 0 {
+            boundary = cell(arena, FOUND, row, reading::OF_STAMP);
+        }
+        put(arena, OWNERS, lane, 1);
+    }
+    boundary
+}
+
+// The timestamp of a row of the table of slots, complete or not, 0 where it has none.
+fn whole_stamp(arena: &Arena, row: u64) -> u64 {
+    if cell(arena, DECODED, row, reading::KIND) == reading::STAMP {
+        return cell(arena, DECODED, row, reading::VALUE);
+    }
+    0
+}
+
+// The greatest of the base timestamp and all whole ones.
+fn new_base(arena: &Arena) -> u64 {
+    let mut greatest = get(arena, NVM, 0);
+    for row in 0..reading::ROWS {
+        if greatest < whole_stamp(arena, row) {
+            greatest = whole_stamp(arena, row);
+        }
+    }
+    greatest
+}
+
+// Lists a store behind the first `listed`; how many there are then.
+fn list(arena: &mut Arena, listed: u64, place: u64, value: u64) -> u64 {
+    put(arena, PLACES, listed, place);
+    put(arena, VALUES, listed, value);
+    plus(listed, 1)
+}
+
+// Lists what undoes a sequence, its last entry first.
+fn undo_sequence(arena: &mut Arena, row: u64, listed: u64) -> u64 {
+    let closing = cell(arena, FOUND, row, reading::OF_ROW);
+    let mut end = listed;
+    for k in 0..cell(arena, FOUND, row, reading::OF_COUNT) {
+        let slot = reading::behind(arena, closing % MAX_SLOTS, plus(k, 1));
+        let entry = reading::row_of(closing / MAX_SLOTS, slot);
+        let word = cell(arena, DECODED, entry, reading::WORD);
+        let old = cell(arena, DECODED, entry, reading::VALUE);
+        end = list(arena, end, plus(1, word), old);
+    }
+    end
+}
+
+// Lists what undoes every sequence of the n that is at or above the boundary.
+fn undo_all(arena: &mut Arena, n: u64, boundary: u64) -> u64 {
+    let mut end = 0;
+    for row in 0..n {
+        if boundary <= cell(arena, FOUND, row, reading::OF_STAMP) {
+            end = undo_sequence(arena, row, end);
+        }
+    }
+    end
+}
+
+// Lists a store of 0 to each log word.
+fn clear_logs(arena: &mut Arena, listed: u64) -> u64 {
+    let mut end = listed;
+    for i in plus(1, get(arena, STATE, WORDS))..length(arena) {
+        end = list(arena, end, i, 0);
+    }
+    end
+}
+
+fn make_stores(arena: &mut Arena, count: u64) {
+    for i in 0..count {
+        let place = get(arena, PLACES, i);
+        let value = get(arena, VALUES, i);
+        put(arena, NVM, place, value);
+    }
+}
+
+fn refill(arena: &mut Arena) {
+    let all = length(arena);
+    copy(arena, NVM, CACHE, 0, all);
+    clear(arena, FLAGS, all);
+}
+
+// After the last store: the start of a new list of calls.
+fn finish(arena: &mut Arena, boundary: u64, undone: u64) {
+    refill(arena);
+    let base = get(arena, NVM, 0);
+    fields::set_start(arena, base);
+    if boundary == fields::NONE {
+        super::answer(arena, super::UNBOUNDED, undone, 0);
+    } else {
+        super::answer(arena, super::RECOVERED, undone, boundary);
+    }
+}
+
+// Lists the stores behind those that undo entries: the base timestamp, the log words. How many there are in all.
+fn list_rest(arena: &mut Arena, undone: u64) -> u64 {
+    let base = new_base(arena);
+    let listed = list(arena, undone, 0, base);
+    clear_logs(arena, listed)
+}
+
+// Lists all stores, and makes the first ones, as many as the limit allows.
+fn recover_whole(arena: &mut Arena) {
+    clear(arena, DECODED, REGION);
+    let lanes = get(arena, STATE, LANES);
+    let n = reading::read(arena, NVM, 0, lanes);
+    let boundary = boundary_of(arena, n);
+    let undone = undo_all(arena, n, boundary);
+    let all = list_rest(arena, undone);
+    let limit = get(arena, STATE, NUMBER);
+    make_stores(arena, least(limit, all));
+    if limit < all {
+        super::answer(arena, super::CUT, 0, 0);
+    } else {
+        finish(arena, boundary, undone);
+    }
+}
+
+// Recovery. Beside a refusal or a cut the record is that of an empty start.
+pub(crate) fn recover(arena: &mut Arena) {
+    if get(arena, NVM, 0) % 2 == 1 {
+        super::refuse(arena, 10);
+    } else {
+        recover_whole(arena);
+    }
+}
