@@ -18,13 +18,13 @@ ghost use Rattle.bench.specs.inner.Run.{kindIn, refusalIn};
 
 // The tally of a group: how many calls, how many of them differed, and from `BY_KIND` and `BY_NUMBER` on how many had
 // which kind of answer and which refusal.
-pub const CALLS: u64 = 0;
+pub(crate) const CALLS: u64 = 0;
 
-pub const DIFFER: u64 = 1;
+pub(crate) const DIFFER: u64 = 1;
 
-pub const BY_KIND: u64 = 2;
+pub(crate) const BY_KIND: u64 = 2;
 
-pub const BY_NUMBER: u64 = 16;
+pub(crate) const BY_NUMBER: u64 = 16;
 
 fn add(arena: &mut Arena, at: u64, is: bool) {
     if is {

@@ -48,7 +48,7 @@ const SETS: u64 = 1024;
 // Each set with each of the eight calls.
 pub(crate) const CASES: u64 = 8 * SETS;
 
-// The causes that a call knows. 01, "Refused calls".
+// The causes that a call knows. SPECIFICATION, "Calls".
 fn known(code: u64) -> u64 {
     match code {
         // 1 2 3 5 6 8 9

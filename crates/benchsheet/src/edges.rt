@@ -1,5 +1,5 @@
 // Both sides of the ends of each range, one call a case, on a small store of two lanes unless the case is about sizes.
-// Where 01 gives the number of the refusal, it is expected too.
+// Where the specification gives the number of the refusal, it is expected too.
 use bench::print;
 use bench::regions::ROOM;
 use bench::regions::START;

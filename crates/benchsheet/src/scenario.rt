@@ -1,4 +1,4 @@
-// The two-lane scenario of 01's bench sheet, and the same with recovery cut after each of its stores.
+// The bench sheet's two-lane scenario, and the same with recovery cut after each of its stores.
 use crate::edges;
 use bench::power;
 use bench::print;

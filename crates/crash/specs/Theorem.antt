@@ -25,7 +25,7 @@ use Rattle.crash.specs.History.{History, fed, pageAt, present, wordsBelo
 
 -- ---- a running store
 pub record Live (z : Sizes) (h : History) (m : Machine) : Type 0 where
-  -- demand 2: the cached data words are the start words with the commits run whole, in the order of their timestamps
+  -- the cached data words are the start words with the commits run whole, in the order of their timestamps
   pub words : dataOf z (m .cache) ≡ present z h
   -- the record's clock is the history's
   pub clock : m .state .clock ≡ h .clock
@@ -54,7 +54,7 @@ answerBy z c h m = cond (eqb (refusalBy z c h m) 0) (takenAnswer z c h) (answer.
 
 -- the answer to a call on a store with this machine
 pub record Answers (z : Sizes) (h : History) (m : Machine) (c : Call) (a : Answer) : Type 0 where
-  -- is the one that 01 gives
+  -- is the one that is due
   pub gives : a ≡ answerBy z c h m
   -- and a lane whose log is full has appended since the start
   pub appended : laneOf c < z .lanes → isFull z c h m ≡ true → pageAt h (laneOf c) .newest ≡ None → ⊥
@@ -85,7 +85,7 @@ pub data NotBelow : (floor boundary : Timestamp) → Type 0 where
 
 -- a finished recovery, of the history before it and the cut cells
 pub record Recovers (z : Sizes) (h : History) (found : List ℕ) (m : Machine) : Type 0 where
-  -- demand 3: in non-volatile memory and in the cache are the last start's words with exactly the commits below the boundary of the cut cells
+  -- in non-volatile memory and in the cache are the last start's words with exactly the commits below the boundary of the cut cells
   pub nvm : dataOf z (m .nvm) ≡ wordsBelow z (boundary z found) h
   pub cache : dataOf z (m .cache) ≡ wordsBelow z (boundary z found) h
   -- the boundary is not below the least floor

@@ -40,7 +40,7 @@ imageLength z = 1 + z.words + 2 * z.lanes * z.slots
 unfoldable pub buffersOk : Sizes → (cache nvm flags : ℕ) → Bool
 buffersOk z cache nvm flags = sizesOk z && (eqb cache (imageLength z) && (eqb nvm (imageLength z) && eqb flags (imageLength z)))
 
--- the base timestamp (01: base word)
+-- the base timestamp
 unfoldable pub baseOf : List ℕ → ℕ
 baseOf image = getD image 0 0
 

@@ -24,7 +24,7 @@ pub const MAX_SLOTS: usize = 256;
 // The words of the longest image.
 pub const MAX_IMAGE: usize = 1 + MAX_WORDS + 2 * MAX_LANES * MAX_SLOTS;
 
-// 01's W data words, T lanes and N log slots a lane.
+// W data words, T lanes and N log slots a lane.
 pub struct Sizes {
     pub words: usize,
     pub lanes: usize,

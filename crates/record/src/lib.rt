@@ -16,7 +16,7 @@ ghost use Rattle.record.specs.Record.{stampOk, floorOk, pairsOk, phaseOk
 ghost use Rattle.record.specs.Record.{lesser, boundOf, floorAfterDrain, floorAfterAppend};
 ghost use Rattle.record.specs.Record.{withLane, withClock, drainedLane, appendedLane, idleLane, pairsOf};
 
-// A word number and its new value. 01: a pair.
+// A word number and its new value.
 pub struct Pair {
     pub word: usize,
     pub value: u64,
@@ -36,7 +36,7 @@ pub enum Phase {
 
 pub struct Lane {
     pub phase: Phase,
-    // the next slot of the log, and the wrap bit it is written with (01: present lap bit)
+    // the next slot of the log, and the wrap bit it is written with
     pub next: usize,
     pub wrap: u64,
     // the low-water mark: the timestamp that the last drained sequence had, or the first's while none is drained

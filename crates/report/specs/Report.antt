@@ -1,7 +1,7 @@
 -- What program `recover` prints: words out of bytes, the one refusal of its own, and the lines of a report. SPECIFICATION, "Program `recover`". Assumes
 -- nothing.
 use Prim.Native.Nat.{ℕ, zero, suc, _+_, _-_, _*_, _/_, _%_, _^_, _≤_}
-use mathlib.Core.Bool.{Bool, true, cond, _&&_}
+use mathlib.Core.Bool.{Bool, cond, _&&_}
 use mathlib.Core.List.{List, [], _∷_, _++_}
 use mathlib.Core.Path.{_≡_}
 use lib.Dec.{leb, ltb, eqb}
@@ -40,11 +40,6 @@ imageIn input = wordsIn input (imageLength (sizesIn input))
 -- are the sizes in range, and is the input as long as they say
 unfoldable pub wellFormed : List ℕ → Bool
 wellFormed input = sizesOk (sizesIn input) && eqb (length input) (8 * (3 + imageLength (sizesIn input)))
-
--- the sizes of a well formed input
-pub record SizesOf (z : Sizes) (input : List ℕ) : Type 0 where
-  pub well : wellFormed input ≡ true
-  pub sizes : z ≡ sizesIn input
 
 -- ---- printing, in ASCII
 -- the decimal digits of a number, the fewest that hold it and at most k
@@ -105,12 +100,6 @@ noLimit = 2 ^ 64 - 1
 unfoldable pub blank : (n : ℕ) → List ℕ
 blank n = replicate n 0
 
--- buffers of one image, with nothing in cache and flags
-pub record Blanks (z : Sizes) (cache nvm flags : List ℕ) : Type 0 where
-  pub no-cache : cache ≡ blank (imageLength z)
-  pub in-nvm : length nvm ≡ imageLength z
-  pub no-flags : flags ≡ blank (imageLength z)
-
 -- recovery of the image of an input, with nothing in cache and flags
 unfoldable pub recoveredFrom : Sizes → (image : List ℕ) → Restarted
 recoveredFrom z image = recoverStep z noLimit (blankOf (blank (imageLength z)) image (blank (imageLength z)))
@@ -149,16 +138,6 @@ room = boundaryRoom + wordRoom * maxWords
 -- what is printed into a buffer of a length: nothing where a report might not fit
 unfoldable pub printedOf : (size : ℕ) → (input : List ℕ) → List ℕ
 printedOf size input = cond (leb room size) (reportOf input) []
-
--- a buffer with a text in it from place `at` on
-unfoldable pub putAt : (at : ℕ) → (text buffer : List ℕ) → List ℕ
-putAt at text buffer = take at buffer ++ text ++ drop (at + length text) buffer
-
--- the text fits there, and buffer and next place are those after it
-pub record Put (at : ℕ) (text buffer : List ℕ) (next : ℕ) (after : List ℕ) : Type 0 where
-  pub fits : at + length text ≤ length buffer
-  pub ends : next ≡ at + length text
-  pub left : after ≡ putAt at text buffer
 
 -- ---- from standard input to standard output
 -- no well formed input is longer: three sizes, and the longest image

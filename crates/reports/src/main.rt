@@ -80,7 +80,7 @@ fn ranges() {
     show(&[u64::MAX, 1, 34], 592);
 }
 
-// Sizes 2, 1, 34: an odd base, empty logs, empty logs with the greatest word, and 01's example.
+// Sizes 2, 1, 34: an odd base, empty logs, empty logs with the greatest word, and the sample of program `recover`.
 fn images() {
     show(&[2u64, 1, 34, 1, 9, 0], 592);
     show(&[2u64, 1, 34, 0, 9, 0], 592);

@@ -1,5 +1,5 @@
 // The record of the second implementation, in words: 64 for each of eight lanes, then clock and last commit, and from
-// word 1,024 on the pairs. Its range check, and the floors. 01, refusals 2 and 9.
+// word 1,024 on the pairs. Its range check, and the floors. SPECIFICATION, "Record".
 use crate::words::Arena;
 use crate::words::LANES;
 use crate::words::MAX_LANES;

@@ -1,5 +1,5 @@
-// Recovery in the second implementation: it lists all stores first, and then makes as many as the limit allows. 01,
-// "Recovery".
+// Recovery in the second implementation: it lists all stores first, and then makes as many as the limit allows.
+// SPECIFICATION, "Recovery".
 use super::fields;
 use super::reading;
 use crate::words::Arena;

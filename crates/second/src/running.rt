@@ -1,5 +1,5 @@
 // How the second implementation checks and runs a transaction: which fields an instruction uses, and a program counter
-// over a copy of the data words. 01, "Frames".
+// over a copy of the data words. SPECIFICATION, "Transactions".
 use crate::words::Arena;
 use crate::words::CACHE;
 use crate::words::DATA;
@@ -29,11 +29,11 @@ const POKE: u64 = 4;
 const SKIP: u64 = 5;
 
 // The table of writes, one a row: word, old value, new value.
-pub const WORD: u64 = 0;
+pub(crate) const WORD: u64 = 0;
 
-pub const OLD: u64 = 1;
+pub(crate) const OLD: u64 = 1;
 
-pub const NEW: u64 = 2;
+pub(crate) const NEW: u64 = 2;
 
 // A word number below W where it is used, else 0.
 fn operand_ok(words: u64, used: bool, word: u64) -> bool {

@@ -10,9 +10,9 @@ ghost use Rattle.second.specs.inner.Words.{wordAt, stored, cellAt, sum, 
 pub type Arena = [u64; ALL];
 
 // The words of a region, how many regions there are, and the words of all.
-pub const REGION: u64 = 8192;
+pub(crate) const REGION: u64 = 8192;
 
-pub const REGIONS: u64 = 21;
+const REGIONS: u64 = 21;
 
 pub const ALL: usize = 172032;
 

@@ -9,7 +9,7 @@ pub struct Slot {
     pub value: u64,
 }
 
-// What a slot's two words say. 01: a slot that is an Entry or a Stamp is whole.
+// What a slot's two words say. A slot that is an Entry or a Stamp is whole.
 pub enum Content {
     // never written
     Empty,
@@ -28,7 +28,7 @@ impl Slot {
     // The most entries that a timestamp closes.
     pub const MAX_ENTRIES: u64 = 16;
 
-    // The wrap bit, bit 0 of both words (01: lap bit).
+    // The wrap bit, bit 0 of both words.
     pub const WRAP: u64 = 1;
 
     // The place of the old value's low bit in an entry's address word; the value word has the wrap bit there.

@@ -8,7 +8,7 @@ use Rattle.record.specs.declared.Record.{Record}
 use Rattle.store.specs.declared.Answer.{Answer}
 use Rattle.store.specs.declared.Answer.the-variants.{Refused, Done, NoWrites, Logged, Committed, Stale, Changed, Marked}
 
--- record, cached image, non-volatile memory (01: cells), flag bytes
+-- record, cached image, non-volatile memory (its words are the cells), flag bytes
 pub record Machine : Type 0 where
   pub state : Record
   pub cache : List ℕ

@@ -36,7 +36,7 @@ pub enum Answer {
     Refused(u64),
     // Format, write-back, Drain
     Done,
-    // Log of a transaction that writes nothing. 01: count 0
+    // Log of a transaction that writes nothing: count 0
     NoWrites,
     // Log
     Logged(Appended),

@@ -1,4 +1,4 @@
-// One transaction (01: frame): its static check, and its run on data words that stay as they are.
+// One transaction: its static check, and its run on data words that stay as they are.
 ghost use mathlib.Core.Path.{_≡_};
 ghost use mathlib.Core.Bool.{true, cond, _&&_};
 ghost use Prim.Native.Nat.{_+_, _%_, _^_, _≤_, _<_};

@@ -1,6 +1,6 @@
 -- Inner: how the code goes, need not be believed. What a run keeps beside the second implementation's words: the store's answer, and pseudo-random
--- numbers. Regions and words are numbers here: 15 is STORED, whose words 1,536 and 1,537 are the kind of the answer and its number; word 0 of region 0
--- is the seed. Assumes nothing.
+-- numbers. The code's constants are numbers here: region 15 is STORED, whose words 1,536 and 1,537 are the kind of the answer and its number; word 0 of
+-- region 0 is the seed. Assumes nothing.
 use Prim.Native.Nat.{ℕ, _-_, _*_, _/_, _%_, _^_}
 use mathlib.Core.Bool.{cond}
 use mathlib.Core.List.{List}

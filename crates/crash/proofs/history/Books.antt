@@ -1,4 +1,4 @@
--- The book's part is kept by every move, given what the logs say: demand 2, clocks, floors, ranges, held transactions. Assumes nothing.
+-- The book's part is kept by every move, given what the logs say: cached words, clocks, floors, ranges, held transactions. Assumes nothing.
 use mathlib.Core.Path.{_≡_, refl, ap, _∙_, sym, subst}
 use mathlib.Core.Logic.{_≢_}
 use mathlib.Core.Bool.{true, false}
