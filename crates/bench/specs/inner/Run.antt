@@ -43,4 +43,4 @@ unfoldable pub valueDrawn : List ℕ → ℕ
 valueDrawn ws =
     let next = afterDraw ws in
     let pick = drawnBelow ws 8 in
-    cond (eqb pick 0) (drawn next) (cond (eqb pick 1) (18446744073709551615 - drawnBelow next 3) (drawnBelow next 4))
+    cond (eqb pick 0) (drawn next) (cond (eqb pick 1) (2 ^ 64 - 1 - drawnBelow next 3) (drawnBelow next 4))

@@ -34,13 +34,4 @@ returns c = search needs
 pub cases-spec : {M : Type 1} → statement M
 cases-spec =
     tie.close
-    (tie.spec
-    Inv-loop
-    μ-loop
-    clear-requires
-    loop-holds
-    case-requires
-    add-counter
-    loop-less
-    loop-again
-    returns)
+    (tie.spec Inv-loop μ-loop clear-requires loop-holds case-requires add-counter loop-less loop-again returns)

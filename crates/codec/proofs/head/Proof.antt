@@ -31,11 +31,5 @@ returns c = let a = c .before in let b = a .before in let d = b .before in let e
 pub head-spec : {M : Type 1} → statement M
 head-spec =
     tie.close
-    (tie.spec
-    logged-in-requires
-    is-logged-requires
-    bit-for-requires
-    is-set-requires
-    bit-for-requires-2
-    stamp-of-requires
-    returns)
+    (tie.spec logged-in-requires is-logged-requires bit-for-requires is-set-requires bit-for-requires-2
+    stamp-of-requires returns)

@@ -45,16 +45,6 @@ returns c = let b = c .before .before in let p = b .before .before .before .befo
 pub lane-from-spec : {M : Type 1} → statement M
 lane-from-spec =
     tie.close
-    (tie.spec
-    phase-from-requires
-    shared-slice-read-t4
-    shared-slice-read-t7
-    sub-floor-from
-    part-floor-from-start
-    part-floor-from-end
-    floor-from-requires
-    sub-pairs-from
-    part-pairs-from-start
-    part-pairs-from-end
-    pairs-from-requires
+    (tie.spec phase-from-requires shared-slice-read-t4 shared-slice-read-t7 sub-floor-from part-floor-from-start
+    part-floor-from-end floor-from-requires sub-pairs-from part-pairs-from-start part-pairs-from-end pairs-from-requires
     returns)

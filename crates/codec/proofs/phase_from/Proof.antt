@@ -29,10 +29,4 @@ returns-2 c = rw (ne-eqb _ _ (c .before .before .before .if1 .left))
 pub phase-from-spec : {M : Type 1} → statement M
 phase-from-spec =
     tie.close
-    (tie.spec
-    shared-slice-read-if1
-    returns
-    shared-slice-read-t3
-    shared-slice-read-t8
-    shared-slice-read-t11
-    returns-2)
+    (tie.spec shared-slice-read-if1 returns shared-slice-read-t3 shared-slice-read-t8 shared-slice-read-t11 returns-2)

@@ -43,15 +43,5 @@ returns c = let p = c .before .before in let w = p .before .before .before .befo
 pub put-lane-spec : {M : Type 1} → statement M
 put-lane-spec =
     tie.close
-    (tie.spec
-    head-requires
-    slice-aggregate-copy-words
-    slice-relend-prefix-copy-words
-    slice-aggregate-copy-words-2
-    copy-words-requires
-    sub-put-pairs
-    part-put-pairs-start
-    part-put-pairs-end
-    put-pairs-requires
-    same-length
-    returns)
+    (tie.spec head-requires slice-aggregate-copy-words slice-relend-prefix-copy-words slice-aggregate-copy-words-2
+    copy-words-requires sub-put-pairs part-put-pairs-start part-put-pairs-end put-pairs-requires same-length returns)

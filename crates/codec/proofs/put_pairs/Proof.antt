@@ -5,16 +5,17 @@ use native.Mathlib.Omega.{arith}
 use lib.ListN.{length-set, take}
 use lib.Seq.{take-all}
 use borrow.Author.Needs.{needs}
+use Rattle.txn.specs.Txn.{maxWrites}
 use Rattle.codec.specs.Fields.{pairsLength, rowWords, pairWords}
 use Rattle.codec.specs.inner.FieldsLaws.{Begun, begun-all, pairs-none, pairs-on}
 use Rattle.codec.proofs.put_pairs.Statement.{statement}
 use Rattle.codec.proofs.put_pairs.Tie as tie
 
 abbrev Inv-loop : tie.InvT-loop
-Inv-loop words₀ redo i₀ words i = (i ≤ 16) × (Begun pairsLength (rowWords pairWords (take i redo)) (2 * i) words)
+Inv-loop words₀ redo i₀ words i = (i ≤ maxWrites) × (Begun pairsLength (rowWords pairWords (take i redo)) (2 * i) words)
 
 abbrev μ-loop : tie.MeasureT-loop
-μ-loop words₀ redo i₀ words i = 16 - i
+μ-loop words₀ redo i₀ words i = maxWrites - i
 
 loop-holds : tie.Need-loop-holds Inv-loop μ-loop
 loop-holds c = (search needs, pairs-none (c .args .t1) _ (c .pre))
@@ -68,21 +69,5 @@ returns c = let l = c .before .loop in let a = c .before .before .args in
 pub put-pairs-spec : {M : Type 1} → statement M
 put-pairs-spec =
     tie.close
-    (tie.spec
-    Inv-loop
-    μ-loop
-    loop-holds
-    mul-pair
-    array-copy-out-pair
-    mul-words
-    mul-words-2
-    slice-write-words
-    mul-words-3
-    add-words
-    mul-words-4
-    slice-write-words-2
-    add-i
-    loop-less
-    loop-again
-    same-length
-    returns)
+    (tie.spec Inv-loop μ-loop loop-holds mul-pair array-copy-out-pair mul-words mul-words-2 slice-write-words
+    mul-words-3 add-words mul-words-4 slice-write-words-2 add-i loop-less loop-again same-length returns)

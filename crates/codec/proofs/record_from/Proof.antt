@@ -6,16 +6,17 @@ use native.Mathlib.Omega.{arith}
 use lib.ListN.{getD, drop}
 use borrow.Author.Needs.{needs}
 use Rattle.record.specs.declared.Lane.{Lane}
+use Rattle.image.specs.Image.{maxLanes}
 use Rattle.codec.specs.Fields.{laneLength, rowOf, laneOf, recordOf}
 use Rattle.codec.specs.inner.FieldsLaws.{Begun, begun-all, row-begun, row-on, lane-read}
 use Rattle.codec.proofs.record_from.Statement.{statement}
 use Rattle.codec.proofs.record_from.Tie as tie
 
 abbrev Inv-loop : tie.InvT-loop
-Inv-loop words lanes₀ l₀ lanes l = (l ≤ 8) × (Begun 8 (rowOf laneLength laneOf l (drop 2 words)) l lanes)
+Inv-loop words lanes₀ l₀ lanes l = (l ≤ maxLanes) × (Begun maxLanes (rowOf laneLength laneOf l (drop 2 words)) l lanes)
 
 abbrev μ-loop : tie.MeasureT-loop
-μ-loop words lanes₀ l₀ lanes l = 8 - l
+μ-loop words lanes₀ l₀ lanes l = maxLanes - l
 
 start-lane-requires : tie.Need-start-lane-requires Inv-loop μ-loop
 start-lane-requires c κs = search needs
@@ -70,30 +71,13 @@ returns : tie.Need-returns Inv-loop μ-loop
 unfolding recordOf
 returns c =
     let l = c .before .before .before .loop in
-    let e : l .l ≡ 8 = omega arith in
+    let e : l .l ≡ maxLanes = omega arith in
     let w = c .before .before .before .before .before .before .args .words .now in
     ap (λ (ls : List Lane). record { clock = getD w 0 0; last = getD w 1 0; lanes = ls }) (rw (← e) (begun-all _ _ _ _ (l .inv .1) e))
 
 pub record-from-spec : {M : Type 1} → statement M
 record-from-spec =
     tie.close
-    (tie.spec
-    Inv-loop
-    μ-loop
-    start-lane-requires
-    loop-holds
-    mul-lane-from
-    add-lane-from
-    mul-lane-from-2
-    sub-lane-from
-    part-lane-from-start
-    part-lane-from-end
-    lane-from-requires
-    mul-lanes
-    array-set-from-lanes
-    add-l
-    loop-less
-    loop-again
-    shared-slice-read-t18
-    shared-slice-read-t20
-    returns)
+    (tie.spec Inv-loop μ-loop start-lane-requires loop-holds mul-lane-from add-lane-from mul-lane-from-2 sub-lane-from
+    part-lane-from-start part-lane-from-end lane-from-requires mul-lanes array-set-from-lanes add-l loop-less loop-again
+    shared-slice-read-t18 shared-slice-read-t20 returns)

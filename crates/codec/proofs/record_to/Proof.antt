@@ -5,16 +5,17 @@ use native.Mathlib.Omega.{arith}
 use lib.ListN.{length-set}
 use borrow.Author.Needs.{needs}
 use Rattle.record.proofs.Lengths.{lanes-eight}
+use Rattle.image.specs.Image.{maxLanes}
 use Rattle.codec.specs.Fields.{laneLength, recordLength}
 use Rattle.codec.specs.inner.FieldsLaws.{Begun, upTo, lanes-none, lanes-on, lanes-all}
 use Rattle.codec.proofs.record_to.Statement.{statement}
 use Rattle.codec.proofs.record_to.Tie as tie
 
 abbrev Inv-loop : tie.InvT-loop
-Inv-loop words₀ state l₀ words l = (l ≤ 8) × (Begun recordLength (upTo state l) (2 + laneLength * l) words)
+Inv-loop words₀ state l₀ words l = (l ≤ maxLanes) × (Begun recordLength (upTo state l) (2 + laneLength * l) words)
 
 abbrev μ-loop : tie.MeasureT-loop
-μ-loop words₀ state l₀ words l = 8 - l
+μ-loop words₀ state l₀ words l = maxLanes - l
 
 slice-write-words : tie.Need-slice-write-words Inv-loop μ-loop
 slice-write-words c = search needs
@@ -80,24 +81,6 @@ returns c = let l = c .before .loop in let s = c .before .before .before in lane
 pub record-to-spec : {M : Type 1} → statement M
 record-to-spec =
     tie.close
-    (tie.spec
-    Inv-loop
-    μ-loop
-    slice-write-words
-    slice-write-words-2
-    loop-holds
-    mul-lane
-    element-copy-out-lane
-    mul-at
-    add-at
-    add-put-lane
-    mul-put-lane
-    sub-put-lane
-    part-put-lane-start
-    part-put-lane-end
-    put-lane-requires
-    add-l
-    loop-less
-    loop-again
-    same-length
-    returns)
+    (tie.spec Inv-loop μ-loop slice-write-words slice-write-words-2 loop-holds mul-lane element-copy-out-lane mul-at
+    add-at add-put-lane mul-put-lane sub-put-lane part-put-lane-start part-put-lane-end put-lane-requires add-l
+    loop-less loop-again same-length returns)

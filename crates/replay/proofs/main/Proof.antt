@@ -35,13 +35,5 @@ returns-2 c = search needs
 pub main-spec : {M : Type 1} → statement M
 main-spec =
     tie.close
-    (tie.spec
-    buffer-requires
-    slice-aggregate-read
-    read-requires
-    bad-trace-requires
-    returns
-    array-share-prefix-words
-    slice-aggregate-run-traces
-    run-traces-requires
-    returns-2)
+    (tie.spec buffer-requires slice-aggregate-read read-requires bad-trace-requires returns array-share-prefix-words
+    slice-aggregate-run-traces run-traces-requires returns-2)

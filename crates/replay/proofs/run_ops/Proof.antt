@@ -58,20 +58,5 @@ returns-2 c = search needs
 pub run-ops-spec : {M : Type 1} → statement M
 run-ops-spec =
     tie.close
-    (tie.spec
-    Inv-loop
-    μ-loop
-    loop-holds
-    step-requires
-    enum-told
-    same-length
-    same-length-2
-    same-length-3
-    returns
-    add-counter
-    loop-less
-    loop-again
-    same-length-4
-    same-length-5
-    same-length-6
-    returns-2)
+    (tie.spec Inv-loop μ-loop loop-holds step-requires enum-told same-length same-length-2 same-length-3 returns
+    add-counter loop-less loop-again same-length-4 same-length-5 same-length-6 returns-2)

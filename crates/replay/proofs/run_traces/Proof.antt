@@ -44,16 +44,5 @@ returns-3 c = search needs
 pub run-traces-spec : {M : Type 1} → statement M
 run-traces-spec =
     tie.close
-    (tie.spec
-    Inv-loop
-    μ-loop
-    loop-holds
-    returns
-    run-trace-requires
-    enum-told
-    bad-trace-requires
-    returns-2
-    add-counter
-    loop-less
-    loop-again
-    returns-3)
+    (tie.spec Inv-loop μ-loop loop-holds returns run-trace-requires enum-told bad-trace-requires returns-2 add-counter
+    loop-less loop-again returns-3)

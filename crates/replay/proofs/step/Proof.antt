@@ -77,27 +77,7 @@ returns-2 c = search needs
 pub step-spec : {M : Type 1} → statement M
 step-spec =
     tie.close
-    (tie.spec
-    mul-rest
-    sub-rest
-    part-rest-start
-    part-rest-end
-    op-length-requires
-    returns
-    lent-requires
-    shared-slice-read-perform
-    sub-perform
-    part-perform-start
-    part-perform-end
-    add-t12
-    slice-relend-prefix-perform
-    slice-aggregate-perform
-    slice-relend-prefix-perform-2
-    slice-aggregate-perform-2
-    slice-relend-prefix-perform-3
-    slice-aggregate-perform-3
-    perform-requires
-    same-length
-    same-length-2
-    same-length-3
-    returns-2)
+    (tie.spec mul-rest sub-rest part-rest-start part-rest-end op-length-requires returns lent-requires
+    shared-slice-read-perform sub-perform part-perform-start part-perform-end add-t12 slice-relend-prefix-perform
+    slice-aggregate-perform slice-relend-prefix-perform-2 slice-aggregate-perform-2 slice-relend-prefix-perform-3
+    slice-aggregate-perform-3 perform-requires same-length same-length-2 same-length-3 returns-2)

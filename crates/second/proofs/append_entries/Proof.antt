@@ -30,5 +30,4 @@ returns c = search needs
 
 pub append-entries-spec : {M : Type 1} → statement M
 append-entries-spec =
-    tie.close
-    (tie.spec Inv-loop μ-loop loop-holds append-entry-requires add-i loop-less loop-again returns)
+    tie.close (tie.spec Inv-loop μ-loop loop-holds append-entry-requires add-i loop-less loop-again returns)

@@ -34,13 +34,4 @@ returns c = search needs
 pub drain-words-spec : {M : Type 1} → statement M
 drain-words-spec =
     tie.close
-    (tie.spec
-    Inv-loop
-    μ-loop
-    length-requires
-    loop-holds
-    drain-word-requires
-    add-i
-    loop-less
-    loop-again
-    returns)
+    (tie.spec Inv-loop μ-loop length-requires loop-holds drain-word-requires add-i loop-less loop-again returns)

@@ -34,13 +34,4 @@ returns c = search needs
 pub matching-spec : {M : Type 1} → statement M
 matching-spec =
     tie.close
-    (tie.spec
-    Inv-loop
-    μ-loop
-    loop-holds
-    entry-matches-requires
-    plus-requires
-    add-i
-    loop-less
-    loop-again
-    returns)
+    (tie.spec Inv-loop μ-loop loop-holds entry-matches-requires plus-requires add-i loop-less loop-again returns)

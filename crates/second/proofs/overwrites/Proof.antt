@@ -46,17 +46,5 @@ returns-2 c = search needs
 pub overwrites-spec : {M : Type 1} → statement M
 overwrites-spec =
     tie.close
-    (tie.spec
-    Inv-loop
-    μ-loop
-    floor-after-requires
-    least-floor-requires
-    field-requires
-    loop-holds
-    ahead-requires
-    is-owned-requires
-    returns
-    add-k
-    loop-less
-    loop-again
-    returns-2)
+    (tie.spec Inv-loop μ-loop floor-after-requires least-floor-requires field-requires loop-holds ahead-requires
+    is-owned-requires returns add-k loop-less loop-again returns-2)

@@ -46,17 +46,5 @@ returns c = search needs
 pub set-pairs-spec : {M : Type 1} → statement M
 set-pairs-spec =
     tie.close
-    (tie.spec
-    Inv-loop
-    μ-loop
-    loop-holds
-    cell-requires
-    cell-requires-2
-    pair-requires
-    only-requires
-    only-requires-2
-    set-row-requires
-    add-i
-    loop-less
-    loop-again
-    returns)
+    (tie.spec Inv-loop μ-loop loop-holds cell-requires cell-requires-2 pair-requires only-requires only-requires-2
+    set-row-requires add-i loop-less loop-again returns)

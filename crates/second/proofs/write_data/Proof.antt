@@ -46,17 +46,5 @@ returns c = search needs
 pub write-data-spec : {M : Type 1} → statement M
 write-data-spec =
     tie.close
-    (tie.spec
-    Inv-loop
-    μ-loop
-    loop-holds
-    plus-requires
-    cell-requires
-    plus-requires-2
-    cell-requires-2
-    plus-requires-3
-    store-requires
-    add-i
-    loop-less
-    loop-again
-    returns)
+    (tie.spec Inv-loop μ-loop loop-holds plus-requires cell-requires plus-requires-2 cell-requires-2 plus-requires-3
+    store-requires add-i loop-less loop-again returns)

@@ -38,12 +38,5 @@ returns-2 c =
 pub vandzulge-drain-spec : {M : Type 1} → statement M
 vandzulge-drain-spec =
     tie.close
-    (tie.spec
-    returns
-    record-from-requires
-    drain-requires
-    settle-requires
-    same-length
-    same-length-2
-    same-length-3
+    (tie.spec returns record-from-requires drain-requires settle-requires same-length same-length-2 same-length-3
     returns-2)

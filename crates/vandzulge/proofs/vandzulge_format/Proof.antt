@@ -37,12 +37,4 @@ returns-2 c =
 pub vandzulge-format-spec : {M : Type 1} → statement M
 vandzulge-format-spec =
     tie.close
-    (tie.spec
-    returns
-    format-requires
-    settle-requires
-    same-length
-    same-length-2
-    same-length-3
-    same-length-4
-    returns-2)
+    (tie.spec returns format-requires settle-requires same-length same-length-2 same-length-3 same-length-4 returns-2)

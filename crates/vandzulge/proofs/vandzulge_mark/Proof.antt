@@ -54,16 +54,5 @@ returns-3 c =
 pub vandzulge-mark-spec : {M : Type 1} → statement M
 vandzulge-mark-spec =
     tie.close
-    (tie.spec
-    returns
-    returns-2
-    record-from-requires
-    mark-requires
-    reply-requires
-    settle-requires
-    same-length
-    same-length-2
-    same-length-3
-    same-length-4
-    same-length-5
-    returns-3)
+    (tie.spec returns returns-2 record-from-requires mark-requires reply-requires settle-requires same-length
+    same-length-2 same-length-3 same-length-4 same-length-5 returns-3)

@@ -50,15 +50,5 @@ returns-3 c =
 pub vandzulge-recover-spec : {M : Type 1} → statement M
 vandzulge-recover-spec =
     tie.close
-    (tie.spec
-    returns
-    returns-2
-    recover-requires
-    reply-restart-requires
-    restart-requires
-    same-length
-    same-length-2
-    same-length-3
-    same-length-4
-    same-length-5
-    returns-3)
+    (tie.spec returns returns-2 recover-requires reply-restart-requires restart-requires same-length same-length-2
+    same-length-3 same-length-4 same-length-5 returns-3)

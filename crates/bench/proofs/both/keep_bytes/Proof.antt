@@ -37,14 +37,5 @@ returns c = search needs
 pub keep-bytes-spec : {M : Type 1} → statement M
 keep-bytes-spec =
     tie.close
-    (tie.spec
-    Inv-loop
-    μ-loop
-    loop-holds
-    shared-slice-read-wide
-    wide-requires
-    put-requires
-    add-i
-    loop-less
-    loop-again
+    (tie.spec Inv-loop μ-loop loop-holds shared-slice-read-wide wide-requires put-requires add-i loop-less loop-again
     returns)

@@ -42,15 +42,5 @@ returns c = search needs
 pub load-bytes-spec : {M : Type 1} → statement M
 load-bytes-spec =
     tie.close
-    (tie.spec
-    Inv-loop
-    μ-loop
-    loop-holds
-    get-requires
-    byte-requires
-    slice-write-to
-    add-i
-    loop-less
-    loop-again
-    same-length
-    returns)
+    (tie.spec Inv-loop μ-loop loop-holds get-requires byte-requires slice-write-to add-i loop-less loop-again
+    same-length returns)

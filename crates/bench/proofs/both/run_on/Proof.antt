@@ -62,22 +62,7 @@ returns c = search needs
 pub run-on-spec : {M : Type 1} → statement M
 run-on-spec =
     tie.close
-    (tie.spec
-    length-requires
-    length-requires-2
-    length-requires-3
-    length-requires-4
-    slice-relend-prefix-run-in
-    slice-aggregate-run-in
-    slice-relend-prefix-run-in-2
-    slice-aggregate-run-in-2
-    slice-relend-prefix-run-in-3
-    slice-aggregate-run-in-3
-    slice-relend-prefix-run-in-4
-    slice-aggregate-run-in-4
-    run-in-requires
-    same-length
-    same-length-2
-    same-length-3
-    same-length-4
-    returns)
+    (tie.spec length-requires length-requires-2 length-requires-3 length-requires-4 slice-relend-prefix-run-in
+    slice-aggregate-run-in slice-relend-prefix-run-in-2 slice-aggregate-run-in-2 slice-relend-prefix-run-in-3
+    slice-aggregate-run-in-3 slice-relend-prefix-run-in-4 slice-aggregate-run-in-4 run-in-requires same-length
+    same-length-2 same-length-3 same-length-4 returns)

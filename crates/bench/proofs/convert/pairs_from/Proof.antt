@@ -45,16 +45,5 @@ returns c = search needs
 pub pairs-from-spec : {M : Type 1} → statement M
 pairs-from-spec =
     tie.close
-    (tie.spec
-    Inv-loop
-    μ-loop
-    loop-holds
-    pair-requires
-    cell-requires
-    cell-requires-2
-    mul-pairs
-    array-set-from-pairs
-    add-i
-    loop-less
-    loop-again
-    returns)
+    (tie.spec Inv-loop μ-loop loop-holds pair-requires cell-requires cell-requires-2 mul-pairs array-set-from-pairs
+    add-i loop-less loop-again returns)

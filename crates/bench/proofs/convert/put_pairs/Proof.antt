@@ -40,15 +40,5 @@ returns c = search needs
 pub put-pairs-spec : {M : Type 1} → statement M
 put-pairs-spec =
     tie.close
-    (tie.spec
-    Inv-loop
-    μ-loop
-    loop-holds
-    mul-pair
-    array-copy-out-pair
-    pair-requires
-    set-row-requires
-    add-i
-    loop-less
-    loop-again
-    returns)
+    (tie.spec Inv-loop μ-loop loop-holds mul-pair array-copy-out-pair pair-requires set-row-requires add-i loop-less
+    loop-again returns)

@@ -43,16 +43,5 @@ returns c = search needs
 pub put-record-spec : {M : Type 1} → statement M
 put-record-spec =
     tie.close
-    (tie.spec
-    Inv-loop
-    μ-loop
-    clear-requires
-    set-row-requires
-    loop-holds
-    mul-lane
-    element-copy-out-lane
-    put-lane-requires
-    add-l
-    loop-less
-    loop-again
-    returns)
+    (tie.spec Inv-loop μ-loop clear-requires set-row-requires loop-holds mul-lane element-copy-out-lane
+    put-lane-requires add-l loop-less loop-again returns)

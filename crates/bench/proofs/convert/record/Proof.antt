@@ -48,17 +48,5 @@ returns c = search needs
 pub record-spec : {M : Type 1} → statement M
 record-spec =
     tie.close
-    (tie.spec
-    Inv-loop
-    μ-loop
-    lane-from-requires
-    loop-holds
-    lane-from-requires-2
-    mul-lanes
-    array-set-from-lanes
-    add-l
-    loop-less
-    loop-again
-    get-requires
-    get-requires-2
-    returns)
+    (tie.spec Inv-loop μ-loop lane-from-requires loop-holds lane-from-requires-2 mul-lanes array-set-from-lanes add-l
+    loop-less loop-again get-requires get-requires-2 returns)

@@ -49,12 +49,4 @@ returns-3 c =
 pub value-spec : {M : Type 1} → statement M
 value-spec =
     tie.close
-    (tie.spec
-    below-requires
-    draw-requires
-    returns
-    below-requires-2
-    sub-result
-    returns-2
-    below-requires-3
-    returns-3)
+    (tie.spec below-requires draw-requires returns below-requires-2 sub-result returns-2 below-requires-3 returns-3)

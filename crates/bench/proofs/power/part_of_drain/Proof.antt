@@ -43,16 +43,5 @@ returns c = search needs
 pub part-of-drain-spec : {M : Type 1} → statement M
 part-of-drain-spec =
     tie.close
-    (tie.spec
-    Inv-loop
-    μ-loop
-    length-requires
-    loop-holds
-    get-requires
-    is-flushed-requires
-    once-in-requires
-    move-word-requires
-    add-i
-    loop-less
-    loop-again
-    returns)
+    (tie.spec Inv-loop μ-loop length-requires loop-holds get-requires is-flushed-requires once-in-requires
+    move-word-requires add-i loop-less loop-again returns)

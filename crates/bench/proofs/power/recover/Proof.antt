@@ -40,15 +40,5 @@ returns-2 c = search needs
 pub recover-spec : {M : Type 1} → statement M
 recover-spec =
     tie.close
-    (tie.spec
-    Inv-loop
-    μ-loop
-    loop-holds
-    recover-once-requires
-    kind-requires
-    returns
-    add-counter
-    loop-less
-    loop-again
-    call-requires
-    returns-2)
+    (tie.spec Inv-loop μ-loop loop-holds recover-once-requires kind-requires returns add-counter loop-less loop-again
+    call-requires returns-2)

@@ -43,16 +43,5 @@ returns c = search needs
 pub scramble-spec : {M : Type 1} → statement M
 scramble-spec =
     tie.close
-    (tie.spec
-    Inv-loop
-    μ-loop
-    length-requires
-    loop-holds
-    value-requires
-    put-requires
-    draw-requires
-    put-requires-2
-    add-i
-    loop-less
-    loop-again
-    returns)
+    (tie.spec Inv-loop μ-loop length-requires loop-holds value-requires put-requires draw-requires put-requires-2 add-i
+    loop-less loop-again returns)

@@ -58,21 +58,6 @@ returns c = search needs
 pub refusals-spec : {M : Type 1} → statement M
 refusals-spec =
     tie.close
-    (tie.spec
-    Inv-loop
-    μ-loop
-    slice-aggregate-text
-    text-requires
-    loop-holds
-    slice-aggregate-counted
-    counted-requires
-    slice-aggregate-counted-2
-    plus-requires
-    get-requires
-    counted-requires-2
-    add-n
-    loop-less
-    loop-again
-    slice-aggregate-text-2
-    text-requires-2
-    returns)
+    (tie.spec Inv-loop μ-loop slice-aggregate-text text-requires loop-holds slice-aggregate-counted counted-requires
+    slice-aggregate-counted-2 plus-requires get-requires counted-requires-2 add-n loop-less loop-again
+    slice-aggregate-text-2 text-requires-2 returns)

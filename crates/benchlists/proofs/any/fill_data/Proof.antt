@@ -40,15 +40,5 @@ returns c = search needs
 pub fill-data-spec : {M : Type 1} → statement M
 fill-data-spec =
     tie.close
-    (tie.spec
-    Inv-loop
-    μ-loop
-    get-requires
-    loop-holds
-    value-requires
-    plus-requires
-    put-requires
-    add-i
-    loop-less
-    loop-again
-    returns)
+    (tie.spec Inv-loop μ-loop get-requires loop-holds value-requires plus-requires put-requires add-i loop-less
+    loop-again returns)

@@ -40,15 +40,5 @@ returns c = search needs
 pub fill-flags-spec : {M : Type 1} → statement M
 fill-flags-spec =
     tie.close
-    (tie.spec
-    Inv-loop
-    μ-loop
-    length-requires
-    loop-holds
-    draw-requires
-    draw-requires-2
-    put-requires
-    add-i
-    loop-less
-    loop-again
-    returns)
+    (tie.spec Inv-loop μ-loop length-requires loop-holds draw-requires draw-requires-2 put-requires add-i loop-less
+    loop-again returns)

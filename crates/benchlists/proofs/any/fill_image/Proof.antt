@@ -43,16 +43,5 @@ returns c = search needs
 pub fill-image-spec : {M : Type 1} → statement M
 fill-image-spec =
     tie.close
-    (tie.spec
-    Inv-loop
-    μ-loop
-    fill-data-requires
-    get-requires
-    loop-holds
-    fill-log-requires
-    add-lane
-    loop-less
-    loop-again
-    about-stamp-requires
-    put-requires
-    returns)
+    (tie.spec Inv-loop μ-loop fill-data-requires get-requires loop-holds fill-log-requires add-lane loop-less loop-again
+    about-stamp-requires put-requires returns)

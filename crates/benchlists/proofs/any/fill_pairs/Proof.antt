@@ -40,15 +40,5 @@ returns c = search needs
 pub fill-pairs-spec : {M : Type 1} → statement M
 fill-pairs-spec =
     tie.close
-    (tie.spec
-    Inv-loop
-    μ-loop
-    loop-holds
-    about-size-requires
-    value-requires
-    pair-requires
-    set-row-requires
-    add-i
-    loop-less
-    loop-again
-    returns)
+    (tie.spec Inv-loop μ-loop loop-holds about-size-requires value-requires pair-requires set-row-requires add-i
+    loop-less loop-again returns)

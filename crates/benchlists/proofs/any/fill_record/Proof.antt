@@ -43,16 +43,5 @@ returns c = search needs
 pub fill-record-spec : {M : Type 1} → statement M
 fill-record-spec =
     tie.close
-    (tie.spec
-    Inv-loop
-    μ-loop
-    clear-requires
-    clock-requires
-    about-stamp-requires
-    set-time-requires
-    loop-holds
-    fill-lane-requires
-    add-lane
-    loop-less
-    loop-again
-    returns)
+    (tie.spec Inv-loop μ-loop clear-requires clock-requires about-stamp-requires set-time-requires loop-holds
+    fill-lane-requires add-lane loop-less loop-again returns)

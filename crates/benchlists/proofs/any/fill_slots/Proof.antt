@@ -46,17 +46,5 @@ returns c = search needs
 pub fill-slots-spec : {M : Type 1} → statement M
 fill-slots-spec =
     tie.close
-    (tie.spec
-    Inv-loop
-    μ-loop
-    get-requires
-    loop-holds
-    place-requires
-    put-slot-requires
-    only-requires
-    make-slot-requires
-    tear-requires
-    add-slot
-    loop-less
-    loop-again
-    returns)
+    (tie.spec Inv-loop μ-loop get-requires loop-holds place-requires put-slot-requires only-requires make-slot-requires
+    tear-requires add-slot loop-less loop-again returns)

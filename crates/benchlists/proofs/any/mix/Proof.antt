@@ -37,14 +37,5 @@ returns c = search needs
 pub mix-spec : {M : Type 1} → statement M
 mix-spec =
     tie.close
-    (tie.spec
-    Inv-loop
-    μ-loop
-    length-requires
-    loop-holds
-    once-in-requires
-    move-word-requires
-    add-i
-    loop-less
-    loop-again
+    (tie.spec Inv-loop μ-loop length-requires loop-holds once-in-requires move-word-requires add-i loop-less loop-again
     returns)

@@ -37,14 +37,5 @@ returns c = search needs
 pub state-spec : {M : Type 1} → statement M
 state-spec =
     tie.close
-    (tie.spec
-    Inv-loop
-    μ-loop
-    fill-buffers-requires
-    fill-record-requires
-    loop-holds
-    any-call-requires
-    add-counter
-    loop-less
-    loop-again
-    returns)
+    (tie.spec Inv-loop μ-loop fill-buffers-requires fill-record-requires loop-holds any-call-requires add-counter
+    loop-less loop-again returns)

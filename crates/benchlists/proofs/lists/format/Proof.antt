@@ -40,15 +40,5 @@ returns c = search needs
 pub format-spec : {M : Type 1} → statement M
 format-spec =
     tie.close
-    (tie.spec
-    Inv-loop
-    μ-loop
-    loop-holds
-    value-requires
-    put-requires
-    add-i
-    loop-less
-    loop-again
-    get-requires
-    call-requires
-    returns)
+    (tie.spec Inv-loop μ-loop loop-holds value-requires put-requires add-i loop-less loop-again get-requires
+    call-requires returns)

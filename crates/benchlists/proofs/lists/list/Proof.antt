@@ -37,14 +37,5 @@ returns c = search needs
 pub list-spec : {M : Type 1} → statement M
 list-spec =
     tie.close
-    (tie.spec
-    Inv-loop
-    μ-loop
-    clear-requires
-    format-requires
-    loop-holds
-    event-requires
-    add-counter
-    loop-less
-    loop-again
+    (tie.spec Inv-loop μ-loop clear-requires format-requires loop-holds event-requires add-counter loop-less loop-again
     returns)

@@ -46,17 +46,5 @@ returns c = search needs
 pub make-txn-spec : {M : Type 1} → statement M
 make-txn-spec =
     tie.close
-    (tie.spec
-    Inv-loop
-    μ-loop
-    clear-requires
-    instructions-requires
-    loop-holds
-    plus-requires
-    minus-requires
-    make-instruction-requires
-    add-at
-    loop-less
-    loop-again
-    spoil-txn-requires
-    returns)
+    (tie.spec Inv-loop μ-loop clear-requires instructions-requires loop-holds plus-requires minus-requires
+    make-instruction-requires add-at loop-less loop-again spoil-txn-requires returns)

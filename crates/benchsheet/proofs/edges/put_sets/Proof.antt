@@ -30,5 +30,4 @@ returns c = search needs
 
 pub put-sets-spec : {M : Type 1} → statement M
 put-sets-spec =
-    tie.close
-    (tie.spec Inv-loop μ-loop loop-holds set-row-requires add-at loop-less loop-again returns)
+    tie.close (tie.spec Inv-loop μ-loop loop-holds set-row-requires add-at loop-less loop-again returns)

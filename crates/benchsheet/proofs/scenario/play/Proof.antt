@@ -40,15 +40,5 @@ returns c = search needs
 pub play-spec : {M : Type 1} → statement M
 play-spec =
     tie.close
-    (tie.spec
-    Inv-loop
-    μ-loop
-    start-requires
-    set-row-requires
-    call-requires
-    loop-holds
-    step-requires
-    add-i
-    loop-less
-    loop-again
-    returns)
+    (tie.spec Inv-loop μ-loop start-requires set-row-requires call-requires loop-holds step-requires add-i loop-less
+    loop-again returns)

@@ -33,14 +33,4 @@ returns c = search needs
 
 pub write-all-back-spec : {M : Type 1} → statement M
 write-all-back-spec =
-    tie.close
-    (tie.spec
-    Inv-loop
-    μ-loop
-    length-requires
-    loop-holds
-    call-requires
-    add-i
-    loop-less
-    loop-again
-    returns)
+    tie.close (tie.spec Inv-loop μ-loop length-requires loop-holds call-requires add-i loop-less loop-again returns)

@@ -38,14 +38,5 @@ returns c = search needs
 pub digest-spec : {M : Type 1} → statement M
 digest-spec =
     tie.close
-    (tie.spec
-    Inv-loop
-    μ-loop
-    loop-holds
-    mul-mixed
-    shared-slice-read-mixed
-    mixed-requires
-    add-i
-    loop-less
-    loop-again
+    (tie.spec Inv-loop μ-loop loop-holds mul-mixed shared-slice-read-mixed mixed-requires add-i loop-less loop-again
     returns)

@@ -38,14 +38,5 @@ returns c = search needs
 pub digest-bytes-spec : {M : Type 1} → statement M
 digest-bytes-spec =
     tie.close
-    (tie.spec
-    Inv-loop
-    μ-loop
-    loop-holds
-    shared-slice-read-wide
-    wide-requires
-    mixed-requires
-    add-i
-    loop-less
-    loop-again
+    (tie.spec Inv-loop μ-loop loop-holds shared-slice-read-wide wide-requires mixed-requires add-i loop-less loop-again
     returns)

@@ -57,20 +57,5 @@ returns-2 c = search needs
 pub store-bytes-spec : {M : Type 1} → statement M
 store-bytes-spec =
     tie.close
-    (tie.spec
-    Inv-loop
-    μ-loop
-    loop-holds
-    sub-if1
-    same-length
-    returns
-    sub-buffer
-    mul-buffer
-    shared-slice-read-buffer
-    cast-buffer
-    slice-write-buffer
-    add-at
-    loop-less
-    loop-again
-    same-length-2
-    returns-2)
+    (tie.spec Inv-loop μ-loop loop-holds sub-if1 same-length returns sub-buffer mul-buffer shared-slice-read-buffer
+    cast-buffer slice-write-buffer add-at loop-less loop-again same-length-2 returns-2)

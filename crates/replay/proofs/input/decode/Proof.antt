@@ -45,16 +45,5 @@ returns c = search needs
 pub decode-spec : {M : Type 1} → statement M
 decode-spec =
     tie.close
-    (tie.spec
-    Inv-loop
-    μ-loop
-    loop-holds
-    mul-word-from
-    word-from-requires
-    mul-words
-    slice-write-words
-    add-k
-    loop-less
-    loop-again
-    same-length
-    returns)
+    (tie.spec Inv-loop μ-loop loop-holds mul-word-from word-from-requires mul-words slice-write-words add-k loop-less
+    loop-again same-length returns)

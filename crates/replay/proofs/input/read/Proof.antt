@@ -63,22 +63,6 @@ returns-2 c = search needs
 pub read-spec : {M : Type 1} → statement M
 read-spec =
     tie.close
-    (tie.spec
-    Inv-loop
-    μ-loop
-    loop-holds
-    mul-start
-    mul-read-chunk
-    sub-read-chunk
-    part-read-chunk-start
-    part-read-chunk-end
-    read-chunk-requires
-    add-t12
-    same-length
-    returns
-    add-k
-    loop-less
-    loop-again
-    is-at-end-requires
-    same-length-2
-    returns-2)
+    (tie.spec Inv-loop μ-loop loop-holds mul-start mul-read-chunk sub-read-chunk part-read-chunk-start
+    part-read-chunk-end read-chunk-requires add-t12 same-length returns add-k loop-less loop-again is-at-end-requires
+    same-length-2 returns-2)

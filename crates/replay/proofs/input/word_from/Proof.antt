@@ -40,15 +40,5 @@ returns c = search needs
 pub word-from-spec : {M : Type 1} → statement M
 word-from-spec =
     tie.close
-    (tie.spec
-    Inv-loop
-    μ-loop
-    loop-holds
-    sub-wide
-    add-wide
-    shared-slice-read-wide
-    wide-requires
-    add-i
-    loop-less
-    loop-again
-    returns)
+    (tie.spec Inv-loop μ-loop loop-holds sub-wide add-wide shared-slice-read-wide wide-requires add-i loop-less
+    loop-again returns)

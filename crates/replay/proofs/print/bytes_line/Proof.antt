@@ -48,17 +48,5 @@ returns c = search needs
 pub bytes-line-spec : {M : Type 1} → statement M
 bytes-line-spec =
     tie.close
-    (tie.spec
-    Inv-loop
-    μ-loop
-    buffer-requires
-    put-requires
-    loop-holds
-    shared-slice-read-wide
-    wide-requires
-    put-number-requires
-    add-i
-    loop-less
-    loop-again
-    end-line-requires
-    returns)
+    (tie.spec Inv-loop μ-loop buffer-requires put-requires loop-holds shared-slice-read-wide wide-requires
+    put-number-requires add-i loop-less loop-again end-line-requires returns)

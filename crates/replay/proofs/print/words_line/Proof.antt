@@ -48,17 +48,5 @@ returns c = search needs
 pub words-line-spec : {M : Type 1} → statement M
 words-line-spec =
     tie.close
-    (tie.spec
-    Inv-loop
-    μ-loop
-    buffer-requires
-    put-requires
-    loop-holds
-    mul-put-number
-    shared-slice-read-put-number
-    put-number-requires
-    add-i
-    loop-less
-    loop-again
-    end-line-requires
-    returns)
+    (tie.spec Inv-loop μ-loop buffer-requires put-requires loop-holds mul-put-number shared-slice-read-put-number
+    put-number-requires add-i loop-less loop-again end-line-requires returns)

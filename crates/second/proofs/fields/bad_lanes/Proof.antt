@@ -37,14 +37,5 @@ returns c = search needs
 pub bad-lanes-spec : {M : Type 1} → statement M
 bad-lanes-spec =
     tie.close
-    (tie.spec
-    Inv-loop
-    μ-loop
-    get-requires
-    loop-holds
-    lane-ok-requires
-    plus-requires
-    add-lane
-    loop-less
-    loop-again
+    (tie.spec Inv-loop μ-loop get-requires loop-holds lane-ok-requires plus-requires add-lane loop-less loop-again
     returns)

@@ -37,14 +37,5 @@ returns c = search needs
 pub least-floor-spec : {M : Type 1} → statement M
 least-floor-spec =
     tie.close
-    (tie.spec
-    Inv-loop
-    μ-loop
-    get-requires
-    loop-holds
-    field-requires
-    least-requires
-    add-other
-    loop-less
-    loop-again
+    (tie.spec Inv-loop μ-loop get-requires loop-holds field-requires least-requires add-other loop-less loop-again
     returns)

@@ -43,16 +43,5 @@ returns-2 c = search needs
 pub pairs-ok-spec : {M : Type 1} → statement M
 pairs-ok-spec =
     tie.close
-    (tie.spec
-    Inv-loop
-    μ-loop
-    field-requires
-    loop-holds
-    get-requires
-    pair-requires
-    cell-requires
-    returns
-    add-i
-    loop-less
-    loop-again
-    returns-2)
+    (tie.spec Inv-loop μ-loop field-requires loop-holds get-requires pair-requires cell-requires returns add-i loop-less
+    loop-again returns-2)

@@ -30,5 +30,4 @@ returns c = search needs
 
 pub start-lanes-spec : {M : Type 1} → statement M
 start-lanes-spec =
-    tie.close
-    (tie.spec Inv-loop μ-loop loop-holds set-log-requires add-lane loop-less loop-again returns)
+    tie.close (tie.spec Inv-loop μ-loop loop-holds set-log-requires add-lane loop-less loop-again returns)

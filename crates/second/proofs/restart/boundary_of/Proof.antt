@@ -43,16 +43,5 @@ returns c = search needs
 pub boundary-of-spec : {M : Type 1} → statement M
 boundary-of-spec =
     tie.close
-    (tie.spec
-    Inv-loop
-    μ-loop
-    clear-requires
-    loop-holds
-    cell-requires
-    get-requires
-    cell-requires-2
-    put-requires
-    add-row
-    loop-less
-    loop-again
-    returns)
+    (tie.spec Inv-loop μ-loop clear-requires loop-holds cell-requires get-requires cell-requires-2 put-requires add-row
+    loop-less loop-again returns)

@@ -40,15 +40,5 @@ returns c = search needs
 pub clear-logs-spec : {M : Type 1} → statement M
 clear-logs-spec =
     tie.close
-    (tie.spec
-    Inv-loop
-    μ-loop
-    get-requires
-    plus-requires
-    length-requires
-    loop-holds
-    list-requires
-    add-i
-    loop-less
-    loop-again
-    returns)
+    (tie.spec Inv-loop μ-loop get-requires plus-requires length-requires loop-holds list-requires add-i loop-less
+    loop-again returns)

@@ -33,12 +33,4 @@ returns c =
 
 pub length-spec : {M : Type 1} → statement M
 length-spec =
-    tie.close
-    (tie.spec
-    get-requires
-    get-requires-2
-    times-requires
-    get-requires-3
-    plus-requires
-    plus-requires-2
-    returns)
+    tie.close (tie.spec get-requires get-requires-2 times-requires get-requires-3 plus-requires plus-requires-2 returns)

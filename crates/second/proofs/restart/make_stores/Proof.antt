@@ -37,14 +37,4 @@ returns c = search needs
 pub make-stores-spec : {M : Type 1} → statement M
 make-stores-spec =
     tie.close
-    (tie.spec
-    Inv-loop
-    μ-loop
-    loop-holds
-    get-requires
-    get-requires-2
-    put-requires
-    add-i
-    loop-less
-    loop-again
-    returns)
+    (tie.spec Inv-loop μ-loop loop-holds get-requires get-requires-2 put-requires add-i loop-less loop-again returns)

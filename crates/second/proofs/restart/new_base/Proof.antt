@@ -37,14 +37,5 @@ returns c = search needs
 pub new-base-spec : {M : Type 1} → statement M
 new-base-spec =
     tie.close
-    (tie.spec
-    Inv-loop
-    μ-loop
-    get-requires
-    loop-holds
-    whole-stamp-requires
-    whole-stamp-requires-2
-    add-row
-    loop-less
-    loop-again
-    returns)
+    (tie.spec Inv-loop μ-loop get-requires loop-holds whole-stamp-requires whole-stamp-requires-2 add-row loop-less
+    loop-again returns)

@@ -34,13 +34,4 @@ returns c = search needs
 pub undo-all-spec : {M : Type 1} → statement M
 undo-all-spec =
     tie.close
-    (tie.spec
-    Inv-loop
-    μ-loop
-    loop-holds
-    cell-requires
-    undo-sequence-requires
-    add-row
-    loop-less
-    loop-again
-    returns)
+    (tie.spec Inv-loop μ-loop loop-holds cell-requires undo-sequence-requires add-row loop-less loop-again returns)

@@ -55,20 +55,5 @@ returns c = search needs
 pub undo-sequence-spec : {M : Type 1} → statement M
 undo-sequence-spec =
     tie.close
-    (tie.spec
-    Inv-loop
-    μ-loop
-    cell-requires
-    cell-requires-2
-    loop-holds
-    plus-requires
-    behind-requires
-    row-of-requires
-    cell-requires-3
-    cell-requires-4
-    plus-requires-2
-    list-requires
-    add-k
-    loop-less
-    loop-again
-    returns)
+    (tie.spec Inv-loop μ-loop cell-requires cell-requires-2 loop-holds plus-requires behind-requires row-of-requires
+    cell-requires-3 cell-requires-4 plus-requires-2 list-requires add-k loop-less loop-again returns)

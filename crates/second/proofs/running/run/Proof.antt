@@ -58,21 +58,5 @@ returns-2 c = search needs
 pub run-spec : {M : Type 1} → statement M
 run-spec =
     tie.close
-    (tie.spec
-    Inv-loop
-    μ-loop
-    get-requires
-    plus-requires
-    copy-requires
-    get-requires-2
-    loop-holds
-    returns
-    cell-requires
-    after-skip-requires
-    write-requires
-    plus-requires-2
-    plus-requires-3
-    add-counter
-    loop-less
-    loop-again
-    returns-2)
+    (tie.spec Inv-loop μ-loop get-requires plus-requires copy-requires get-requires-2 loop-holds returns cell-requires
+    after-skip-requires write-requires plus-requires-2 plus-requires-3 add-counter loop-less loop-again returns-2)

@@ -46,17 +46,5 @@ returns-3 c = search needs
 pub txn-ok-spec : {M : Type 1} → statement M
 txn-ok-spec =
     tie.close
-    (tie.spec
-    Inv-loop
-    μ-loop
-    get-requires
-    returns
-    loop-holds
-    plus-requires
-    minus-requires
-    instruction-ok-requires
-    returns-2
-    add-at
-    loop-less
-    loop-again
-    returns-3)
+    (tie.spec Inv-loop μ-loop get-requires returns loop-holds plus-requires minus-requires instruction-ok-requires
+    returns-2 add-at loop-less loop-again returns-3)

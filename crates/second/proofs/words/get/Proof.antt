@@ -31,5 +31,4 @@ returns-3 c = let b = c .before in rw (lt-leb _ _ (b .before .if1 .left), lt-leb
 
 pub get-spec : {M : Type 1} → statement M
 get-spec =
-    tie.close
-    (tie.spec returns returns-2 mul-result add-result mul-result-2 element-copy-out-result returns-3)
+    tie.close (tie.spec returns returns-2 mul-result add-result mul-result-2 element-copy-out-result returns-3)

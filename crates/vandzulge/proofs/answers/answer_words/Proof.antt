@@ -68,21 +68,5 @@ returns-8 c = rw (c .before .before .answer3 .given .1, c .bit-for .ensures)
 pub answer-words-spec : {M : Type 1} → statement M
 answer-words-spec =
     tie.close
-    (tie.spec
-    enum-told
-    enum-told-2
-    enum-told-3
-    enum-known-answer
-    enum-known-answer-2
-    enum-told-4
-    enum-told-5
-    enum-known-answer-3
-    bit-for-requires
-    returns
-    returns-2
-    returns-3
-    returns-4
-    returns-5
-    returns-6
-    returns-7
-    returns-8)
+    (tie.spec enum-told enum-told-2 enum-told-3 enum-known-answer enum-known-answer-2 enum-told-4 enum-told-5
+    enum-known-answer-3 bit-for-requires returns returns-2 returns-3 returns-4 returns-5 returns-6 returns-7 returns-8)

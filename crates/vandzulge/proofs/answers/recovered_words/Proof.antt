@@ -32,12 +32,4 @@ returns-3 c = rw (c .before .before .answer .given .1, c .finished-words .ensure
 
 pub recovered-words-spec : {M : Type 1} → statement M
 recovered-words-spec =
-    tie.close
-    (tie.spec
-    enum-told
-    enum-told-2
-    enum-known-answer
-    finished-words-requires
-    returns
-    returns-2
-    returns-3)
+    tie.close (tie.spec enum-told enum-told-2 enum-known-answer finished-words-requires returns returns-2 returns-3)

@@ -31,11 +31,5 @@ returns-2 c = not-taken _ _ _ _ (c .before .number-in .ensures) (c .if1 .left)
 pub reply-spec : {M : Type 1} → statement M
 reply-spec =
     tie.close
-    (tie.spec
-    number-in-requires
-    answer-words-requires
-    slice-aggregate-copy-words
-    copy-words-requires
-    same-length
-    returns
-    returns-2)
+    (tie.spec number-in-requires answer-words-requires slice-aggregate-copy-words copy-words-requires same-length
+    returns returns-2)

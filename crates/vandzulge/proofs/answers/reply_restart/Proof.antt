@@ -31,11 +31,5 @@ returns-2 c = not-taken _ _ _ _ (c .before .recovered-number .ensures) (c .if1 .
 pub reply-restart-spec : {M : Type 1} → statement M
 reply-restart-spec =
     tie.close
-    (tie.spec
-    recovered-number-requires
-    recovered-words-requires
-    slice-aggregate-copy-words
-    copy-words-requires
-    same-length
-    returns
-    returns-2)
+    (tie.spec recovered-number-requires recovered-words-requires slice-aggregate-copy-words copy-words-requires
+    same-length returns returns-2)

@@ -37,12 +37,4 @@ returns-3 c = let r = c .before .before in rw (r .before .before .before .enum-t
 pub restart-spec : {M : Type 1} → statement M
 restart-spec =
     tie.close
-    (tie.spec
-    enum-known-answer
-    enum-told
-    enum-told-2
-    record-to-requires
-    returns
-    returns-2
-    same-length
-    returns-3)
+    (tie.spec enum-known-answer enum-told enum-told-2 record-to-requires returns returns-2 same-length returns-3)
