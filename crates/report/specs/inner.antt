@@ -1,5 +1,5 @@
 -- How the code goes and why it is right: need not be believed.
-pub mod Facts
+pub mod ReportFacts
 pub mod ReadingLaws
 pub mod PrintingLaws
 pub mod ReportLaws

@@ -4,7 +4,7 @@ ghost use Prim.Native.Nat.{_+_, _*_, _≤_};
 ghost use lib.ListN.{length};
 ghost use Rattle.report.specs.Report.{maxDigits, boundaryRoom, refusedRoom, wordRoom};
 ghost use Rattle.report.specs.Report.{decimal, stampText, boundaryLine, refusedLine, wordLine, wordLines};
-ghost use Rattle.report.specs.inner.Facts.{Put};
+ghost use Rattle.report.specs.inner.ReportFacts.{Put};
 use log::Timestamp;
 
 // The most digits of a word.

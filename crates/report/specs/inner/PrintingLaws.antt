@@ -15,7 +15,7 @@ use Rattle.log.specs.declared.Timestamp.{Timestamp}
 use Rattle.log.specs.declared.Timestamp.the-variants.{None, At}
 use Rattle.io.specs.Digits.{digits, glyph, Fewest}
 use Rattle.report.specs.Report.{maxDigits, boundaryRoom, wordRoom, digitsOf, decimal, stampText, boundaryLine, wordLine, wordLines}
-use Rattle.report.specs.inner.Facts.{putAt, Put}
+use Rattle.report.specs.inner.ReportFacts.{putAt, Put}
 
 -- ---- a text in a buffer
 module _ (at : ℕ) (text buffer : List ℕ) (h : at + length text ≤ length buffer) where

@@ -21,7 +21,7 @@ use Rattle.recovery.specs.Interface.{restartedOf}
 use Rattle.recovery.specs.declared.Restart.{Restart}
 use Rattle.report.specs.Report.{sizesIn, wordsIn, imageIn, wellFormed, boundaryLine, refusedLine, wordLines, finishedText, noLimit, blank, recoveredFrom}
 use Rattle.report.specs.Report.{answerText, restartText, reportOf, longest, room, printedOf, Reported}
-use Rattle.report.specs.inner.Facts.{Put}
+use Rattle.report.specs.inner.ReportFacts.{Put}
 use Rattle.report.specs.inner.ReadingLaws.{well-short}
 use Rattle.report.specs.inner.PrintingLaws.{put-long, take-put, drop-put}
 

@@ -6,7 +6,7 @@ use native.Mathlib.Omega.{arith}
 use lib.ListN.{length}
 use borrow.Author.Needs.{needs}
 use Rattle.report.specs.Report.{wordLines}
-use Rattle.report.specs.inner.Facts.{Put}
+use Rattle.report.specs.inner.ReportFacts.{Put}
 use Rattle.report.specs.inner.PrintingLaws.{put-then, put-long, put-none, put-same, lines-none, lines-more, lines-short}
 use Rattle.report.proofs.printing.put_words.Statement.{statement}
 use Rattle.report.proofs.printing.put_words.Tie as tie
