@@ -77,11 +77,12 @@ fn write_pairs(
     ensures flushed { λ r. ⌜ now (flags .exit)
         ≡ flushAll lane (places (pairStores (take count pairs))) (now (flags .entry)) ⌝ }
 {
+    let mask = image::flush::lane_mask(lane);
     for i in 0..count {
         let pair = pairs[i];
         let at = 1 + pair.word;
         cache[at] = pair.value;
-        image::flush::set_flush(flags, at, lane);
+        image::flush::set_flush(flags, at, mask);
     }
 }
 

@@ -1,51 +1,52 @@
 // Flush masks, a bit a lane in the flag byte of each word, and the copying of words from cache to non-volatile memory:
 // write-back and drain.
 ghost use mathlib.Core.Path.{_≡_};
-ghost use Prim.Native.Nat.{_^_, _<_};
+ghost use Prim.Native.Nat.{ℕ, _^_, _<_};
 ghost use lib.ListN.{length, getD, set};
 ghost use Rattle.image.specs.Image.{maxLanes};
 ghost use Rattle.image.specs.Flush.{flushed, flush, unflush, writtenBack, drainedNvm, drainedFlags};
+use crate::MAX_LANES;
 
-// The bit of a lane.
+// The flag values of lanes 0 to 7: entry L is 2 to the power L.
+const MASKS: [u8; MAX_LANES] = [1, 2, 4, 8, 16, 32, 64, 128];
+
+// The flag value of a lane: its bit alone. The table's only reader: a lookup copies the table to the stack, so a loop over
+// flag bytes has it made once, before. What is promised of a mask below holds for the lane that it is the value of.
 pub fn lane_mask(lane: usize) -> u8
     requires { ⌜ lane < maxLanes ⌝ }
     ensures { λ r. ⌜ r ≡ 2 ^ lane ⌝ }
 {
-    1u8 << lane
+    MASKS[lane]
 }
 
-// Has the lane flushed the word with this flag byte?
-pub fn is_flushed(flag: u8, lane: usize) -> bool
-    requires { ⌜ lane < maxLanes ⌝ }
-    ensures { λ r. ⌜ r ≡ flushed lane flag ⌝ }
+// Has the lane of this mask flushed the word with this flag byte?
+pub fn is_flushed(flag: u8, mask: u8) -> bool
+    ensures { λ r. ⌜ ((L : ℕ) → mask ≡ 2 ^ L → r ≡ flushed L flag) ⌝ }
 {
-    flag & lane_mask(lane) != 0
+    flag & mask != 0
 }
 
-// The flag byte with the lane's bit set.
-pub fn with_flush(flag: u8, lane: usize) -> u8
-    requires { ⌜ lane < maxLanes ⌝ }
-    ensures { λ r. ⌜ r ≡ flush lane flag ⌝ }
+// The flag byte with the bit of the mask's lane set.
+pub fn with_flush(flag: u8, mask: u8) -> u8
+    ensures { λ r. ⌜ ((L : ℕ) → mask ≡ 2 ^ L → r ≡ flush L flag) ⌝ }
 {
-    flag | lane_mask(lane)
+    flag | mask
 }
 
-// The flag byte with the lane's bit cleared.
-pub fn without_flush(flag: u8, lane: usize) -> u8
-    requires { ⌜ lane < maxLanes ⌝ }
-    ensures { λ r. ⌜ r ≡ unflush lane flag ⌝ }
+// The flag byte with the bit of the mask's lane cleared.
+pub fn without_flush(flag: u8, mask: u8) -> u8
+    ensures { λ r. ⌜ ((L : ℕ) → mask ≡ 2 ^ L → r ≡ unflush L flag) ⌝ }
 {
-    flag & !lane_mask(lane)
+    flag & !mask
 }
 
-// A flush of one word by the lane.
-pub fn set_flush(flags: &mut [u8], at: usize, lane: usize)
-    requires { ⌜ lane < maxLanes ⌝ }
+// A flush of one word by the mask's lane.
+pub fn set_flush(flags: &mut [u8], at: usize, mask: u8)
     requires { ⌜ at < length (now flags) ⌝ }
-    ensures { λ r. ⌜ now (flags .exit)
-        ≡ set (now (flags .entry)) at (flush lane (getD (now (flags .entry)) at 0)) ⌝ }
+    ensures { λ r. ⌜ ((L : ℕ) → mask ≡ 2 ^ L → now (flags .exit)
+        ≡ set (now (flags .entry)) at (flush L (getD (now (flags .entry)) at 0))) ⌝ }
 {
-    flags[at] = with_flush(flags[at], lane);
+    flags[at] = with_flush(flags[at], mask);
 }
 
 // The copy of one word to non-volatile memory.
@@ -68,12 +69,13 @@ pub fn drain(lane: usize, cache: &[u64], nvm: &mut [u64], flags: &mut [u8])
         ≡ drainedNvm lane (now (flags .entry)) (now (cache .entry)) (now (nvm .entry)) ⌝ }
     ensures cleared { λ r. ⌜ now (flags .exit) ≡ drainedFlags lane (now (flags .entry)) ⌝ }
 {
+    let mask = lane_mask(lane);
     let words = cache.len();
     for i in 0..words {
         let flag = flags[i];
-        if is_flushed(flag, lane) {
+        if is_flushed(flag, mask) {
             write_back(cache, nvm, i);
-            flags[i] = without_flush(flag, lane);
+            flags[i] = without_flush(flag, mask);
         }
     }
 }

@@ -1,7 +1,7 @@
 // Appending a sequence to a log, and replacing a timestamp: stores to the cached image, each word flushed.
 ghost use mathlib.Core.Path.{_≡_};
 ghost use mathlib.Core.List.{[], _∷_};
-ghost use Prim.Native.Nat.{_+_, _*_, _^_, _≤_, _<_};
+ghost use Prim.Native.Nat.{ℕ, _+_, _*_, _^_, _≤_, _<_};
 ghost use lib.ListN.{length, take};
 ghost use Rattle.image.specs.Image.{maxLanes};
 ghost use Rattle.image.specs.Stores.{stored, places};
@@ -41,20 +41,19 @@ pub fn circular(slots: usize, k: usize) -> usize
     k - slots
 }
 
-// Stores the two words of slot j of the log that starts at image word `start`, and flushes them.
-fn store_slot(cache: &mut [u64], flags: &mut [u8], start: usize, j: usize, lane: usize, slot: Slot)
+// Stores the two words of slot j of the log that starts at image word `start`, and flushes them for the mask's lane.
+fn store_slot(cache: &mut [u64], flags: &mut [u8], start: usize, j: usize, mask: u8, slot: Slot)
     requires { ⌜ start + 2 * j + 1 < length (now cache) ⌝ }
     requires { ⌜ start + 2 * j + 1 < length (now flags) ⌝ }
-    requires { ⌜ lane < maxLanes ⌝ }
     ensures written { λ r. ⌜ now (cache .exit) ≡ stored (slotStores start j slot []) (now (cache .entry)) ⌝ }
-    ensures flushed { λ r. ⌜ now (flags .exit)
-        ≡ flushAll lane (places (slotStores start j slot [])) (now (flags .entry)) ⌝ }
+    ensures flushed { λ r. ⌜ ((L : ℕ) → mask ≡ 2 ^ L → now (flags .exit)
+        ≡ flushAll L (places (slotStores start j slot [])) (now (flags .entry))) ⌝ }
 {
     let at = start + 2 * j;
     cache[at] = slot.address;
-    flush::set_flush(flags, at, lane);
+    flush::set_flush(flags, at, mask);
     cache[at + 1] = slot.value;
-    flush::set_flush(flags, at + 1, lane);
+    flush::set_flush(flags, at + 1, mask);
 }
 
 // Appends an entry for each write, with the value before it, and flushes them; the place after them.
@@ -77,11 +76,12 @@ fn append_entries(
         ≡ flushAll lane (places (entryStores start slots cursor (take (writes .count) (writes .list))))
         (now (flags .entry)) ⌝ }
 {
+    let mask = flush::lane_mask(lane);
     let mut end = cursor;
     for i in 0..writes.count {
         let write = writes.list[i];
         let slot = Slot::entry(write.word, write.old, end.wrap);
-        store_slot(cache, flags, start, end.slot, lane, slot);
+        store_slot(cache, flags, start, end.slot, mask, slot);
         end = onward(slots, end);
     }
     end
@@ -111,7 +111,7 @@ pub fn append(
 {
     let end = append_entries(cache, flags, start, slots, lane, writes, cursor);
     let slot = Slot::stamp(writes.count, stamp, end.wrap);
-    store_slot(cache, flags, start, end.slot, lane, slot);
+    store_slot(cache, flags, start, end.slot, flush::lane_mask(lane), slot);
     onward(slots, end)
 }
 
@@ -130,5 +130,5 @@ pub fn restamp(cache: &mut [u64], flags: &mut [u8], start: usize, j: usize, lane
     let wrap = cache[at] & Slot::WRAP;
     let value = at + 1;
     cache[value] = stamp + wrap;
-    flush::set_flush(flags, value, lane);
+    flush::set_flush(flags, value, flush::lane_mask(lane));
 }

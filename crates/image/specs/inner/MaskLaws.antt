@@ -1,27 +1,47 @@
--- Inner: how the code goes, need not be believed. The code's bit operators on flag bytes are test, set and clear of a lane's bit; by recursion on the
--- lane. Assumes nothing.
-use mathlib.Core.Path.{_≡_, refl, _∙_}
-use mathlib.Core.Bool.{Bool, true, false, cond, not}
+-- Inner: how the code goes, need not be believed. Lane masks: the law of a table of them, and the code's bit operators with a mask, which are test, set and
+-- clear of a lane's bit; by recursion on the lane. Assumes nothing.
+use mathlib.Core.Path.{_≡_, refl}
+use mathlib.Core.Logic.{⊎-elim}
+use mathlib.Core.Bool.{Bool, true, false, cond, not, _&&_}
+use mathlib.Core.List.{List}
 use Prim.Native.Nat.{ℕ, zero, suc, _+_, _-_, _*_, _/_, _%_, _^_, _≤_, _<_, min}
 use native.Mathlib.Omega.{arith}
-use native.Mathlib.Nat.{le-of-suc-le-suc, not-suc-le-zero, mod-eq-of-lt}
+use native.Mathlib.Nat.{le-of-suc-le-suc, not-suc-le-zero, eq-or-lt-of-le, mod-eq-of-lt}
 use lib.Bits.{bitAnd, bitOr, and-step, or-step, and-zero-r, or-zero-r, and-mask}
-use lib.Pow.{pow-pos, pow-mono, shl-exact}
-use lib.Dec.{eqb}
-use borrow.Author.Tests.{ne-eqb, eqb-true, eqb-false}
-use Rattle.laws.specs.inner.Tests.{split}
-use Rattle.image.specs.Image.{maxLanes}
+use lib.Pow.{pow-pos, pow-mono}
+use lib.Dec.{eqb, ltb}
+use lib.ListN.{getD}
+use borrow.Author.Tests.{ne-eqb, eqb-true, eqb-false, ltb-true, ltb-false}
+use Rattle.laws.specs.inner.Tests.{split, and-left, and-right}
 use Rattle.image.specs.Flush.{flushed, flush, unflush}
 
--- the mask of a lane, as the machine shifts it
-pub shifted-mask : (L : ℕ) → L < maxLanes → (1 * 2 ^ L) % 256 ≡ 2 ^ L
-shifted-mask L h = shl-exact {a = 1} 1 L 8 (omega arith) (omega arith) ∙ omega arith
+-- ---- the table
+-- is each of the first n entries 2 to the power of its number
+unfoldable pub arePowers : ℕ → List ℕ → Bool
+arePowers zero masks = true
+arePowers (suc n) masks = eqb (getD masks n 0) (2 ^ n) && arePowers n masks
 
+-- entry L is 2 to the power L, in a table of which the test computes to true
+pub power-at : (n : ℕ) (masks : List ℕ) → arePowers n masks ≡ true → (L : ℕ) → L < n → getD masks L 0 ≡ 2 ^ L
+unfolding arePowers
+power-at zero masks e L h = absurd (not-suc-le-zero h)
+power-at (suc n) masks e L h =
+    let last = eqb (getD masks n 0) (2 ^ n) in
+    ⊎-elim
+    (λ q. rw q (eqb-true (getD masks n 0) (2 ^ n) (and-left last (arePowers n masks) e)))
+    (λ l. power-at n masks (and-right last (arePowers n masks) e) L l)
+    (eq-or-lt-of-le (le-of-suc-le-suc h))
+
+-- ---- the bit operators
 double : (L : ℕ) → 2 ^ suc L / 2 ≡ 2 ^ L
 double L = omega arith
 
 even : (L : ℕ) → 2 ^ suc L % 2 ≡ 0
 even L = omega arith
+
+-- a mask of k bits is that of one of the first k lanes
+pub lane-below : (k L : ℕ) → 2 ^ L < 2 ^ k → L < k
+lane-below k L h = split (ltb L k) (ltb-true L k) (λ e. absurd (omega (arith, pow-mono (ltb-false L k e))))
 
 -- setting: flag | mask
 pub or-mask : (L f : ℕ) → bitOr f (2 ^ L) ≡ flush L f

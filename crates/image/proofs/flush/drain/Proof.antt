@@ -9,13 +9,16 @@ use Rattle.image.proofs.flush.drain.Statement.{statement}
 use Rattle.image.proofs.flush.drain.Tie as tie
 
 abbrev Inv-loop : tie.InvT-loop
-Inv-loop lane cache nvm₀ flags₀ words i₀ nvm flags i = (i ≤ words) × Drained lane cache nvm₀ flags₀ i nvm flags
+Inv-loop lane cache nvm₀ flags₀ mask words i₀ nvm flags i = (i ≤ words) × Drained lane cache nvm₀ flags₀ i nvm flags
 
 abbrev μ-loop : tie.MeasureT-loop
-μ-loop lane cache nvm₀ flags₀ words i₀ nvm flags i = words - i
+μ-loop lane cache nvm₀ flags₀ mask words i₀ nvm flags i = words - i
 
 loop-holds : tie.Need-loop-holds Inv-loop μ-loop
 loop-holds c = (search needs, drained-none _ _ _ _)
+
+lane-mask-requires : tie.Need-lane-mask-requires Inv-loop μ-loop
+lane-mask-requires c κs = search needs
 
 slice-read-flag : tie.Need-slice-read-flag Inv-loop μ-loop
 slice-read-flag c = search needs
@@ -40,12 +43,15 @@ loop-less c = search needs
 
 loop-again : tie.Need-loop-again Inv-loop μ-loop
 loop-again c =
-    let l = c .before .before .before .before .loop in
-    let is = c .before .is-flushed .ensures in (
+    let at = c .before .before .before .before in
+    let l = at .loop in
+    let lane = at .before .before .before .before .before .args .lane in
+    let mask = at .before .lane-mask .ensures in
+    let is = c .before .is-flushed .ensures lane mask in (
       search needs,
       ⊎-elim
           (λ w.
-          rw (w .6, w .7, w .5 .ensures, w .2 .ensures)
+          rw (w .6, w .7, w .5 .ensures lane mask, w .2 .ensures)
           (drained-copy _ _ _ _ (l .i) (l .nvm) (l .flags) (l .inv .1) (search needs) (search needs) (sym is ∙ w .0 .taken)))
           (λ w. rw (w .1, w .2) (drained-skip _ _ _ _ (l .i) (l .nvm) (l .flags) (l .inv .1) (search needs) (search needs) (sym is ∙ w .0 .left)))
           (c .if1 .came),
@@ -63,5 +69,5 @@ returns c = let l = c .before .loop in drained-all _ _ _ _ (l .i) (l .nvm) (l .f
 pub drain-spec : {M : Type 1} → statement M
 drain-spec =
     tie.close
-    (tie.spec Inv-loop μ-loop loop-holds slice-read-flag is-flushed-requires write-back-requires without-flush-requires
+    (tie.spec Inv-loop μ-loop lane-mask-requires loop-holds slice-read-flag is-flushed-requires write-back-requires without-flush-requires
     slice-write-flags add-i loop-less loop-again same-length same-length-2 returns)

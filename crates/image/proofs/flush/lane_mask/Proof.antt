@@ -1,17 +1,17 @@
--- `image::flush::lane_mask` meets its contract: a shift of 1 below the width loses no bit. Assumes nothing.
+-- `image::flush::lane_mask` meets its contract: by the law of a table of masks, whose test is computed of the code's own table. Assumes nothing.
 use borrow.Author.Needs.{needs}
-use Rattle.image.specs.inner.MaskLaws.{shifted-mask}
+use Rattle.image.specs.Image.{maxLanes}
+use Rattle.image.specs.inner.MaskLaws.{arePowers, power-at}
 use Rattle.image.proofs.flush.lane_mask.Statement.{statement}
 use Rattle.image.proofs.flush.lane_mask.Tie as tie
 
-cast-result : tie.Need-cast-result
-cast-result c = search needs
+array-read-result : tie.Need-array-read-result
+array-read-result c = search needs
 
-shl-result : tie.Need-shl-result
-shl-result c = search needs
-
+-- the goal has the code's table in it: `search` takes it from there, and computes the test, once for all eight entries
 returns : tie.Need-returns
-returns c = shifted-mask (c .args .lane) (c .pre)
+unfolding arePowers
+returns c = search (power-at maxLanes)
 
 pub lane-mask-spec : {M : Type 1} → statement M
-lane-mask-spec = tie.close (tie.spec cast-result shl-result returns)
+lane-mask-spec = tie.close (tie.spec array-read-result returns)

@@ -16,7 +16,7 @@ same-length : tie.Need-same-length
 same-length c = search needs
 
 returns : tie.Need-returns
-returns c = rw (c .with-flush .ensures)
+returns c L e = rw (c .with-flush .ensures L e)
 
 pub set-flush-spec : {M : Type 1} → statement M
 set-flush-spec =

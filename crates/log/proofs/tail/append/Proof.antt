@@ -18,11 +18,14 @@ append-entries-requires c κs = search needs
 stamp-requires : tie.Need-stamp-requires
 stamp-requires c κs = let w = there (c .before .before .before .before) in omega arith
 
+lane-mask-requires : tie.Need-lane-mask-requires
+lane-mask-requires c κs = search needs
+
 store-slot-requires : tie.Need-store-slot-requires
-store-slot-requires c κs = let w = there (c .before .before .before .before .before .before .before) in search needs
+store-slot-requires c κs = let w = there (c .before .before .before .before .before .before .before .before) in search needs
 
 onward-requires : tie.Need-onward-requires
-onward-requires c κs = let w = there (c .before .before .before .before .before .before .before .before .before .before .before .before) in omega arith
+onward-requires c κs = let w = there (c .before .before .before .before .before .before .before .before .before .before .before .before .before) in omega arith
 
 same-length : tie.Need-same-length
 same-length c = search needs
@@ -33,7 +36,7 @@ same-length-2 c = search needs
 returns : tie.Need-returns
 returns c =
     let o = c .before .before .before .before .before in
-    let p = o .before .before .before in
+    let p = o .before .before .before .before in
     let m = p .before .before .before .before .before in
     let s = m .before .before .before .before .before in
     let h : s .args .writes .count ≤ length (s .args .writes .list) = omega (arith, s .pre .0 .few, s .pre .0 .full) in
@@ -41,12 +44,12 @@ returns c =
       append-ends _ _ _ _ _ (e .0) (c .onward .ensures),
       (
         append-stored _ _ _ _ _ h _ _ _ (e .0) (p .stamp .ensures) _ _ _ (e .1 .0) (o .store-slot .ensures .0),
-        append-flushed _ _ _ _ _ h _ _ _ (e .0) (p .stamp .ensures) _ _ _ _ (e .1 .1) (o .store-slot .ensures .1),
+        append-flushed _ _ _ _ _ h _ _ _ (e .0) (p .stamp .ensures) _ _ _ _ (e .1 .1) (o .store-slot .ensures .1 (s .args .lane) (o .before .lane-mask .ensures)),
       ),
     )
 
 pub append-spec : {M : Type 1} → statement M
 append-spec =
     tie.close
-    (tie.spec append-entries-requires stamp-requires store-slot-requires onward-requires same-length same-length-2
+    (tie.spec append-entries-requires stamp-requires lane-mask-requires store-slot-requires onward-requires same-length same-length-2
     returns)

@@ -33,6 +33,9 @@ mul-cache c = search needs
 slice-write-cache : tie.Need-slice-write-cache
 slice-write-cache c = search needs
 
+lane-mask-requires : tie.Need-lane-mask-requires
+lane-mask-requires c κs = search needs
+
 set-flush-requires : tie.Need-set-flush-requires
 set-flush-requires c κs = search needs
 
@@ -43,13 +46,13 @@ same-length-2 : tie.Need-same-length-2
 same-length-2 c = search needs
 
 returns : tie.Need-returns
-returns c = let a = c .before .before .before .before .before .before .before .args in (
+returns c = let a = c .before .before .before .before .before .before .before .before .args in (
   restamped (a .start) (a .j) (a .stamp) _ (now (a .cache)) (low-bit (getD (now (a .cache)) (a .start + 2 * a .j) 0)),
-  restamp-flushed _ (a .start) (a .j) (a .stamp) (now (a .cache)) _ _ (c .before .before .set-flush .ensures),
+  restamp-flushed _ (a .start) (a .j) (a .stamp) (now (a .cache)) _ _ (c .before .before .set-flush .ensures (a .lane) (c .before .before .before .lane-mask .ensures)),
 )
 
 pub restamp-spec : {M : Type 1} → statement M
 restamp-spec =
     tie.close
-    (tie.spec mul-at add-at mul-wrap slice-read-wrap add-value add-cache mul-cache slice-write-cache set-flush-requires
+    (tie.spec mul-at add-at mul-wrap slice-read-wrap add-value add-cache mul-cache slice-write-cache lane-mask-requires set-flush-requires
     same-length same-length-2 returns)

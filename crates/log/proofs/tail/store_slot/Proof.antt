@@ -44,9 +44,10 @@ same-length-2 c = search needs
 returns : tie.Need-returns
 returns c =
     let s = c .before .before .before .before .before .before in
-    let a = s .before .before .before .before .args in
-    let flushed = slot-flushed (a .lane) (a .start) (a .j) (a .slot) (now (a .flags)) in
-    (slot-stored _ _ _ _, flushed _ _ (s .set-flush .ensures) (c .before .before .set-flush2 .ensures))
+    let a = s .before .before .before .before .args in (
+      slot-stored _ _ _ _,
+      λ L e. slot-flushed L (a .start) (a .j) (a .slot) (now (a .flags)) _ _ (s .set-flush .ensures L e) (c .before .before .set-flush2 .ensures L e),
+    )
 
 pub store-slot-spec : {M : Type 1} → statement M
 store-slot-spec =
