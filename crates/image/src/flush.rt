@@ -10,8 +10,9 @@ use crate::MAX_LANES;
 // The flag values of lanes 0 to 7: entry L is 2 to the power L.
 const MASKS: [u8; MAX_LANES] = [1, 2, 4, 8, 16, 32, 64, 128];
 
-// The flag value of a lane: its bit alone. The table's only reader: a lookup copies the table to the stack, so a loop over
-// flag bytes has it made once, before. What is promised of a mask below holds for the lane that it is the value of.
+// A lane's flag value: its bit alone. Nothing else reads the table. A lookup writes the table to the stack first, so it
+// is made once, before a loop over flag bytes. The functions below take its result as `mask`, and promise what they do
+// for the lane that has this mask.
 pub fn lane_mask(lane: usize) -> u8
     requires { ⌜ lane < maxLanes ⌝ }
     ensures { λ r. ⌜ r ≡ 2 ^ lane ⌝ }

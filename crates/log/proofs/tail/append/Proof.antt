@@ -44,7 +44,8 @@ returns c =
       append-ends _ _ _ _ _ (e .0) (c .onward .ensures),
       (
         append-stored _ _ _ _ _ h _ _ _ (e .0) (p .stamp .ensures) _ _ _ (e .1 .0) (o .store-slot .ensures .0),
-        append-flushed _ _ _ _ _ h _ _ _ (e .0) (p .stamp .ensures) _ _ _ _ (e .1 .1) (o .store-slot .ensures .1 (s .args .lane) (o .before .lane-mask .ensures)),
+        append-flushed _ _ _ _ _ h _ _ _ (e .0) (p .stamp .ensures) _ _ _ _ (e .1 .1)
+            (o .store-slot .ensures .1 (s .args .lane) (o .before .lane-mask .ensures)),
       ),
     )
 

@@ -48,7 +48,8 @@ same-length-2 c = search needs
 returns : tie.Need-returns
 returns c = let a = c .before .before .before .before .before .before .before .before .args in (
   restamped (a .start) (a .j) (a .stamp) _ (now (a .cache)) (low-bit (getD (now (a .cache)) (a .start + 2 * a .j) 0)),
-  restamp-flushed _ (a .start) (a .j) (a .stamp) (now (a .cache)) _ _ (c .before .before .set-flush .ensures (a .lane) (c .before .before .before .lane-mask .ensures)),
+  restamp-flushed _ (a .start) (a .j) (a .stamp) (now (a .cache)) _ _
+      (c .before .before .set-flush .ensures (a .lane) (c .before .before .before .lane-mask .ensures)),
 )
 
 pub restamp-spec : {M : Type 1} → statement M
