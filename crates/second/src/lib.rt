@@ -1,6 +1,6 @@
 // The second implementation of the calls, written from the specification alone and in another way than the store: all
-// numbers in words of one array, every slot decoded, causes of refusal taken all together and the lowest picked. It shares no code with
-// the store.
+// numbers in words of one array, every slot decoded, causes of refusal taken all together and the lowest picked. It
+// shares no code with the store.
 pub mod fields;
 pub mod reading;
 pub mod restart;
