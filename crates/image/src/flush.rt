@@ -21,21 +21,21 @@ pub fn lane_mask(lane: usize) -> u8
 }
 
 // Has the lane of this mask flushed the word with this flag byte?
-pub fn is_flushed(flag: u8, mask: u8) -> bool
+fn is_flushed(flag: u8, mask: u8) -> bool
     ensures { λ r. ⌜ ((L : ℕ) → mask ≡ 2 ^ L → r ≡ flushed L flag) ⌝ }
 {
     flag & mask != 0
 }
 
 // The flag byte with the bit of the mask's lane set.
-pub fn with_flush(flag: u8, mask: u8) -> u8
+fn with_flush(flag: u8, mask: u8) -> u8
     ensures { λ r. ⌜ ((L : ℕ) → mask ≡ 2 ^ L → r ≡ flush L flag) ⌝ }
 {
     flag | mask
 }
 
 // The flag byte with the bit of the mask's lane cleared.
-pub fn without_flush(flag: u8, mask: u8) -> u8
+fn without_flush(flag: u8, mask: u8) -> u8
     ensures { λ r. ⌜ ((L : ℕ) → mask ≡ 2 ^ L → r ≡ unflush L flag) ⌝ }
 {
     flag & !mask
