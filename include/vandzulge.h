@@ -37,7 +37,7 @@
 #include <stdint.h>
 
 #define VANDZULGE_RECORD_WORDS 322
-#define VANDZULGE_ANSWER_WORDS 3
+#define VANDZULGE_ANSWER_WORDS 4
 #define VANDZULGE_TXN_WORDS_MAX 64
 #define VANDZULGE_WORDS_MAX 1024
 #define VANDZULGE_LANES_MAX 8
@@ -66,33 +66,36 @@ uint64_t vandzulge_drain(size_t words, size_t lanes, size_t slots,
     uint64_t *record, size_t record_len, size_t lane);
 
 /* Log: runs the transaction, leaves no change, and appends an entry a write and a timestamp to the lane's log.
- * Answer: count, timestamp, 0; or 0, 0, 0 where it writes nothing, and the lane stays idle. Refusals 1 to 3, 5, 6, 8, 9. A drain, and a look at up to 33 slots of the lane's log. */
+ * Answer: count, timestamp, 0, 0; or 0, 0, 0, 0 where it writes nothing, and the lane stays idle. Refusals 1 to 3, 5, 6, 8, 9. A drain, and a look at up to 33 slots of the lane's log. */
 uint64_t vandzulge_log(size_t words, size_t lanes, size_t slots,
     uint64_t *cache, size_t cache_len, uint64_t *nvm, size_t nvm_len, uint8_t *flags, size_t flags_len,
     uint64_t *record, size_t record_len, uint64_t *answer, size_t answer_len, size_t lane, const uint64_t *txn, size_t txn_len);
 
 /* Redo: commits the logged transaction with the values that Log found.
- * Answer: 1, timestamp, 0; or 0, 0, 0 where there is a commit since (stale), and the lane stays logged. Refusals 1 to 3, 7, 8. A drain. */
+ * Answer: 1, timestamp, 0, 0; or 0, 0, 0, 0 where there is a commit since (stale), and the lane stays logged. Refusals 1 to 3, 7, 8. A drain. */
 uint64_t vandzulge_redo(size_t words, size_t lanes, size_t slots,
     uint64_t *cache, size_t cache_len, uint64_t *nvm, size_t nvm_len, uint8_t *flags, size_t flags_len,
     uint64_t *record, size_t record_len, uint64_t *answer, size_t answer_len, size_t lane);
 
 /* Validate: runs the transaction and commits it if it writes the words that were logged, over the values that were logged.
- * Answer: 1, timestamp, 0; or 0, 0, 0 where it does not (changed), and the lane is idle. Refusals 1 to 3, 5, 7, 8. A drain. */
+ * Answer: 1, timestamp, 0, 0; or 0, 0, 0, 0 where it does not (changed), and the lane is idle. Refusals 1 to 3, 5, 7, 8. A drain. */
 uint64_t vandzulge_validate(size_t words, size_t lanes, size_t slots,
     uint64_t *cache, size_t cache_len, uint64_t *nvm, size_t nvm_len, uint8_t *flags, size_t flags_len,
     uint64_t *record, size_t record_len, uint64_t *answer, size_t answer_len, size_t lane, const uint64_t *txn, size_t txn_len);
 
 /* Mark: appends a timestamp over no entries; a logged transaction of the lane is dropped.
- * Answer: 1 where one was dropped, else 0; timestamp; 0. Refusals 1 to 3, 8, 9. A drain, and a look at 17 slots of the lane's log. */
+ * Answer: 1 where one was dropped, else 0; timestamp; 0, 0. Refusals 1 to 3, 8, 9. A drain, and a look at 17 slots of the lane's log. */
 uint64_t vandzulge_mark(size_t words, size_t lanes, size_t slots,
     uint64_t *cache, size_t cache_len, uint64_t *nvm, size_t nvm_len, uint8_t *flags, size_t flags_len,
     uint64_t *record, size_t record_len, uint64_t *answer, size_t answer_len, size_t lane);
 
 /* Recovery, after a power cut: from nvm alone, with at most `limit` stores to it, the words at one boundary; the record's old words are not read.
- * Answer: 0, 0, 0 where stores remain (cut; the record is untouched and lost: recover again, or format); 1, 0, undone where there was no boundary;
- * 2, boundary, undone. A log word that is 0 already counts as stored. Refusals 1, 10. One pass over the logs, one over the image, a store for each entry undone,
- * and for each sequence undone, or timestamp that is not complete, at most 8 steps in a tree and a look at each lane: docs/PERFORMANCE.md has the worst images. */
+ * Answer: 0, 0, 0, 0 where stores remain (cut; the record is untouched and lost: recover again, or format); 1, 0, undone, torn where there was no boundary;
+ * 2, boundary, undone, torn. undone: how many log entries were undone. torn: how many of the TN log slots were torn in nvm as this call found it: they held something,
+ * but no whole entry or timestamp. A cut leaves a torn slot where one of its two words had not reached the memory, and so does a recovery cut short between two words
+ * of a slot that it clears; by itself it is no sign of damage. A log word that is 0 already counts as stored. Refusals 1, 10. One pass over the logs, one over the image, a store
+ * for each entry undone, and for each sequence undone, or timestamp that is not complete, at most 8 steps in a tree and a look at each lane: docs/PERFORMANCE.md has the
+ * worst images. */
 uint64_t vandzulge_recover(size_t words, size_t lanes, size_t slots,
     uint64_t *cache, size_t cache_len, uint64_t *nvm, size_t nvm_len, uint8_t *flags, size_t flags_len,
     uint64_t *record, size_t record_len, uint64_t *answer, size_t answer_len, size_t limit);

@@ -13,7 +13,7 @@ pub mod raw;
 /// Words of a record.
 pub const RECORD_WORDS: usize = 322;
 /// Words of an answer.
-pub const ANSWER_WORDS: usize = 3;
+pub const ANSWER_WORDS: usize = 4;
 pub const MAX_WORDS: usize = 1024;
 pub const MAX_LANES: usize = 8;
 pub const MIN_SLOTS: usize = 34;
@@ -125,9 +125,11 @@ pub struct Mark {
 pub enum Recovery {
     /// Stores remain. The record is lost: only `recover` and `format` may follow.
     Cut,
+    /// The boundary, how many entries were undone, and how many log slots were torn in the non-volatile memory that this call found.
     Finished {
         boundary: Option<u64>,
         undone: u64,
+        torn: u64,
     },
 }
 
@@ -180,7 +182,7 @@ impl Store<'_> {
         taken(raw::log(words, lanes, slots, self.cache, self.nvm, self.flags, self.record, &mut answer, lane, txn))?;
         Ok(match answer {
             [0, ..] => Log::NoWrites,
-            [count, stamp, _] => Log::Logged { count, stamp },
+            [count, stamp, ..] => Log::Logged { count, stamp },
         })
     }
 
@@ -191,7 +193,7 @@ impl Store<'_> {
         taken(raw::redo(words, lanes, slots, self.cache, self.nvm, self.flags, self.record, &mut answer, lane))?;
         Ok(match answer {
             [0, ..] => Redo::Stale,
-            [_, stamp, _] => Redo::Committed { stamp },
+            [_, stamp, ..] => Redo::Committed { stamp },
         })
     }
 
@@ -202,7 +204,7 @@ impl Store<'_> {
         taken(raw::validate(words, lanes, slots, self.cache, self.nvm, self.flags, self.record, &mut answer, lane, txn))?;
         Ok(match answer {
             [0, ..] => Validate::Changed,
-            [_, stamp, _] => Validate::Committed { stamp },
+            [_, stamp, ..] => Validate::Committed { stamp },
         })
     }
 
@@ -221,8 +223,8 @@ impl Store<'_> {
         taken(raw::recover(words, lanes, slots, self.cache, self.nvm, self.flags, self.record, &mut answer, limit))?;
         Ok(match answer {
             [0, ..] => Recovery::Cut,
-            [1, _, undone] => Recovery::Finished { boundary: None, undone },
-            [_, boundary, undone] => Recovery::Finished { boundary: Some(boundary), undone },
+            [1, _, undone, torn] => Recovery::Finished { boundary: None, undone, torn },
+            [_, boundary, undone, torn] => Recovery::Finished { boundary: Some(boundary), undone, torn },
         })
     }
 }

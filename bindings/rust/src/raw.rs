@@ -318,7 +318,7 @@ pub fn mark(
     }
 }
 
-/// Recovery of at most `limit` stores. Answer: all 0 where it was cut; 1, 0, undone; 2, boundary, undone.
+/// Recovery of at most `limit` stores. Answer: all 0 where it was cut; 1, 0, undone, torn; 2, boundary, undone, torn.
 pub fn recover(
     words: usize,
     lanes: usize,

@@ -60,7 +60,7 @@ impl Replay<'_> {
     }
 
     /// Makes a call; the number, and the answer's words where it was taken.
-    fn call(&mut self, call: Call) -> (u64, [u64; 3]) {
+    fn call(&mut self, call: Call) -> (u64, [u64; ANSWER_WORDS]) {
         let length = self.length();
         let [words, lanes, slots] = self.sizes;
         let mut world = World {
@@ -78,7 +78,7 @@ impl Replay<'_> {
         self.nvm[..length].copy_from_slice(&world.nvm);
         self.flags[..length].copy_from_slice(&world.flags);
         self.record = world.record;
-        (number, [world.answer[0], world.answer[1], world.answer[2]])
+        (number, world.answer.try_into().unwrap())
     }
 
     fn poke(&mut self, buffer: u64, index: u64, value: u64) {
@@ -114,7 +114,7 @@ impl Replay<'_> {
                 let txn = input.counted(80)?.to_vec();
                 match self.call(Call::Log(lane, txn)) {
                     (0, [0, ..]) => line(out, "log 0"),
-                    (0, [count, stamp, _]) => line(out, format_args!("log {count} {stamp}")),
+                    (0, [count, stamp, ..]) => line(out, format_args!("log {count} {stamp}")),
                     (number, _) => line(out, format_args!("log refused {number}")),
                 }
             }
@@ -122,7 +122,7 @@ impl Replay<'_> {
                 let lane = input.word()? as usize;
                 match self.call(Call::Redo(lane)) {
                     (0, [0, ..]) => line(out, "redo stale"),
-                    (0, [_, stamp, _]) => line(out, format_args!("redo {stamp}")),
+                    (0, [_, stamp, ..]) => line(out, format_args!("redo {stamp}")),
                     (number, _) => line(out, format_args!("redo refused {number}")),
                 }
             }
@@ -131,7 +131,7 @@ impl Replay<'_> {
                 let txn = input.counted(80)?.to_vec();
                 match self.call(Call::Validate(lane, txn)) {
                     (0, [0, ..]) => line(out, "validate changed"),
-                    (0, [_, stamp, _]) => line(out, format_args!("validate {stamp}")),
+                    (0, [_, stamp, ..]) => line(out, format_args!("validate {stamp}")),
                     (number, _) => line(out, format_args!("validate refused {number}")),
                 }
             }
@@ -139,7 +139,7 @@ impl Replay<'_> {
                 let lane = input.word()? as usize;
                 match self.call(Call::Mark(lane)) {
                     (0, [0, stamp, _]) => line(out, format_args!("mark {stamp}")),
-                    (0, [_, stamp, _]) => line(out, format_args!("mark {stamp} dropped")),
+                    (0, [_, stamp, ..]) => line(out, format_args!("mark {stamp} dropped")),
                     (number, _) => line(out, format_args!("mark refused {number}")),
                 }
             }
@@ -161,8 +161,8 @@ impl Replay<'_> {
                 let limit = input.word()? as usize;
                 match self.call(Call::Recover(limit)) {
                     (0, [0, ..]) => line(out, "recover cut"),
-                    (0, [1, _, undone]) => line(out, format_args!("recover none {undone}")),
-                    (0, [_, boundary, undone]) => line(out, format_args!("recover {boundary} {undone}")),
+                    (0, [1, _, undone, torn]) => line(out, format_args!("recover none {undone} {torn}")),
+                    (0, [_, boundary, undone, torn]) => line(out, format_args!("recover {boundary} {undone} {torn}")),
                     (number, _) => line(out, format_args!("recover refused {number}")),
                 }
             }

@@ -32,10 +32,25 @@ fn two_lanes_and_a_power_cut() {
         store.flags.fill(0xff);
         store.record.fill(99);
         assert_eq!(store.recover(1), Ok(Recovery::Cut));
-        assert_eq!(store.recover(usize::MAX), Ok(Recovery::Finished { boundary: Some(6), undone: 3 }));
+        assert_eq!(store.recover(usize::MAX), Ok(Recovery::Finished { boundary: Some(6), undone: 3, torn: 0 }));
         assert_eq!((store.cache[1..3].to_vec(), store.nvm[1..3].to_vec()), (vec![0, 0], vec![0, 0]));
         assert_eq!((store.record[0], store.record[1]), (10, 10));
-        assert_eq!(store.recover(usize::MAX), Ok(Recovery::Finished { boundary: None, undone: 0 }));
+        assert_eq!(store.recover(usize::MAX), Ok(Recovery::Finished { boundary: None, undone: 0, torn: 0 }));
+    });
+}
+
+#[test]
+fn torn_slots_are_counted_in_the_memory_that_a_call_finds() {
+    with_store(SIZES, |store| {
+        assert_eq!(store.format(&[0, 0]), Ok(()));
+        assert_eq!(store.log(0, &SET_0_TO_2), Ok(Log::Logged { count: 1, stamp: 2 }));
+        // of the entry in slot 0 only the address word reaches the memory, of the timestamp in slot 1 only the value word
+        assert_eq!((store.write_back(3), store.write_back(6)), (Ok(()), Ok(())));
+        // the cache has two whole slots: none of them counts. Clearing word 3, after the base word, leaves slot 0 empty and slot 1 torn
+        assert_eq!(store.recover(2), Ok(Recovery::Cut));
+        assert_eq!((store.nvm[3], store.nvm[6]), (0, 3));
+        assert_eq!(store.recover(usize::MAX), Ok(Recovery::Finished { boundary: None, undone: 0, torn: 1 }));
+        assert_eq!(store.recover(usize::MAX), Ok(Recovery::Finished { boundary: None, undone: 0, torn: 0 }));
     });
 }
 

@@ -75,6 +75,7 @@ fn put_recovered(arena: &mut Arena, answer: Recovered) {
         Recovered::Finished(end) => {
             let boundary = end.boundary;
             put_finished(arena, boundary, end.undone as u64);
+            put(arena, STORED, second::TORN, end.torn as u64);
         }
     }
 }

@@ -18,6 +18,7 @@ use second::words::WORDS;
 use second::words::cell;
 use second::words::clear;
 use second::words::get;
+use second::words::put;
 use second::words::set_row;
 use txn::MAX_WRITES;
 
@@ -157,4 +158,5 @@ pub(crate) fn put_record(arena: &mut Arena, state: Record) {
 // An answer, in STORED.
 pub(crate) fn put_answer(arena: &mut Arena, kind: u64, number: u64, stamp: u64) {
     set_row(arena, STORED, second::ANSWER_ROW, kind, number, stamp, 0);
+    put(arena, STORED, second::TORN, 0);
 }

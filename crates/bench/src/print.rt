@@ -37,7 +37,12 @@ fn answered(arena: &Arena, name: &[u8]) {
 
 fn recovered(arena: &Arena) {
     stamped(arena, b"boundary ");
-    answered(arena, b", undone ");
+    undone(arena, b", undone ");
+}
+
+fn undone(arena: &Arena, name: &[u8]) {
+    answered(arena, name);
+    counted(b", torn ", get(arena, STORED, second::TORN));
 }
 
 // An answer without numbers.
@@ -58,7 +63,7 @@ fn answer(arena: &Arena) {
         second::LOGGED => logged(arena),
         second::COMMITTED | second::MARKED => stamped(arena, b"stamp "),
         second::RECOVERED => recovered(arena),
-        second::UNBOUNDED => answered(arena, b"boundary none, undone "),
+        second::UNBOUNDED => undone(arena, b"boundary none, undone "),
         _ => word(kind),
     }
     text(b"\n");
@@ -134,6 +139,7 @@ fn more_kinds(arena: &Arena) {
     kind(arena, b", cut ", second::CUT);
     kind(arena, b", recovered ", second::RECOVERED);
     kind(arena, b", no boundary ", second::UNBOUNDED);
+    counted(b", torn found ", get(arena, TALLY, session::FOUND_TORN));
 }
 
 // How often there was each refusal.

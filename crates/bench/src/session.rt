@@ -16,8 +16,8 @@ use second::words::set_row;
 ghost use mathlib.Core.Path.{_≡_};
 ghost use Rattle.bench.specs.inner.Run.{kindIn, refusalIn};
 
-// The tally of a group: how many calls, how many of them differed, and from `BY_KIND` and `BY_NUMBER` on how many had
-// which kind of answer and which refusal.
+// The tally of a group: how many calls, how many of them differed, from `BY_KIND` and `BY_NUMBER` on how many had which
+// kind of answer and which refusal, and how many recoveries found torn slots.
 pub(crate) const CALLS: u64 = 0;
 
 pub(crate) const DIFFER: u64 = 1;
@@ -25,6 +25,8 @@ pub(crate) const DIFFER: u64 = 1;
 pub(crate) const BY_KIND: u64 = 2;
 
 pub(crate) const BY_NUMBER: u64 = 16;
+
+pub(crate) const FOUND_TORN: u64 = 30;
 
 fn add(arena: &mut Arena, at: u64, is: bool) {
     if is {
@@ -40,6 +42,8 @@ fn count(arena: &mut Arena, same: bool) {
     add(arena, DIFFER, !same);
     add(arena, plus(BY_KIND, kind), true);
     add(arena, plus(BY_NUMBER, number), number != 0);
+    let torn = get(arena, STORED, second::TORN);
+    add(arena, FOUND_TORN, torn != 0);
 }
 
 // The kind of the store's last answer, and the number of its refusal, or 0.

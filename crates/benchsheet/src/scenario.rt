@@ -4,6 +4,7 @@ use bench::power;
 use bench::print;
 use bench::regions::IMAGE;
 use bench::regions::SEED;
+use bench::regions::STORED;
 use bench::regions::STORED_NVM;
 use bench::session;
 use second::restart;
@@ -82,8 +83,17 @@ pub(crate) fn run(arena: &mut Arena) {
     );
 }
 
-// Recovery cut after `limit` stores, and done again: both words are 0. There are 140 stores: three entries, the base
-// timestamp, and 136 log words.
+// Has recovery cleared the address word of a slot that holds something after `limit` stores, and not its value word?
+// Lane 0 has written slots 0 and 1, lane 1 its slots 0 to 3, which are 34 to 37 of all.
+fn half_cleared(limit: u64) -> u64 {
+    match limit {
+        5 | 7 | 73 | 75 | 77 | 79 => 1,
+        _ => 0,
+    }
+}
+
+// Recovery cut after `limit` stores, and done again: both words are 0, and a slot that was half cleared is found torn.
+// There are 140 stores: three entries, the base timestamp, and 136 log words.
 pub(crate) fn run_cut(arena: &mut Arena, limit: u64) {
     copy(arena, IMAGE, NVM, 0, edges::LENGTH);
     recover(arena, limit);
@@ -91,5 +101,9 @@ pub(crate) fn run_cut(arena: &mut Arena, limit: u64) {
     session::expect(
         arena,
         get(arena, STORED_NVM, 1) == 0 && get(arena, STORED_NVM, 2) == 0,
+    );
+    session::expect(
+        arena,
+        get(arena, STORED, second::TORN) == half_cleared(limit),
     );
 }

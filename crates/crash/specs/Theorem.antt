@@ -15,7 +15,7 @@ use Rattle.store.specs.Machine.{Machine, firstCause}
 use Rattle.store.specs.Calls.{formatRefusal}
 use Rattle.store.specs.declared.Answer.{Answer}
 use Rattle.store.specs.declared.Answer.the-variants as answer
-use Rattle.recovery.specs.Recovery.{boundary, undoStores, allMade}
+use Rattle.recovery.specs.Recovery.{boundary, undoStores, tornIn, allMade}
 use Rattle.recovery.specs.declared.Recovered.{Recovered}
 use Rattle.recovery.specs.declared.Recovered.the-variants.{Refused, Cut, Finished}
 use Rattle.crash.specs.Events.{Call, laneOf, System, live, down, nvmOf, Design, happens}
@@ -73,10 +73,10 @@ writeBackAnswer z i = cond (leb (imageLength z) i) (answer.Refused 4) answer.Don
 
 -- ---- recovery
 -- the answer of a recovery with this limit that finds these cells: cut exactly where stores remain past the limit, else their boundary,
--- and how many entries they have to undo. Never a refusal: recovery of a formatted store is taken
+-- how many entries they have to undo, and how many of their slots are torn. Never a refusal: recovery of a formatted store is taken
 unfoldable pub recoveryAnswer : Sizes → (limit : ℕ) → (cells : List ℕ) → Recovered
 recoveryAnswer z limit cells =
-    cond (allMade z limit cells) (Finished (record { boundary = boundary z cells; undone = length (undoStores z cells) })) Cut
+    cond (allMade z limit cells) (Finished (record { boundary = boundary z cells; undone = length (undoStores z cells); torn = tornIn z cells })) Cut
 
 -- a boundary is at least the least floor, and there is one only if some lane has a floor
 pub data NotBelow : (floor boundary : Timestamp) → Type 0 where

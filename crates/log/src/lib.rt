@@ -51,7 +51,8 @@ pub fn slot_at(log: &[u64], words: usize, j: usize) -> Content
 }
 
 // Can slot j hold a timestamp? The address words of empty slots and entries are below every timestamp's, so one
-// comparison passes over most slots.
+// comparison passes over most slots. It is the one look at a log's words that tells anything of a slot past the slot
+// reader, and it saves time alone: what it passes over reads as no timestamp (`SearchLaws.not-high`).
 fn stamp_high(log: &[u64], j: usize) -> bool
     requires { ⌜ 2 * j + 1 < length (now log) ⌝ }
     ensures { λ r. ⌜ r ≡ stampHigh (now (log .entry)) j ⌝ }

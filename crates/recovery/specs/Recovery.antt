@@ -1,5 +1,5 @@
--- Recovery: the boundary, what is undone and in which order, the list of stores, and as many of them as a limit lets through; what its answer tells.
--- SPECIFICATION, "Recovery". Assumes nothing.
+-- Recovery: the boundary, what is undone and in which order, torn slots, the list of stores, and as many of them as a limit lets through; what its answer
+-- tells. SPECIFICATION, "Recovery". Assumes nothing.
 use Prim.Native.Nat.{ℕ, zero, suc, _+_, _*_, _%_, max}
 use mathlib.Core.Bool.{Bool, true, false, cond, _&&_, _||_}
 use mathlib.Core.List.{List, [], _∷_, _++_}
@@ -90,6 +90,26 @@ greatestOf z image (suc k) = max (greatestOf z image k) (greatestBelow z.words (
 unfoldable pub newBase : Sizes → List ℕ → ℕ
 newBase z image = max (baseOf image) (greatestOf z image z.lanes)
 
+-- ---- 4. how many slots are torn
+unfoldable pub oneIfTorn : Content → ℕ
+oneIfTorn Empty = 0
+oneIfTorn Torn = 1
+oneIfTorn (Entry i v p) = 0
+oneIfTorn (Stamp n s p) = 0
+
+-- of the slots below j of a log
+unfoldable pub tornBelow : (W : ℕ) → List ℕ → (j : ℕ) → ℕ
+tornBelow W log zero = 0
+tornBelow W log (suc j) = tornBelow W log j + oneIfTorn (slotAt W log j)
+
+-- of the logs of the lanes below k
+unfoldable pub tornOf : Sizes → List ℕ → (k : ℕ) → ℕ
+tornOf z image zero = 0
+tornOf z image (suc k) = tornOf z image k + tornBelow z.words (logOf z k image) z.slots
+
+unfoldable pub tornIn : Sizes → List ℕ → ℕ
+tornIn z image = tornOf z image z.lanes
+
 -- n words from `at` on become 0, in rising order
 unfoldable pub zeros : (at n : ℕ) → List Store
 zeros at zero = []
@@ -118,7 +138,8 @@ pub record Restarted : Type 0 where
   pub answer : Recovered
   pub machine : Machine
 
--- a call that is refused alters nothing; one cut short has made its stores, and has no record; a finished one is a start
+-- a call that is refused alters nothing; one cut short has made its stores, and has no record; a finished one is a start.
+-- Boundary and counts are of the cells that this call found
 unfoldable pub recoverStep : Sizes → (limit : ℕ) → Machine → Restarted
 recoverStep z limit m =
     let number = recoverRefusal z m in
@@ -126,7 +147,7 @@ recoverStep z limit m =
     cond (eqb number 0)
     (cond (allMade z limit m.nvm)
     (record {
-      answer = Finished (record { boundary = boundary z m.nvm; undone = length (undoStores z m.nvm) });
+      answer = Finished (record { boundary = boundary z m.nvm; undone = length (undoStores z m.nvm); torn = tornIn z m.nvm });
       machine = started z (baseOf nvm) nvm;
     })
     (record { answer = Cut; machine = record { state = m.state; cache = m.cache; nvm = nvm; flags = m.flags } }))
@@ -139,12 +160,13 @@ pub record Told : Type 0 where
   pub number : ℕ
   -- do stores remain past the limit
   pub cut : Bool
-  -- the boundary; the count of entries undone: a list of one where recovery finished, else of none
+  -- the boundary; the count of entries undone, and that of torn slots: lists of one where recovery finished, else of none
   pub boundary : Timestamp
   pub undone : List ℕ
+  pub torn : List ℕ
 
 -- what each answer tells; no two answers tell the same (`ToldLaws.told-back`)
 unfoldable pub told : Recovered → Told
-told (Refused n) = record { refused = true; number = n; cut = false; boundary = None; undone = [] }
-told Cut = record { refused = false; number = 0; cut = true; boundary = None; undone = [] }
-told (Finished f) = record { refused = false; number = 0; cut = false; boundary = f.boundary; undone = f.undone ∷ [] }
+told (Refused n) = record { refused = true; number = n; cut = false; boundary = None; undone = []; torn = [] }
+told Cut = record { refused = false; number = 0; cut = true; boundary = None; undone = []; torn = [] }
+told (Finished f) = record { refused = false; number = 0; cut = false; boundary = f.boundary; undone = f.undone ∷ []; torn = f.torn ∷ [] }

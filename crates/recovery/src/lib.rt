@@ -4,7 +4,8 @@ ghost use mathlib.Core.Path.{_≡_};
 ghost use lib.ListN.{length, replicate};
 ghost use Rattle.image.specs.inner.Facts.{IsImage};
 ghost use Rattle.store.specs.Interface.{blankOf};
-ghost use Rattle.recovery.specs.Recovery.{boundary as boundaryOf, undoStores, recoveryStores, recoveredNvm};
+ghost use Rattle.recovery.specs.Recovery.{boundary as boundaryOf, undoStores, tornIn};
+ghost use Rattle.recovery.specs.Recovery.{recoveryStores, recoveredNvm};
 ghost use Rattle.recovery.specs.Recovery.{recoverRefusal, recoverStep};
 ghost use Rattle.recovery.specs.Interface.{restartedOf};
 ghost use Rattle.recovery.specs.inner.Picking.{LaneRoom};
@@ -22,10 +23,12 @@ const ALL_SLOTS: usize = image::MAX_LANES * image::MAX_SLOTS;
 // Logs of at most this many slots together are small.
 const FEW_SLOTS: usize = 256;
 
-// What a finished recovery answers: the boundary, and how many entries it undid.
+// What a finished recovery answers: the boundary, how many entries it undid, and how many slots were torn in the
+// non-volatile memory that this call found.
 pub struct Finished {
     pub boundary: Timestamp,
     pub undone: usize,
+    pub torn: usize,
 }
 
 // The answer of recovery.
@@ -44,11 +47,12 @@ pub struct Restart {
     pub state: Record,
 }
 
-// The boundary, and how many stores were due: those that undo entries, and all.
+// The boundary, how many stores were due, those that undo entries, and all, and how many slots were torn.
 struct Due {
     boundary: Timestamp,
     undone: usize,
     all: usize,
+    torn: usize,
 }
 
 // The number of the refusal of recovery, or 0.
@@ -79,6 +83,7 @@ fn make_stores(
     ensures boundary { λ r. ⌜ r .boundary ≡ boundaryOf sizes (now (nvm .entry)) ⌝ }
     ensures undo { λ r. ⌜ r .undone ≡ length (undoStores sizes (now (nvm .entry))) ⌝ }
     ensures counted { λ r. ⌜ r .all ≡ length (recoveryStores sizes (now (nvm .entry))) ⌝ }
+    ensures torn { λ r. ⌜ r .torn ≡ tornIn sizes (now (nvm .entry)) ⌝ }
     ensures written { λ r. ⌜ now (nvm .exit) ≡ recoveredNvm sizes limit (now (nvm .entry)) ⌝ }
 {
     let found = scan::scan(sizes, nvm, stamps, tree);
@@ -90,6 +95,7 @@ fn make_stores(
         boundary,
         undone,
         all,
+        torn: found.torn,
     }
 }
 
@@ -100,6 +106,7 @@ fn recover_nvm(sizes: Sizes, nvm: &mut [u64], limit: usize) -> Due
     ensures boundary { λ r. ⌜ r .boundary ≡ boundaryOf sizes (now (nvm .entry)) ⌝ }
     ensures undo { λ r. ⌜ r .undone ≡ length (undoStores sizes (now (nvm .entry))) ⌝ }
     ensures counted { λ r. ⌜ r .all ≡ length (recoveryStores sizes (now (nvm .entry))) ⌝ }
+    ensures torn { λ r. ⌜ r .torn ≡ tornIn sizes (now (nvm .entry)) ⌝ }
     ensures written { λ r. ⌜ now (nvm .exit) ≡ recoveredNvm sizes limit (now (nvm .entry)) ⌝ }
 {
     if sizes.lanes * sizes.slots <= FEW_SLOTS {
@@ -124,12 +131,12 @@ fn refill(cache: &mut [u64], nvm: &[u64], flags: &mut [u8])
 }
 
 // Recovers from non-volatile memory alone, making at most `limit` stores to it; cache and flags are not read.
-// One pass over all slots makes an array of timestamps with a winner tree for each lane (up to 23 KB of stack). Each
-// lane's are tried from the greatest down, up to its latest sequence; then all from the boundary on are taken from the
-// greatest down. Each one tried or taken costs the reading of its sequence, a step for each level of its tree, at most
-// 8, and where it is taken a look at each lane. A store is made for each entry undone, one for the base and one for
-// each log word that is not 0 already, all of them whole words in this order, and where it finishes the image is passed
-// over once.
+// One pass over all slots counts the torn ones and makes an array of timestamps with a winner tree for each lane (up to
+// 23 KB of stack). Each lane's are tried from the greatest down, up to its latest sequence; then all from the boundary
+// on are taken from the greatest down. Each one tried or taken costs the reading of its sequence, a step for each level
+// of its tree, at most 8, and where it is taken a look at each lane. A store is made for each entry undone, one for the
+// base and one for each log word that is not 0 already, all of them whole words in this order, and where it finishes
+// the image is passed over once.
 pub fn recover(
     sizes: Sizes,
     cache: &mut [u64],
@@ -161,6 +168,7 @@ pub fn recover(
         answer: Recovered::Finished(Finished {
             boundary,
             undone: due.undone,
+            torn: due.torn,
         }),
         state: record::start_record(nvm[0]),
     }

@@ -1,7 +1,7 @@
-// What recovery finds in the logs: each lane's timestamps, offered to a winner tree, the boundary, and the new base
-// timestamp.
+// What recovery finds in the logs: each lane's timestamps, offered to a winner tree, the boundary, the new base
+// timestamp, and how many slots are torn.
 ghost use mathlib.Core.Path.{_≡_};
-ghost use Prim.Native.Nat.{_<_, max};
+ghost use Prim.Native.Nat.{_+_, _*_, _≤_, _<_, max};
 ghost use lib.ListN.{length};
 ghost use Rattle.winners.specs.inner.Winners.{Tournament};
 ghost use Rattle.image.specs.Image.{logOf};
@@ -9,16 +9,24 @@ ghost use Rattle.image.specs.inner.Facts.{IsImage};
 ghost use Rattle.log.specs.Log.{latestIn, contribution};
 ghost use Rattle.record.specs.Record.{lesser};
 ghost use Rattle.recovery.specs.Recovery.{boundary as boundaryOf, wholeStamp, greatestBelow, newBase};
+ghost use Rattle.recovery.specs.Recovery.{oneIfTorn, tornBelow, tornIn};
 ghost use Rattle.recovery.specs.inner.Picking.{countOf, wrapOf, offered as offeredOf, Offers, LaneRoom, Offering};
 ghost use Rattle.recovery.specs.inner.Picking.{Tournaments};
 use image::Sizes;
 use log::Timestamp;
 use slot::Content;
 
-// What the lanes read so far give: the boundary, and the new base.
+// What the lanes read so far give: the boundary, the new base, and how many slots are torn.
 pub struct Found {
     pub boundary: Timestamp,
     pub base: u64,
+    pub torn: usize,
+}
+
+// What one lane's slots hold: the greatest whole timestamp, 0 where there is none, and how many are torn.
+struct Held {
+    greatest: u64,
+    torn: usize,
 }
 
 // The timestamp of a slot, complete or not, 0 where it has none.
@@ -57,6 +65,17 @@ fn wrap_of(content: Content) -> u64
     }
 }
 
+fn one_if_torn(content: Content) -> usize
+    ensures { λ r. ⌜ r ≡ oneIfTorn content ⌝ }
+{
+    match content {
+        Content::Empty => 0,
+        Content::Torn => 1,
+        Content::Entry { .. } => 0,
+        Content::Stamp { .. } => 0,
+    }
+}
+
 fn greater(a: u64, b: u64) -> u64
     ensures { λ r. ⌜ r ≡ max a b ⌝ }
 {
@@ -70,24 +89,28 @@ fn offered(base: u64, stamp: u64) -> u64
     if base < stamp { stamp } else { 0 }
 }
 
-// One pass over a lane's slots: what each offers, and the greatest of all whole timestamps and the one given.
-fn offer(sizes: Sizes, nvm: &[u64], lane: usize, stamps: &mut [u64], greatest: u64) -> u64
+// One pass over a lane's slots: what each offers, and what they hold.
+fn offer(sizes: Sizes, nvm: &[u64], lane: usize, stamps: &mut [u64]) -> Held
     requires { ⌜ IsImage sizes (now nvm) ⌝ }
     requires { ⌜ lane < sizes .lanes ⌝ }
     requires { ⌜ length (now stamps) ≡ sizes .slots ⌝ }
     ensures offers { λ r. ⌜ Offers sizes (now (nvm .entry)) lane (now (stamps .exit)) ⌝ }
-    ensures most { λ r. ⌜ r ≡ max greatest
-        (greatestBelow (sizes .words) (logOf sizes lane (now (nvm .entry))) (sizes .slots)) ⌝ }
+    ensures greatest { λ r. ⌜ r .greatest
+        ≡ greatestBelow (sizes .words) (logOf sizes lane (now (nvm .entry))) (sizes .slots) ⌝ }
+    ensures torn { λ r. ⌜ r .torn ≡ tornBelow (sizes .words) (logOf sizes lane (now (nvm .entry))) (sizes .slots) ⌝ }
 {
     let base = nvm[0];
     let log = image::log_part(sizes, nvm, lane);
-    let mut most = greatest;
+    let mut greatest = 0;
+    let mut torn = 0;
     for j in 0..sizes.slots {
-        let stamp = whole_stamp(log::slot_at(log, sizes.words, j));
+        let content = log::slot_at(log, sizes.words, j);
+        let stamp = whole_stamp(content);
         stamps[j] = offered(base, stamp);
-        most = greater(most, stamp);
+        greatest = greater(greatest, stamp);
+        torn += one_if_torn(content);
     }
-    most
+    Held { greatest, torn }
 }
 
 // The timestamp of a lane's latest sequence. Those offered are tried from the greatest down, each over its entries, up
@@ -134,30 +157,35 @@ fn read_lane(
     requires { ⌜ lane < sizes .lanes ⌝ }
     requires { ⌜ length (now stamps) ≡ sizes .slots ⌝ }
     requires { ⌜ length (now tree) ≡ sizes .slots ⌝ }
+    requires { ⌜ found .torn ≤ lane * sizes .slots ⌝ }
     ensures boundary { λ r. ⌜ r .boundary ≡ lesser (found .boundary)
         (contribution (latestIn sizes (now (nvm .entry)) lane)) ⌝ }
     ensures base { λ r. ⌜ r .base ≡ max (found .base)
         (greatestBelow (sizes .words) (logOf sizes lane (now (nvm .entry))) (sizes .slots)) ⌝ }
+    ensures torn { λ r. ⌜ r .torn ≡ found .torn
+        + tornBelow (sizes .words) (logOf sizes lane (now (nvm .entry))) (sizes .slots) ⌝ }
     ensures offers { λ r. ⌜ Offers sizes (now (nvm .entry)) lane (now (stamps .exit)) ⌝ }
     ensures tree { λ r. ⌜ Tournament (now (stamps .exit)) (now (tree .exit)) ⌝ }
 {
     let boundary = found.boundary;
-    let base = offer(sizes, nvm, lane, stamps, found.base);
+    let held = offer(sizes, nvm, lane, stamps);
     winners::build(stamps, tree);
     let newest = latest(sizes, nvm, lane, stamps, tree);
     Found {
         boundary: record::lesser(boundary, newest),
-        base,
+        base: greater(found.base, held.greatest),
+        torn: found.torn + held.torn,
     }
 }
 
 // Reads all logs, each lane's timestamps into its part of the array: the boundary, which is the least of the lanes'
-// latest timestamps, and the new base, which is the greatest of the base and all whole timestamps.
+// latest timestamps, the new base, which is the greatest of the base and all whole timestamps, and the torn slots.
 pub fn scan(sizes: Sizes, nvm: &[u64], stamps: &mut [u64], tree: &mut [u16]) -> Found
     requires { ⌜ IsImage sizes (now nvm) ⌝ }
     requires { ⌜ LaneRoom sizes (now stamps) (now tree) ⌝ }
     ensures boundary { λ r. ⌜ r .boundary ≡ boundaryOf sizes (now (nvm .entry)) ⌝ }
     ensures base { λ r. ⌜ r .base ≡ newBase sizes (now (nvm .entry)) ⌝ }
+    ensures torn { λ r. ⌜ r .torn ≡ tornIn sizes (now (nvm .entry)) ⌝ }
     ensures offering { λ r. ⌜ Offering sizes (now (nvm .entry)) (sizes .lanes) (now (stamps .exit)) ⌝ }
     ensures trees { λ r. ⌜ Tournaments (length (now (stamps .entry))) (sizes .slots) (sizes .lanes) (now (stamps .exit))
         (now (tree .exit)) ⌝ }
@@ -166,6 +194,7 @@ pub fn scan(sizes: Sizes, nvm: &[u64], stamps: &mut [u64], tree: &mut [u16]) -> 
     let mut found = Found {
         boundary: Timestamp::None,
         base: nvm[0],
+        torn: 0,
     };
     for lane in 0..sizes.lanes {
         let from = lane * slots;

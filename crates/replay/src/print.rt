@@ -146,7 +146,8 @@ fn put_recovered(line: &mut [u8; LINE_BYTES], used: usize, answer: Recovered) ->
         Recovered::Finished(finished) => {
             let boundary = finished.boundary;
             let end = put_boundary(line, used, boundary);
-            put_number(line, end, finished.undone as u64)
+            let last = put_number(line, end, finished.undone as u64);
+            put_number(line, last, finished.torn as u64)
         }
     }
 }

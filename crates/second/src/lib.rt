@@ -68,7 +68,7 @@ pub const FORMAT: u64 = 8;
 
 // An answer, behind the record: what was answered, and its numbers. ANSWER is the refusal, the count of writes, whether
 // Mark dropped a transaction, or how many entries recovery undid; STAMP the timestamp or the boundary; REFUSAL the
-// number of the refusal, or 0.
+// number of the refusal, or 0; TORN how many torn slots recovery found.
 pub const KIND: u64 = 1536;
 
 pub const ANSWER: u64 = 1537;
@@ -77,11 +77,13 @@ pub const STAMP: u64 = 1538;
 
 pub const REFUSAL: u64 = 1539;
 
-// The row of the answer, where record and answer are read as a table.
+pub const TORN: u64 = 1540;
+
+// The row of the answer but for TORN, where record and answer are read as a table.
 pub const ANSWER_ROW: u64 = KIND / 4;
 
 // All words of record and answer.
-pub const LENGTH: u64 = 1540;
+pub const LENGTH: u64 = 1541;
 
 // What was answered.
 pub const REFUSED: u64 = 0;
@@ -116,6 +118,7 @@ fn answer(arena: &mut Arena, kind: u64, number: u64, stamp: u64) {
         stamp,
         only(kind == REFUSED, number),
     );
+    put(arena, RECORD, TORN, 0);
 }
 
 fn refuse(arena: &mut Arena, number: u64) {

@@ -14,6 +14,7 @@ use crate::words::NUMBER;
 use crate::words::NVM;
 use crate::words::OWNERS;
 use crate::words::PLACES;
+use crate::words::RECORD;
 use crate::words::REGION;
 use crate::words::SLOTS;
 use crate::words::STATE;
@@ -24,6 +25,7 @@ use crate::words::clear;
 use crate::words::copy;
 use crate::words::get;
 use crate::words::least;
+use crate::words::only;
 use crate::words::plus;
 use crate::words::put;
 use crate::words::times;
@@ -69,6 +71,31 @@ fn new_base(arena: &Arena) -> u64 {
         }
     }
     greatest
+}
+
+// 1 for a slot that holds something, but neither an entry nor a timestamp.
+fn torn_at(arena: &Arena, lane: u64, slot: u64) -> u64 {
+    let at = reading::place(arena, lane, slot);
+    let empty = get(arena, NVM, at) == 0 && get(arena, NVM, plus(at, 1)) == 0;
+    let kind = cell(arena, DECODED, reading::row_of(lane, slot), reading::KIND);
+    only(!empty && kind == reading::NEITHER, 1)
+}
+
+fn torn_of(arena: &Arena, lane: u64) -> u64 {
+    let mut torn = 0;
+    for slot in 0..get(arena, STATE, SLOTS) {
+        torn = plus(torn, torn_at(arena, lane, slot));
+    }
+    torn
+}
+
+// How many slots are torn.
+fn torn_slots(arena: &Arena) -> u64 {
+    let mut torn = 0;
+    for lane in 0..get(arena, STATE, LANES) {
+        torn = plus(torn, torn_of(arena, lane));
+    }
+    torn
 }
 
 // Lists a store behind the first `listed`; how many there are then.
@@ -127,7 +154,7 @@ fn refill(arena: &mut Arena) {
 }
 
 // After the last store: the start of a new list of calls.
-fn finish(arena: &mut Arena, boundary: u64, undone: u64) {
+fn finish(arena: &mut Arena, boundary: u64, undone: u64, torn: u64) {
     refill(arena);
     let base = get(arena, NVM, 0);
     fields::set_start(arena, base);
@@ -136,6 +163,7 @@ fn finish(arena: &mut Arena, boundary: u64, undone: u64) {
     } else {
         super::answer(arena, super::RECOVERED, undone, boundary);
     }
+    put(arena, RECORD, super::TORN, torn);
 }
 
 // Lists the stores behind those that undo entries: the base timestamp, the log words. How many there are in all.
@@ -152,13 +180,14 @@ fn recover_whole(arena: &mut Arena) {
     let n = reading::read(arena, NVM, 0, lanes);
     let boundary = boundary_of(arena, n);
     let undone = undo_all(arena, n, boundary);
+    let torn = torn_slots(arena);
     let all = list_rest(arena, undone);
     let limit = get(arena, STATE, NUMBER);
     make_stores(arena, least(limit, all));
     if limit < all {
         super::answer(arena, super::CUT, 0, 0);
     } else {
-        finish(arena, boundary, undone);
+        finish(arena, boundary, undone, torn);
     }
 }
 

@@ -18,7 +18,7 @@ sizesOf words lanes slots = record { words = words; lanes = lanes; slots = slots
 
 -- how many words an answer has
 abbrev pub answerLength : ℕ
-answerLength = 3
+answerLength = 4
 
 -- do the lent slices have the lengths of a record, and of a record and an answer
 unfoldable pub recordFits : List ℕ → Bool
@@ -35,9 +35,9 @@ firstWord [] (d ∷ ds) ss = bitFor d
 firstWord [] [] (s ∷ ss) = 1
 firstWord [] [] [] = 0
 
--- the second is the timestamp, 0 where there is none; the third is 0
+-- the second is the timestamp, 0 where there is none; the others are 0
 unfoldable pub saidWords : Said → List ℕ
-saidWords s = firstWord (s .count) (s .dropped) (s .stamp) ∷ getD (s .stamp) 0 0 ∷ 0 ∷ []
+saidWords s = firstWord (s .count) (s .dropped) (s .stamp) ∷ getD (s .stamp) 0 0 ∷ 0 ∷ 0 ∷ []
 
 -- what a slice then holds: where the call is taken, new words; else those before
 unfoldable pub whereTaken : (number : ℕ) → (new before : List ℕ) → List ℕ
@@ -76,14 +76,14 @@ replies fits answer call m =
 unfoldable pub whereFinished : Told → (new before : List ℕ) → List ℕ
 whereFinished t new before = cond (t .refused || t .cut) before new
 
--- 1 and 0, or 2 and the boundary; then the count of entries undone
-unfoldable pub finishedWords : Timestamp → ℕ → List ℕ
-finishedWords None undone = 1 ∷ 0 ∷ undone ∷ []
-finishedWords (At b) undone = 2 ∷ b ∷ undone ∷ []
+-- 1 and 0, or 2 and the boundary; then the count of entries undone, and that of torn slots
+unfoldable pub finishedWords : Timestamp → (undone torn : ℕ) → List ℕ
+finishedWords None undone torn = 1 ∷ 0 ∷ undone ∷ torn ∷ []
+finishedWords (At b) undone torn = 2 ∷ b ∷ undone ∷ torn ∷ []
 
 -- 0s where recovery did not finish
 unfoldable pub toldWords : Told → List ℕ
-toldWords t = whereFinished t (finishedWords (t .boundary) (getD (t .undone) 0 0)) (0 ∷ 0 ∷ 0 ∷ [])
+toldWords t = whereFinished t (finishedWords (t .boundary) (getD (t .undone) 0 0) (getD (t .torn) 0 0)) (0 ∷ 0 ∷ 0 ∷ 0 ∷ [])
 
 -- a recovery that is refused or cut short leaves the record's words as they were
 unfoldable pub restarts : (fits : Bool) → (state : List ℕ) → (Machine → Restarted) → Machine → Left

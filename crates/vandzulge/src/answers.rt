@@ -1,4 +1,4 @@
-// What the calls answer, as a number and three words.
+// What the calls answer, as a number and four words.
 use crate::ANSWER_WORDS;
 use log::Timestamp;
 use recovery::Recovered;
@@ -33,14 +33,14 @@ fn answer_words(answer: Answer) -> [u64; ANSWER_WORDS]
     ensures { λ r. ⌜ r ≡ saidWords (said answer) ⌝ }
 {
     match answer {
-        Answer::Refused(_) => [0, 0, 0],
-        Answer::Done => [0, 0, 0],
-        Answer::NoWrites => [0, 0, 0],
-        Answer::Logged(appended) => [appended.count as u64, appended.stamp, 0],
-        Answer::Committed(stamp) => [1, stamp, 0],
-        Answer::Stale => [0, 0, 0],
-        Answer::Changed => [0, 0, 0],
-        Answer::Marked(marked) => [codec::bit_for(marked.dropped), marked.stamp, 0],
+        Answer::Refused(_) => [0, 0, 0, 0],
+        Answer::Done => [0, 0, 0, 0],
+        Answer::NoWrites => [0, 0, 0, 0],
+        Answer::Logged(appended) => [appended.count as u64, appended.stamp, 0, 0],
+        Answer::Committed(stamp) => [1, stamp, 0, 0],
+        Answer::Stale => [0, 0, 0, 0],
+        Answer::Changed => [0, 0, 0, 0],
+        Answer::Marked(marked) => [codec::bit_for(marked.dropped), marked.stamp, 0, 0],
     }
 }
 
@@ -84,12 +84,12 @@ fn recovered_number(answer: Recovered) -> u64
     }
 }
 
-fn finished_words(boundary: Timestamp, undone: usize) -> [u64; ANSWER_WORDS]
-    ensures { λ r. ⌜ r ≡ finishedWords boundary undone ⌝ }
+fn finished_words(boundary: Timestamp, undone: usize, torn: usize) -> [u64; ANSWER_WORDS]
+    ensures { λ r. ⌜ r ≡ finishedWords boundary undone torn ⌝ }
 {
     match boundary {
-        Timestamp::None => [1, 0, undone as u64],
-        Timestamp::At(stamp) => [2, stamp, undone as u64],
+        Timestamp::None => [1, 0, undone as u64, torn as u64],
+        Timestamp::At(stamp) => [2, stamp, undone as u64, torn as u64],
     }
 }
 
@@ -97,11 +97,11 @@ fn recovered_words(answer: Recovered) -> [u64; ANSWER_WORDS]
     ensures { λ r. ⌜ r ≡ toldWords (told answer) ⌝ }
 {
     match answer {
-        Recovered::Refused(_) => [0, 0, 0],
-        Recovered::Cut => [0, 0, 0],
+        Recovered::Refused(_) => [0, 0, 0, 0],
+        Recovered::Cut => [0, 0, 0, 0],
         Recovered::Finished(finished) => {
             let boundary = finished.boundary;
-            finished_words(boundary, finished.undone)
+            finished_words(boundary, finished.undone, finished.torn)
         }
     }
 }

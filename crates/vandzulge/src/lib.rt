@@ -1,6 +1,6 @@
 // The calls for other languages: numbers and slices only. Each returns 0 where the call is taken, else the number of
 // its refusal, and then it has touched nothing. The sizes are W, T and N. `state` is the record in words, `answer` has
-// 3 words; another length of either is refusal 1.
+// 4 words; another length of either is refusal 1.
 ghost use mathlib.Core.Path.{_≡_};
 ghost use Rattle.store.specs.Machine.{said};
 ghost use Rattle.store.specs.Calls.{formatStep, writeBackStep, drainStep, logStep, redoStep, validateStep, markStep};
@@ -15,7 +15,7 @@ use image::Sizes;
 mod answers;
 
 // How many words an answer has.
-const ANSWER_WORDS: usize = 3;
+const ANSWER_WORDS: usize = 4;
 
 // Starts the store with these words. The record becomes the start record; its words are not read.
 #[no_mangle]
@@ -265,8 +265,8 @@ pub extern "C" fn vandzulge_mark(
 }
 
 // Recovers, making at most `limit` stores. The answer: 0s where the limit cut it short, and the record's words are then
-// as before, but there is no record; where it finished, 1, 0 and the count of entries undone, or 2, the boundary and
-// that count. The record's words are not read.
+// as before, but there is no record; where it finished, 1 and 0, or 2 and the boundary, then the count of entries undone
+// and that of the slots that were torn in the non-volatile memory that this call found. The record's words are not read.
 #[no_mangle]
 pub extern "C" fn vandzulge_recover(
     words: usize,

@@ -25,9 +25,9 @@ static uint8_t flags[LENGTH];
         }                                                  \
     } while (0)
 
-static int answers(uint64_t a, uint64_t b, uint64_t c)
+static int answers(uint64_t a, uint64_t b, uint64_t c, uint64_t d)
 {
-    return answer[0] == a && answer[1] == b && answer[2] == c;
+    return answer[0] == a && answer[1] == b && answer[2] == c && answer[3] == d;
 }
 
 int main(void)
@@ -38,15 +38,15 @@ int main(void)
 
     EXPECT(vandzulge_format(WORDS, LANES, 33, start, WORDS, BUFFERS, RECORD) == 1);
     EXPECT(vandzulge_format(SIZES, start, WORDS, BUFFERS, RECORD) == 0);
-    EXPECT(vandzulge_log(SIZES, BUFFERS, RECORD, ANSWER, 0, pass, 8) == 0 && answers(0, 0, 0));
-    EXPECT(vandzulge_log(SIZES, BUFFERS, RECORD, ANSWER, 1, copy, 4) == 0 && answers(1, 2, 0));
-    EXPECT(vandzulge_log(SIZES, BUFFERS, RECORD, ANSWER, 0, set, 4) == 0 && answers(1, 4, 0));
-    EXPECT(vandzulge_log(SIZES, BUFFERS, RECORD, ANSWER, 0, set, 4) == 6 && answers(1, 4, 0));
-    EXPECT(vandzulge_redo(SIZES, BUFFERS, RECORD, ANSWER, 0) == 0 && answers(1, 6, 0));
+    EXPECT(vandzulge_log(SIZES, BUFFERS, RECORD, ANSWER, 0, pass, 8) == 0 && answers(0, 0, 0, 0));
+    EXPECT(vandzulge_log(SIZES, BUFFERS, RECORD, ANSWER, 1, copy, 4) == 0 && answers(1, 2, 0, 0));
+    EXPECT(vandzulge_log(SIZES, BUFFERS, RECORD, ANSWER, 0, set, 4) == 0 && answers(1, 4, 0, 0));
+    EXPECT(vandzulge_log(SIZES, BUFFERS, RECORD, ANSWER, 0, set, 4) == 6 && answers(1, 4, 0, 0));
+    EXPECT(vandzulge_redo(SIZES, BUFFERS, RECORD, ANSWER, 0) == 0 && answers(1, 6, 0, 0));
     EXPECT(vandzulge_redo(SIZES, BUFFERS, RECORD, ANSWER, 0) == 7);
-    EXPECT(vandzulge_redo(SIZES, BUFFERS, RECORD, ANSWER, 1) == 0 && answers(0, 0, 0));
-    EXPECT(vandzulge_validate(SIZES, BUFFERS, RECORD, ANSWER, 1, copy, 4) == 0 && answers(1, 8, 0));
-    EXPECT(vandzulge_log(SIZES, BUFFERS, RECORD, ANSWER, 1, copy, 4) == 0 && answers(1, 10, 0));
+    EXPECT(vandzulge_redo(SIZES, BUFFERS, RECORD, ANSWER, 1) == 0 && answers(0, 0, 0, 0));
+    EXPECT(vandzulge_validate(SIZES, BUFFERS, RECORD, ANSWER, 1, copy, 4) == 0 && answers(1, 8, 0, 0));
+    EXPECT(vandzulge_log(SIZES, BUFFERS, RECORD, ANSWER, 1, copy, 4) == 0 && answers(1, 10, 0, 0));
     EXPECT(cache[1] == 2 && cache[2] == 2);
     for (i = 0; i < LENGTH; i++)
         EXPECT(vandzulge_write_back(SIZES, BUFFERS, i) == 0);
@@ -56,15 +56,17 @@ int main(void)
     memset(cache, 0x55, sizeof cache);
     memset(flags, 0xff, sizeof flags);
     memset(record, 0x55, sizeof record);
-    EXPECT(vandzulge_recover(SIZES, BUFFERS, RECORD, ANSWER, 2) == 0 && answers(0, 0, 0));
-    EXPECT(vandzulge_recover(SIZES, BUFFERS, RECORD, ANSWER, VANDZULGE_NO_LIMIT) == 0 && answers(2, 6, 3));
+    EXPECT(vandzulge_recover(SIZES, BUFFERS, RECORD, ANSWER, 2) == 0 && answers(0, 0, 0, 0));
+    EXPECT(vandzulge_recover(SIZES, BUFFERS, RECORD, ANSWER, VANDZULGE_NO_LIMIT) == 0 && answers(2, 6, 3, 0));
     EXPECT(nvm[0] == 10 && nvm[1] == 0 && nvm[2] == 0 && memcmp(cache, nvm, sizeof cache) == 0);
     EXPECT(record[0] == 10 && record[1] == 10);
-    EXPECT(vandzulge_recover(SIZES, BUFFERS, RECORD, ANSWER, VANDZULGE_NO_LIMIT) == 0 && answers(1, 0, 0));
+    EXPECT(vandzulge_recover(SIZES, BUFFERS, RECORD, ANSWER, VANDZULGE_NO_LIMIT) == 0 && answers(1, 0, 0, 0));
+    nvm[3] = 9; /* of an entry's two words one has reached the memory */
+    EXPECT(vandzulge_recover(SIZES, BUFFERS, RECORD, ANSWER, VANDZULGE_NO_LIMIT) == 0 && answers(1, 0, 0, 1));
 
-    EXPECT(vandzulge_mark(SIZES, BUFFERS, RECORD, ANSWER, 0) == 0 && answers(0, 12, 0));
-    EXPECT(vandzulge_log(SIZES, BUFFERS, RECORD, ANSWER, 0, set, 4) == 0 && answers(1, 14, 0));
-    EXPECT(vandzulge_validate(SIZES, BUFFERS, RECORD, ANSWER, 0, copy, 4) == 0 && answers(0, 0, 0));
+    EXPECT(vandzulge_mark(SIZES, BUFFERS, RECORD, ANSWER, 0) == 0 && answers(0, 12, 0, 0));
+    EXPECT(vandzulge_log(SIZES, BUFFERS, RECORD, ANSWER, 0, set, 4) == 0 && answers(1, 14, 0, 0));
+    EXPECT(vandzulge_validate(SIZES, BUFFERS, RECORD, ANSWER, 0, copy, 4) == 0 && answers(0, 0, 0, 0));
     EXPECT(vandzulge_drain(SIZES, BUFFERS, RECORD, 0) == 0);
     EXPECT(vandzulge_drain(SIZES, BUFFERS, RECORD, LANES) == 3);
     EXPECT(vandzulge_drain(SIZES, BUFFERS, record, VANDZULGE_RECORD_WORDS - 1, 0) == 1);

@@ -177,7 +177,7 @@ fn misfit(random: &mut Random, world: &mut World) {
         1 => world.nvm.truncate(world.nvm.len() - 1),
         2 => world.flags.clear(),
         3 => world.record.resize(random.pick(&[0, 1, 2, 321, 323, 400]), 0),
-        4 => world.answer.resize(random.pick(&[0, 1, 2, 4]), 7),
+        4 => world.answer.resize(random.pick(&[0, 1, 3, 5]), 7),
         5 => world.words = random.pick(&[0, 1025, usize::MAX, usize::MAX / 8]),
         6 => world.lanes = random.pick(&[0, 9, usize::MAX, usize::MAX / 68]),
         _ => world.slots = random.pick(&[0, 33, 257, usize::MAX, usize::MAX / 2 + 1]),

@@ -16,7 +16,8 @@ use Rattle.image.specs.inner.StoresLaws.{length-stored}
 use Rattle.image.specs.declared.Sizes.{Sizes}
 use Rattle.store.specs.Machine.{Machine, firstCause}
 use Rattle.store.specs.Calls.{badBuffers, started}
-use Rattle.recovery.specs.Recovery.{boundary, undoStores, newBase, recoveryStores, recoveredNvm, oddBase, recoverRefusal, allMade, Restarted, recoverStep}
+use Rattle.recovery.specs.Recovery.{boundary, undoStores, newBase, tornIn, recoveryStores, recoveredNvm, oddBase, recoverRefusal, allMade}
+use Rattle.recovery.specs.Recovery.{Restarted, recoverStep}
 use Rattle.recovery.specs.declared.Finished.{Finished}
 use Rattle.recovery.specs.declared.Recovered.the-variants as Recovered
 use Rattle.recovery.specs.declared.Recovered.the-variants.{Cut}
@@ -56,7 +57,7 @@ recoveredNvm-even z k nvm s h = go (cut-base z nvm (image-filled z (length nvm) 
 pub finished-step : (z : Sizes) (limit : ℕ) (m : Machine) → recoverRefusal z m ≡ 0 → allMade z limit (m .nvm) ≡ true
     → recoverStep z limit m
     ≡ record {
-      answer = Recovered.Finished (record { boundary = boundary z (m .nvm); undone = length (undoStores z (m .nvm)) });
+      answer = Recovered.Finished (record { boundary = boundary z (m .nvm); undone = length (undoStores z (m .nvm)); torn = tornIn z (m .nvm) });
       machine = started z (baseOf (recoveredImage z (m .nvm))) (recoveredImage z (m .nvm));
     }
 unfolding recoverStep
@@ -70,7 +71,7 @@ cut-step z limit m r e = rw (r, e)
 
 -- the answer is the one that the theorem gives
 answer-finished : (z : Sizes) (limit : ℕ) (nvm : List ℕ) → allMade z limit nvm ≡ true
-    → Recovered.Finished (record { boundary = boundary z nvm; undone = length (undoStores z nvm) }) ≡ recoveryAnswer z limit nvm
+    → Recovered.Finished (record { boundary = boundary z nvm; undone = length (undoStores z nvm); torn = tornIn z nvm }) ≡ recoveryAnswer z limit nvm
 unfolding recoveryAnswer
 answer-finished z limit nvm e = rw e
 

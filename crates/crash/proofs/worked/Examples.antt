@@ -9,9 +9,9 @@ use Rattle.log.specs.declared.Timestamp.the-variants.{None, At}
 use Rattle.store.specs.Calls.{started, startImage}
 use Rattle.record.specs.Record.{noLane, laneAt}
 use Rattle.record.specs.declared.Lane.{Lane}
-use Rattle.store.specs.declared.Answer.the-variants.{Refused, Logged, Committed, Stale, Changed, Marked}
+use Rattle.store.specs.declared.Answer.the-variants.{Refused, Done, Logged, Committed, Stale, Changed, Marked}
 use Rattle.recovery.specs.declared.Recovered.the-variants.{Cut, Finished}
-use Rattle.crash.specs.Events.{log, redo, validate, mark, drain, Event, call, recover, fails, failsInDrain, failsAfterDrain, failsInRecovery}
+use Rattle.crash.specs.Events.{log, redo, validate, mark, drain, Event, call, writeBack, recover, fails, failsInDrain, failsAfterDrain, failsInRecovery}
 use Rattle.crash.specs.Events.{System, live, down, Reply, answered, recovered, failed, vandzulge, happens}
 use Rattle.crash.proofs.worked.Everything.{everything}
 use Rattle.crash.proofs.worked.Worked.{small, junk, set0, copy, writeBacks, twoLanes}
@@ -59,7 +59,7 @@ two-lanes = refl
 abbrev twoLanesCut : System
 twoLanesCut = afterAll small begun (twoLanes ++ (writeBacks 0 139 ++ (fails junk ∷ [])))
 
-two-lanes-recover : replies small twoLanesCut (recover 1000 junk ∷ []) ≡ recovered (Finished (record { boundary = At 6; undone = 3 })) ∷ []
+two-lanes-recover : replies small twoLanesCut (recover 1000 junk ∷ []) ≡ recovered (Finished (record { boundary = At 6; undone = 3; torn = 0 })) ∷ []
 unfolding everything replies afterAll writeBacks
 two-lanes-recover = refl
 
@@ -75,7 +75,7 @@ in-drain : replies small begun (inDrain ++ (recover 1000 junk ∷ []))
     ≡ answered (Logged (record { count = 1; stamp = 2 }))
     ∷ answered (Committed 4)
     ∷ failed false
-    ∷ recovered (Finished (record { boundary = At 2; undone = 1 }))
+    ∷ recovered (Finished (record { boundary = At 2; undone = 1; torn = 0 }))
     ∷ []
 unfolding everything replies
 in-drain = refl
@@ -88,9 +88,10 @@ in-drain-words : wordsIn small (afterAll small begun (inDrain ++ (recover 1000 j
 unfolding everything afterAll wordsIn
 in-drain-words = refl
 
--- ---- the same with recovery cut twice: after the undone entry and before the base timestamp, and past the base timestamp, which leaves nothing to be undone
+-- ---- the same with recovery cut twice: after the undone entry and before the base timestamp, and past the base timestamp, which leaves nothing to be undone.
+-- The second has cleared three log words, both of slot 0 and the address word of slot 1, whose value word is left: the third finds it torn
 cut-twice : replies small (afterAll small begun inDrain) (recover 1 junk ∷ recover 5 junk ∷ recover 1000 junk ∷ [])
-    ≡ recovered Cut ∷ recovered Cut ∷ recovered (Finished (record { boundary = None; undone = 0 })) ∷ []
+    ≡ recovered Cut ∷ recovered Cut ∷ recovered (Finished (record { boundary = None; undone = 0; torn = 1 })) ∷ []
 unfolding everything replies afterAll
 cut-twice = refl
 
@@ -108,7 +109,7 @@ after-drain : replies small begun (afterDrain ++ (recover 1000 junk ∷ []))
     ∷ answered (Committed 4)
     ∷ answered (Marked (record { stamp = 6; dropped = false }))
     ∷ failed true
-    ∷ recovered (Finished (record { boundary = At 6; undone = 0 }))
+    ∷ recovered (Finished (record { boundary = At 6; undone = 0; torn = 0 }))
     ∷ []
 unfolding everything replies
 after-drain = refl
@@ -123,13 +124,25 @@ abbrev inRecovery : List Event
 inRecovery = failsInRecovery 1 junk ∷ failsInRecovery 2 junk ∷ failsInRecovery 138 junk ∷ []
 
 in-recovery : replies small (afterAll small begun inDrain) (inRecovery ++ (recover 1000 junk ∷ []))
-    ≡ failed false ∷ failed false ∷ failed false ∷ recovered (Finished (record { boundary = None; undone = 0 })) ∷ []
+    ≡ failed false ∷ failed false ∷ failed false ∷ recovered (Finished (record { boundary = None; undone = 0; torn = 0 })) ∷ []
 unfolding everything replies afterAll
 in-recovery = refl
 
 in-recovery-words : wordsIn small (afterAll small begun (inDrain ++ (inRecovery ++ (recover 1000 junk ∷ [])))) ≡ 0 ∷ 0 ∷ []
 unfolding everything afterAll wordsIn
 in-recovery-words = refl
+
+-- ---- of a logged entry's two words only the address word, word 3, has reached memory when power fails: its slot is torn. The recovery that clears it has
+-- found it; the next one finds none
+torn-slot : replies small begun (call (log 0 (set0 2)) ∷ writeBack 3 ∷ fails junk ∷ recover 1000 junk ∷ recover 1000 junk ∷ [])
+    ≡ answered (Logged (record { count = 1; stamp = 2 }))
+    ∷ answered Done
+    ∷ failed false
+    ∷ recovered (Finished (record { boundary = None; undone = 0; torn = 1 }))
+    ∷ recovered (Finished (record { boundary = None; undone = 0; torn = 0 }))
+    ∷ []
+unfolding everything replies
+torn-slot = refl
 
 -- ---- a Validate after its word was changed, and changed back: lane 1 commits 7 at 6 and 0 at 10, lane 0, logged at 2, commits 5 at 12.
 -- All is written back; the boundary is 10, and what is committed below it leaves 7
@@ -159,7 +172,7 @@ changed-back = refl
 abbrev changedBackCut : System
 changedBackCut = afterAll small begun (changedBack ++ (writeBacks 0 139 ++ (fails junk ∷ [])))
 
-changed-back-recover : replies small changedBackCut (recover 1000 junk ∷ []) ≡ recovered (Finished (record { boundary = At 10; undone = 2 })) ∷ []
+changed-back-recover : replies small changedBackCut (recover 1000 junk ∷ []) ≡ recovered (Finished (record { boundary = At 10; undone = 2; torn = 0 })) ∷ []
 unfolding everything replies afterAll writeBacks
 changed-back-recover = refl
 

@@ -85,10 +85,13 @@ answerSides z h c (live m) (failed b) = noSides
 answerSides z h c (live m) ignored = noSides
 answerSides z h c (down nvm j found) r = noSides
 
--- how many entries recovery answers to have undone, of the cells before it
+-- how many entries recovery answers to have undone and how many torn slots it answers to have found, of the cells before it
+unfoldable pub countsIn : Recovered → List ℕ
+countsIn r = told r .undone ++ told r .torn
+
 unfoldable pub countSides : Sizes → (limit : ℕ) → (cells : List ℕ) → Reply → Sides
 countSides z limit cells (answered a) = noSides
-countSides z limit cells (recovered r) = record { has = told r .undone; due = told (recoveryAnswer z limit cells) .undone }
+countSides z limit cells (recovered r) = record { has = countsIn r; due = countsIn (recoveryAnswer z limit cells) }
 countSides z limit cells (failed b) = noSides
 countSides z limit cells ignored = noSides
 
@@ -129,7 +132,7 @@ module _ (z : Sizes) (h : History) (was is : System) (found : List ℕ) where
     count-due : (r : Reply) → Replied z h (recover limit j) was found is r → countSides z limit (nvmOf was) r .has ≡ countSides z limit (nvmOf was) r .due
     unfolding countSides
     count-due (answered a) v = refl
-    count-due (recovered r) v = ap (λ (x : Recovered). told x .undone) (v .gives)
+    count-due (recovered r) v = ap countsIn (v .gives)
     count-due (failed b) v = refl
     count-due ignored v = refl
 
@@ -226,5 +229,5 @@ module _ (d : Design) (z : Sizes) (start : List ℕ) (es : List Event) where
 
 -- one name that opens all of this, for the lists that the checker computes
 unfoldable pub refuting : ℕ
-unfolding everything same differ wordsSides clockSides numbersIn answerSides countSides finishedSides recoveredSides worldAfter blank was differs is leftSides
+unfolding everything same differ wordsSides clockSides numbersIn answerSides countsIn countSides finishedSides recoveredSides worldAfter blank was differs is leftSides
 refuting = 0

@@ -18,7 +18,8 @@ use Rattle.record.specs.declared.Lane.{Lane}
 use Rattle.store.specs.Machine.{Machine, Step}
 use Rattle.store.specs.Calls.{started, drained, writesOn, logged, formatStep, writeBackStep, logRefusal, logStep, redoStep, validateStep, markStep}
 use Rattle.store.specs.declared.Answer.the-variants.{Refused, Logged, Stale}
-use Rattle.recovery.specs.Recovery.{completeOf, ordered, undone, undoSequences, undoStores, newBase, zeros, recoverStep, recoveredNvm, Restarted}
+use Rattle.recovery.specs.Recovery.{completeOf, ordered, undone, undoSequences, undoStores, newBase, tornIn, zeros, recoverStep, recoveredNvm, Restarted}
+use Rattle.recovery.specs.declared.Finished.{Finished}
 use Rattle.recovery.specs.declared.Recovered.{Recovered}
 use Rattle.recovery.specs.declared.Recovered.the-variants as recovereds
 use Rattle.crash.specs.Events.{Call, log, redo, validate, mark, drain, Event, format, writeBack, call, recover, fails, failsInDrain, Design, callStep}
@@ -27,8 +28,8 @@ use Rattle.crash.proofs.worked.Worked.{small, junk, set0, copy, writeBa
 use Rattle.crash.proofs.worked.Refute.{wrong-words, wrong-clock, wrong-answer, wrong-count, wrong-recovery, refuting}
 
 -- A refutation names the store, the sizes, the start words, the events, then the last event, and two lists: the numbers that the store has at its end,
--- and those that the theorem gives. `wrong-recovery` looks at the data words after a recovery, `wrong-count` at how many entries it says to have undone,
--- `wrong-words` at the cached data words, `wrong-clock` at the clock, `wrong-answer` at the number and the timestamp of an answer.
+-- and those that the theorem gives. `wrong-recovery` looks at the data words after a recovery, `wrong-count` at how many entries it says to have undone and
+-- how many torn slots to have found, `wrong-words` at the cached data words, `wrong-clock` at the clock, `wrong-answer` at the number and the timestamp of an answer.
 -- `refl` computes the list and sees that they differ.
 
 -- ---- how a store differs from ours
@@ -86,6 +87,25 @@ storing stores =
       cutShort = λ z n nvm. stored (take n (stores z nvm)) nvm;
     }
 
+-- in what a finished recovery answers: by the machine that it found, and the one that it leaves
+unfoldable finishedAs : (Finished → Finished) → Recovered → Recovered
+finishedAs f (recovereds.Refused n) = recovereds.Refused n
+finishedAs f recovereds.Cut = recovereds.Cut
+finishedAs f (recovereds.Finished a) = recovereds.Finished (f a)
+
+unfoldable telling : (Sizes → (found left : Machine) → Finished → Finished) → Design
+telling f =
+    record {
+      format = formatStep;
+      writeBack = writeBackStep;
+      call = callStep;
+      recover = λ z limit m. let r = recoverStep z limit m in record { answer = finishedAs (f z m (r .machine)) (r .answer); machine = r .machine };
+      cutShort = recoveredNvm;
+    }
+
+unfoldable withTorn : ℕ → Finished → Finished
+withTorn n a = record { boundary = a .boundary; undone = a .undone; torn = n }
+
 -- recovery's last stores: the base timestamp's, and those that clear the logs
 unfoldable base : Sizes → List ℕ → List Store
 base z image = record { at = 0; value = newBase z image } ∷ []
@@ -114,7 +134,7 @@ joined z low high = take (1 + z.words) low ++ drop (1 + z.words) high
 
 -- one name that opens all of this
 unfoldable made : ℕ
-unfolding refuting writeBacks calling logging redoing validating marking recoverBy storing base clearing withCache withLaneOf laneIn joined
+unfolding refuting writeBacks calling logging redoing validating marking recoverBy storing finishedAs telling withTorn base clearing withCache withLaneOf laneIn joined
 made = 0
 
 -- ---- the traps
@@ -299,24 +319,12 @@ undoes-forward =
     (call (log 0 (additions 2)) ∷ call (redo 0) ∷ writeBack 1 ∷ fails junk ∷ []) 1000 junk (1 ∷ 0 ∷ []) (0 ∷ 0 ∷ []) refl
 
 -- 12. An invented count of undone entries
-unfoldable inventedIn : Recovered → Recovered
-inventedIn (recovereds.Refused n) = recovereds.Refused n
-inventedIn recovereds.Cut = recovereds.Cut
-inventedIn (recovereds.Finished a) = recovereds.Finished (record { boundary = a .boundary; undone = a .undone + 1 })
-
 unfoldable inventedCount : Design
-inventedCount =
-    record {
-      format = formatStep;
-      writeBack = writeBackStep;
-      call = callStep;
-      recover = λ z limit m. let r = recoverStep z limit m in record { answer = inventedIn (r .answer); machine = r .machine };
-      cutShort = recoveredNvm;
-    }
+inventedCount = telling (λ z m left a. record { boundary = a .boundary; undone = a .undone + 1; torn = a .torn })
 
 invented-count : CrashTheorem inventedCount → ⊥
-unfolding made inventedCount inventedIn
-invented-count = wrong-count inventedCount small (0 ∷ 0 ∷ []) (fails junk ∷ []) 1000 junk (1 ∷ []) (0 ∷ []) refl
+unfolding made inventedCount
+invented-count = wrong-count inventedCount small (0 ∷ 0 ∷ []) (fails junk ∷ []) 1000 junk (1 ∷ 0 ∷ []) (0 ∷ 0 ∷ []) refl
 
 -- 13. A Redo stamps without writing
 unfoldable stampsOnly : Design
@@ -386,3 +394,21 @@ unfolding made keepsLogs
 keeps-logs =
     wrong-recovery keepsLogs small (0 ∷ 0 ∷ []) (call (log 0 (set0 2)) ∷ call (redo 0) ∷ call (drain 0) ∷ format (5 ∷ 6 ∷ []) ∷ fails junk ∷ [])
     1000 junk (0 ∷ 6 ∷ []) (5 ∷ 6 ∷ []) refl
+
+-- 19. Torn slots are counted in the cache. Of a logged entry only the address word, word 3, has reached the cells, and the cache holds junk by then
+unfoldable tornCached : Design
+tornCached = telling (λ z m left a. withTorn (tornIn z (m .cache)) a)
+
+torn-cached : CrashTheorem tornCached → ⊥
+unfolding made tornCached
+torn-cached =
+    wrong-count tornCached small (0 ∷ 0 ∷ []) (call (log 0 (set0 2)) ∷ writeBack 3 ∷ fails junk ∷ []) 1000 junk (0 ∷ 0 ∷ []) (0 ∷ 1 ∷ []) refl
+
+-- 20. Torn slots are counted in the cells that recovery leaves, where it has cleared them
+unfoldable tornLeft : Design
+tornLeft = telling (λ z m left a. withTorn (tornIn z (left .nvm)) a)
+
+torn-left : CrashTheorem tornLeft → ⊥
+unfolding made tornLeft
+torn-left =
+    wrong-count tornLeft small (0 ∷ 0 ∷ []) (call (log 0 (set0 2)) ∷ writeBack 3 ∷ fails junk ∷ []) 1000 junk (0 ∷ 0 ∷ []) (0 ∷ 1 ∷ []) refl

@@ -14,7 +14,7 @@ scan-requires c κs = search needs
 undo-all-requires : tie.Need-undo-all-requires
 undo-all-requires c κs =
     let s = c .before .before .before .before .before .before .before in
-    let t = s .scan .ensures .1 .1 .1 in
+    let t = s .scan .ensures .1 .1 .1 .1 in
     (search needs, (search needs, (search needs, record { trees = trees-own t; enough = rw (t .long) (search needs) })))
 
 put-requires : tie.Need-put-requires
@@ -45,7 +45,7 @@ returns c =
     let s = u .before .before .before .before .before .before .before .before in
     let d = stores-all _ _ _ _ _ _ _ _ _ _ (u .undo-all .ensures .0) (u .undo-all .ensures .1 .1) (s .scan .ensures .1 .0) (p .put .ensures .0)
     (p .put .ensures .1) (l .clear-logs .ensures .0) (l .clear-logs .ensures .1) in
-    (s .scan .ensures .0, (u .undo-all .ensures .0, (d .0, d .1)))
+    (s .scan .ensures .0, (u .undo-all .ensures .0, (d .0, (s .scan .ensures .1 .1 .0, d .1))))
 
 pub make-stores-spec : {M : Type 1} → statement M
 make-stores-spec =

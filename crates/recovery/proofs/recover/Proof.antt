@@ -60,20 +60,20 @@ returns-2 c =
     let r = e .before in
     let b = r .before .before .before .before in
     rw (b .start-record .ensures)
-    (recover-cut _ _ _ _ (r .recover-refusal .ensures) (e .if1 .left) _ (m .recover-nvm .ensures .1 .1 .0) _ (m .recover-nvm .ensures .1 .1 .1) (c .if2 .taken))
+    (recover-cut _ _ _ _ (r .recover-refusal .ensures) (e .if1 .left) _ (m .recover-nvm .ensures .1 .1 .0) _ (m .recover-nvm .ensures .1 .1 .1 .1) (c .if2 .taken))
 
 refill-requires : tie.Need-refill-requires
 refill-requires c κs =
     let m = c .before .before .before .before .before .before .before in
     let k = checked (m .before .before) in
-    (recovered-long _ _ _ _ (m .recover-nvm .ensures .1 .1 .1) ∙ k .in-nvm ∙ sym (k .in-cache), k .in-flags ∙ sym (k .in-cache))
+    (recovered-long _ _ _ _ (m .recover-nvm .ensures .1 .1 .1 .1) ∙ k .in-nvm ∙ sym (k .in-cache), k .in-flags ∙ sym (k .in-cache))
 
 slice-read-start-record : tie.Need-slice-read-start-record
 unfolding imageLength
 slice-read-start-record c =
     let m = c .before .before .before .before .before .before .before .before .before .before .before .before .before in
     let k = checked (m .before .before) in
-    omega (arith, recovered-long _ _ _ _ (m .recover-nvm .ensures .1 .1 .1), k .in-nvm)
+    omega (arith, recovered-long _ _ _ _ (m .recover-nvm .ensures .1 .1 .1 .1), k .in-nvm)
 
 start-record-requires-2 : tie.Need-start-record-requires-2
 start-record-requires-2 c κs = search needs
@@ -95,8 +95,8 @@ returns-3 c =
     let e = m .before .before in
     let r = e .before in
     let d = m .recover-nvm .ensures in
-    recover-finished _ _ _ _ (r .recover-refusal .ensures) (e .if1 .left) _ (d .1 .1 .0) _ _ _ _ _ _ (d .0) (d .1 .0) (d .1 .1 .1) (c .start-record2 .ensures)
-    (f .refill .ensures .0) (f .refill .ensures .1 ∙ ap (λ n. replicate n 0) (checked e .in-cache)) (n .if2 .left)
+    recover-finished _ _ _ _ (r .recover-refusal .ensures) (e .if1 .left) _ (d .1 .1 .0) _ _ _ _ _ _ _ (d .0) (d .1 .0) (d .1 .1 .1 .0) (d .1 .1 .1 .1)
+    (c .start-record2 .ensures) (f .refill .ensures .0) (f .refill .ensures .1 ∙ ap (λ n. replicate n 0) (checked e .in-cache)) (n .if2 .left)
 
 pub recover-spec : {M : Type 1} → statement M
 recover-spec =

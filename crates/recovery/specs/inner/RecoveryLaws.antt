@@ -19,7 +19,7 @@ use Rattle.store.specs.Calls.{badBuffers, started}
 use Rattle.store.specs.inner.StoreLaws.{first-none}
 use Rattle.store.specs.Interface.{machineOf}
 use Rattle.recovery.specs.declared.Recovered.the-variants.{Refused, Cut, Finished}
-use Rattle.recovery.specs.Recovery.{boundary, undoStores, newBase, zeros, recoveryStores, recoveredNvm, recoverRefusal, allMade, recoverStep}
+use Rattle.recovery.specs.Recovery.{boundary, undoStores, newBase, tornIn, zeros, recoveryStores, recoveredNvm, recoverRefusal, allMade, recoverStep}
 use Rattle.recovery.specs.inner.Limit.{limited}
 use Rattle.recovery.specs.inner.LimitLaws.{limited-append, length-zeros}
 
@@ -78,9 +78,10 @@ module _ (z : Sizes) (limit number : ℕ) (m : Machine) (e : number ≡ recoverR
     unfolding recoverStep allMade
     recover-cut nvm n l = rw (n, ← e, h, ← a, lt-leb all limit l)
 
-    pub recover-finished : (state : Record) (cache nvm flags : List ℕ) (b : Timestamp) (undone : ℕ)
-        → b ≡ boundary z (m .nvm) → undone ≡ length (undoStores z (m .nvm)) → nvm ≡ recoveredNvm z limit (m .nvm)
+    pub recover-finished : (state : Record) (cache nvm flags : List ℕ) (b : Timestamp) (undone torn : ℕ)
+        → b ≡ boundary z (m .nvm) → undone ≡ length (undoStores z (m .nvm)) → torn ≡ tornIn z (m .nvm) → nvm ≡ recoveredNvm z limit (m .nvm)
         → state ≡ startRecord (getD nvm 0 0) → cache ≡ nvm → flags ≡ replicate (imageLength z) 0 → all ≤ limit
-        → record { answer = Finished (record { boundary = b; undone = undone }); machine = machineOf state cache nvm flags } ≡ recoverStep z limit m
+        → record { answer = Finished (record { boundary = b; undone = undone; torn = torn }); machine = machineOf state cache nvm flags }
+        ≡ recoverStep z limit m
     unfolding recoverStep allMade started baseOf
-    recover-finished state cache nvm flags b undone e₁ e₂ e₃ e₄ e₅ e₆ l = rw (e₁, e₂, e₄, e₅, e₆, e₃, ← e, h, ← a, le-leb all limit l)
+    recover-finished state cache nvm flags b undone torn e₁ e₂ e₀ e₃ e₄ e₅ e₆ l = rw (e₁, e₂, e₀, e₄, e₅, e₆, e₃, ← e, h, ← a, le-leb all limit l)

@@ -1,10 +1,10 @@
 -- Inner: how the code goes, need not be believed. Laws of reading the logs: what a slot offers, a lane's timestamps tried from the greatest down, and
--- the lanes one after another: the boundary and the new base. Assumes nothing.
+-- the lanes one after another: the boundary, the new base, the torn slots. Assumes nothing.
 use mathlib.Core.Path.{_≡_, refl, sym, ap, subst, _∙_}
 use mathlib.Core.Logic.{_≢_}
-use mathlib.Core.Bool.{false}
+use mathlib.Core.Bool.{true, false}
 use mathlib.Core.List.{List}
-use Prim.Native.Nat.{ℕ, _+_, _-_, _*_, max, _≤_, _<_}
+use Prim.Native.Nat.{ℕ, zero, suc, _+_, _-_, _*_, max, _≤_, _<_}
 use native.Mathlib.Omega.{arith}
 use native.Mathlib.Numerals.{add-one}
 use native.Mathlib.Nat.{add-sub-cancel-left}
@@ -20,7 +20,7 @@ use Rattle.winners.specs.inner.GreatestLaws.{greatest-low, greatest-most}
 use Rattle.slot.specs.declared.Content.{Content}
 use Rattle.slot.specs.declared.Content.the-variants.{Empty, Torn, Entry, Stamp}
 use Rattle.slot.specs.Slot.{maxEntries}
-use Rattle.image.specs.Image.{baseOf, logOf}
+use Rattle.image.specs.Image.{maxLanes, maxSlots, sizesOk, baseOf, logOf}
 use Rattle.image.specs.declared.Sizes.{Sizes}
 use Rattle.log.specs.Log.{slotAt, entriesBack, latestIn, contribution}
 use Rattle.log.specs.inner.LogLaws.{stamp-in, latest-in}
@@ -33,9 +33,10 @@ use Rattle.log.specs.declared.Latest.{Latest}
 use Rattle.log.specs.declared.Latest.the-variants.{Nothing, Is}
 use Rattle.record.specs.Record.{lesser}
 use Rattle.recovery.specs.Recovery.{boundaryBelow, boundary, wholeStamp, greatestBelow, greatestOf, newBase}
+use Rattle.recovery.specs.Recovery.{oneIfTorn, tornBelow, tornOf, tornIn}
 use Rattle.recovery.specs.inner.Picking.{countOf, wrapOf, offered, Offers, partOf, Offering, Tournaments}
 use Rattle.recovery.specs.inner.PickingLaws.{not-above, is-below}
-use Rattle.recovery.specs.inner.LanesLaws.{lane-inside, put-here, put-other, trees-put}
+use Rattle.recovery.specs.inner.LanesLaws.{numbers-small, lane-inside, put-here, put-other, trees-put}
 
 -- ---- one slot
 -- a timestamp that is offered says how many entries it closes
@@ -63,45 +64,77 @@ module _ (W N base : ℕ) (log : List ℕ) (j : ℕ) where
       by Nothing e = refl
       by (Is q) e = let c = closed-from W N base log j q e in absurd (omega (arith, closed-offered q c, c .above))
 
+-- ---- no more slots are torn than there are
+one-low : (c : Content) → oneIfTorn c ≤ 1
+unfolding oneIfTorn
+one-low Empty = omega arith
+one-low Torn = omega arith
+one-low (Entry i v p) = omega arith
+one-low (Stamp n s p) = omega arith
+
+below-low : (W : ℕ) (log : List ℕ) (j : ℕ) → tornBelow W log j ≤ j
+unfolding tornBelow
+below-low W log zero = omega arith
+below-low W log (suc j) = omega (arith, below-low W log j, one-low (slotAt W log j))
+
+torn-low : (z : Sizes) (image : List ℕ) (k : ℕ) → tornOf z image k ≤ k * z .slots
+unfolding tornOf
+torn-low z image zero = omega arith
+torn-low z image (suc k) = omega (arith, torn-low z image k, below-low (z .words) (logOf z k image) (z .slots))
+
+-- with those of lane L
+pub count-low : (z : Sizes) → sizesOk z ≡ true → (image : List ℕ) (L torn t : ℕ) → L < z .lanes → torn ≤ L * z .slots
+    → t ≡ tornBelow (z .words) (logOf z L image) (z .slots) → torn + t ≤ maxLanes * maxSlots
+count-low z ok image L torn t h l e =
+    omega (arith, e, below-low (z .words) (logOf z L image) (z .slots), lane-inside z L _ (numbers-small z ok) h)
+
 -- ---- the pass over a lane's slots, up to slot j
-pub record OfferedTo (z : Sizes) (image : List ℕ) (L greatest j : ℕ) (s : List ℕ) (most : ℕ) : Type 0 where
+pub record OfferedTo (z : Sizes) (image : List ℕ) (L j : ℕ) (s : List ℕ) (most torn : ℕ) : Type 0 where
   pub long : length s ≡ z .slots
   pub stamps : (i : ℕ) → i < j → getD s i 0 ≡ offered (baseOf image) (wholeStamp (slotAt (z .words) (logOf z L image) i))
-  pub whole : most ≡ max greatest (greatestBelow (z .words) (logOf z L image) j)
+  pub whole : most ≡ greatestBelow (z .words) (logOf z L image) j
+  pub counted : torn ≡ tornBelow (z .words) (logOf z L image) j
 
-module _ (z : Sizes) (image : List ℕ) (L greatest : ℕ) where
-  pub offered-start : (s : List ℕ) → length s ≡ z .slots → OfferedTo z image L greatest 0 s greatest
-  unfolding greatestBelow
+module _ (z : Sizes) (image : List ℕ) (L : ℕ) where
+  pub offered-start : (s : List ℕ) → length s ≡ z .slots → OfferedTo z image L 0 s 0 0
+  unfolding greatestBelow tornBelow
   offered-start s e =
       record {
         long = e;
         stamps = below-none (λ i. getD s i 0 ≡ offered (baseOf image) (wholeStamp (slotAt (z .words) (logOf z L image) i)));
-        whole = omega arith;
+        whole = refl;
+        counted = refl;
       }
 
-  pub offered-more : (j : ℕ) (s : List ℕ) (most : ℕ) → OfferedTo z image L greatest j s most → j < z .slots
-      → (c : Content) (w v m : ℕ) → c ≡ slotAt (z .words) (logOf z L image) j → w ≡ wholeStamp c → v ≡ offered (baseOf image) w → m ≡ max most w
-      → OfferedTo z image L greatest (j + 1) (set s j v) m
-  unfolding greatestBelow
-  offered-more j s most r h c w v m e₁ e₂ e₃ e₄ =
+  pub offered-low : (j : ℕ) (s : List ℕ) (most torn : ℕ) → OfferedTo z image L j s most torn → (c : Content) (t : ℕ) → t ≡ oneIfTorn c → torn + t ≤ j + 1
+  offered-low j s most torn r c t e = omega (arith, r .counted, below-low (z .words) (logOf z L image) j, e, one-low c)
+
+  pub offered-more : (j : ℕ) (s : List ℕ) (most torn : ℕ) → OfferedTo z image L j s most torn → j < z .slots
+      → (c : Content) (w v m t : ℕ) → c ≡ slotAt (z .words) (logOf z L image) j → w ≡ wholeStamp c → v ≡ offered (baseOf image) w
+      → m ≡ max most w → t ≡ oneIfTorn c → OfferedTo z image L (j + 1) (set s j v) m (torn + t)
+  unfolding greatestBelow tornBelow
+  offered-more j s most torn r h c w v m t e₁ e₂ e₃ e₄ e₅ =
       let d : w ≡ wholeStamp (slotAt (z .words) (logOf z L image) j) = e₂ ∙ ap wholeStamp e₁ in
+      let f : t ≡ oneIfTorn (slotAt (z .words) (logOf z L image) j) = e₅ ∙ ap oneIfTorn e₁ in
       record {
         long = length-set s j v ∙ r .long;
         stamps = below-more (λ i. getD (set s j v) i 0 ≡ offered (baseOf image) (wholeStamp (slotAt (z .words) (logOf z L image) i))) j
             (λ i l. getD-set-other s j i v 0 (λ e. omega arith) ∙ r .stamps i l)
             (getD-set-same s j v 0 (rw (r .long) h) ∙ e₃ ∙ ap (offered (baseOf image)) d);
         whole = rw add-one (omega (arith, d, e₄, r .whole));
+        counted = rw add-one (omega (arith, f, r .counted));
       }
 
-  pub offered-all : (j : ℕ) (s : List ℕ) (most : ℕ) → OfferedTo z image L greatest j s most → j ≡ z .slots
-      → Offers z image L s × (most ≡ max greatest (greatestBelow (z .words) (logOf z L image) (z .slots)))
-  offered-all j s most r e = (
+  pub offered-all : (j : ℕ) (s : List ℕ) (most torn : ℕ) → OfferedTo z image L j s most torn → j ≡ z .slots
+      → Offers z image L s × (most ≡ greatestBelow (z .words) (logOf z L image) (z .slots)) × (torn ≡ tornBelow (z .words) (logOf z L image) (z .slots))
+  offered-all j s most torn r e = (
     record {
       long = r .long;
       some = λ i h _. r .stamps i (rw e h);
       every = λ i h d. offered-none (z .words) (z .slots) (baseOf image) (logOf z L image) i (sym (r .stamps i (rw e h)) ∙ d);
     },
-    r .whole ∙ ap (λ n. max greatest (greatestBelow (z .words) (logOf z L image) n)) e,
+    r .whole ∙ ap (greatestBelow (z .words) (logOf z L image)) e,
+    r .counted ∙ ap (tornBelow (z .words) (logOf z L image)) e,
   )
 
 -- ---- the search for a lane's latest sequence: m is the place of the greatest timestamp that is offered
@@ -181,24 +214,27 @@ module _ (z : Sizes) (image : List ℕ) (L : ℕ) (pos : 0 < z .slots) (s : List
           )
 
 -- ---- the lanes below k
-pub record Scanned (z : Sizes) (image : List ℕ) (room k : ℕ) (a t : List ℕ) (b : Timestamp) (base : ℕ) : Type 0 where
+pub record Scanned (z : Sizes) (image : List ℕ) (room k : ℕ) (a t : List ℕ) (b : Timestamp) (base torn : ℕ) : Type 0 where
   pub trees : Tournaments room (z .slots) k a t
   pub offering : Offering z image k a
   pub least : b ≡ boundaryBelow z image k
   pub most : base ≡ max (baseOf image) (greatestOf z image k)
+  pub counted : torn ≡ tornOf z image k
 
 module _ (z : Sizes) (image : List ℕ) (room : ℕ) where
-  pub scanned-none : (a t : List ℕ) → length a ≡ room → length t ≡ room → Scanned z image room 0 a t None (getD image 0 0)
-  unfolding boundaryBelow greatestOf baseOf
+  pub scanned-none : (a t : List ℕ) → length a ≡ room → length t ≡ room → Scanned z image room 0 a t None (getD image 0 0) 0
+  unfolding boundaryBelow greatestOf tornOf baseOf
   scanned-none a t e f =
       record {
         trees = record { long = e; tree-long = f; at = λ L h. absurd (omega arith) };
         offering = record { at = λ L h. absurd (omega arith) };
         least = refl;
         most = omega arith;
+        counted = refl;
       }
 
-  module _ (i : z .lanes * z .slots ≤ room) (k : ℕ) (a t : List ℕ) (b : Timestamp) (base : ℕ) (r : Scanned z image room k a t b base) (l : k < z .lanes)
+  module _ (i : z .lanes * z .slots ≤ room) (k : ℕ) (a t : List ℕ) (b : Timestamp) (base torn : ℕ) (r : Scanned z image room k a t b base torn)
+      (l : k < z .lanes)
       (s u : List ℕ)
       (o : Offers z image k s) (w : Tournament s u) where
     fits : k * z .slots + z .slots ≤ length a
@@ -210,12 +246,13 @@ module _ (z : Sizes) (image : List ℕ) (room : ℕ) where
         (λ d. rw (eqb-true L k d, put-here (z .slots) k a s fits (o .long)) o)
         (λ d. rw (put-other (z .slots) k a s fits (o .long) L (eqb-false L k d)) (r .offering .at L (omega (arith, eqb-false L k d))))
 
-    pub scanned-more : (b′ : Timestamp) (base′ : ℕ)
+    pub scanned-more : (b′ : Timestamp) (base′ torn′ : ℕ)
         → b′ ≡ lesser b (contribution (latestIn z image k)) → base′ ≡ max base (greatestBelow (z .words) (logOf z k image) (z .slots))
+        → torn′ ≡ torn + tornBelow (z .words) (logOf z k image) (z .slots)
         → Scanned z image room (k + 1) (putMid (k * z .slots) (k * z .slots + z .slots - k * z .slots) a s)
-        (putMid (k * z .slots) (k * z .slots + z .slots - k * z .slots) t u) b′ base′
-    unfolding boundaryBelow greatestOf
-    scanned-more b′ base′ g h =
+        (putMid (k * z .slots) (k * z .slots + z .slots - k * z .slots) t u) b′ base′ torn′
+    unfolding boundaryBelow greatestOf tornOf
+    scanned-more b′ base′ torn′ g h f =
         rw (add-sub-cancel-left (k * z .slots) (z .slots))
         (record {
           trees = trees-put room (z .slots) k a t s u (r .trees .long) (r .trees .tree-long) (lane-inside z k room i l) (o .long) w (k + 1)
@@ -223,14 +260,20 @@ module _ (z : Sizes) (image : List ℕ) (room : ℕ) where
           offering = record { at = offers };
           least = rw (add-one, ← r .least) g;
           most = rw add-one (omega (arith, h, r .most));
+          counted = rw add-one (omega (arith, f, r .counted));
         })
 
-  pub scanned-all : (k : ℕ) (a t : List ℕ) (b : Timestamp) (base : ℕ) → Scanned z image room k a t b base → k ≡ z .lanes
-      → (b ≡ boundary z image) × (base ≡ newBase z image) × Offering z image (z .lanes) a × Tournaments room (z .slots) (z .lanes) a t
-  unfolding boundary newBase
-  scanned-all k a t b base r e = (
+  pub scanned-low : (k : ℕ) (a t : List ℕ) (b : Timestamp) (base torn : ℕ) → Scanned z image room k a t b base torn → torn ≤ k * z .slots
+  scanned-low k a t b base torn r = rw (r .counted) (torn-low z image k)
+
+  pub scanned-all : (k : ℕ) (a t : List ℕ) (b : Timestamp) (base torn : ℕ) → Scanned z image room k a t b base torn → k ≡ z .lanes
+      → (b ≡ boundary z image) × (base ≡ newBase z image) × (torn ≡ tornIn z image) × Offering z image (z .lanes) a
+      × Tournaments room (z .slots) (z .lanes) a t
+  unfolding boundary newBase tornIn
+  scanned-all k a t b base torn r e = (
     r .least ∙ ap (boundaryBelow z image) e,
     r .most ∙ ap (λ n. max (baseOf image) (greatestOf z image n)) e,
+    r .counted ∙ ap (tornOf z image) e,
     subst (λ n. Offering z image n a) e (r .offering),
     subst (λ n. Tournaments room (z .slots) n a t) e (r .trees),
   )

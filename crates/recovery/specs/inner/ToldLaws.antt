@@ -4,19 +4,20 @@ use Prim.Native.Nat.{ℕ}
 use mathlib.Core.Path.{_≡_, refl, sym, ap, _∙_}
 use mathlib.Core.Bool.{cond}
 use mathlib.Core.List.{List, [], _∷_}
+use lib.ListN.{getD}
 use Rattle.log.specs.declared.Timestamp.{Timestamp}
 use Rattle.recovery.specs.declared.Recovered.{Recovered}
 use Rattle.recovery.specs.declared.Recovered.the-variants.{Refused, Cut, Finished}
 use Rattle.recovery.specs.Recovery.{Told, told}
 
--- the answer with this boundary and count of entries undone
-unfoldable pub counted : Timestamp → (undone : List ℕ) → Recovered
-counted b [] = Cut
-counted b (u ∷ us) = Finished (record { boundary = b; undone = u })
+-- the answer with this boundary, count of entries undone and count of torn slots
+unfoldable pub counted : Timestamp → (undone torn : List ℕ) → Recovered
+counted b [] ts = Cut
+counted b (u ∷ us) ts = Finished (record { boundary = b; undone = u; torn = getD ts 0 0 })
 
 -- the answer that tells this
 unfoldable pub recoveredFor : Told → Recovered
-recoveredFor t = cond t.refused (Refused t.number) (counted t.boundary t.undone)
+recoveredFor t = cond t.refused (Refused t.number) (counted t.boundary t.undone t.torn)
 
 pub told-back : (a : Recovered) → recoveredFor (told a) ≡ a
 unfolding told recoveredFor counted

@@ -59,5 +59,5 @@ module _ (input : List ℕ) (w : wellFormed input ≡ true) where
       let number : recoverRefusal z found ≡ 0 =
       first-fails _ _ buffers-fit ∙ first-fails _ _ (ne-eqb (baseOf image % 2) 1 (λ q. omega arith)) ∙ first-end in
       recovered
-      ∙ ap (restartText z) (sym (recover-finished z noLimit 0 found (sym number) refl _ refl _ _ _ _ _ _ refl refl refl refl refl refl few))
+      ∙ ap (restartText z) (sym (recover-finished z noLimit 0 found (sym number) refl _ refl _ _ _ _ _ _ _ refl refl refl refl refl refl refl few))
       ∙ ap (λ l. finishedText z (stored l image) (boundary z image)) (take-all noLimit (recoveryStores z image) few)

@@ -9,13 +9,13 @@ use borrow.Author.Needs.{needs}
 use Rattle.image.specs.Image.{maxLanes, maxSlots, imageLength}
 use Rattle.image.specs.inner.ImageLaws.{sizes-in}
 use Rattle.recovery.specs.inner.LanesLaws.{numbers-small, lane-inside, lent-long}
-use Rattle.recovery.specs.inner.ScanLaws.{Scanned, scanned-none, scanned-more, scanned-all}
+use Rattle.recovery.specs.inner.ScanLaws.{Scanned, scanned-none, scanned-more, scanned-low, scanned-all}
 use Rattle.recovery.proofs.scan.scan.Statement.{statement}
 use Rattle.recovery.proofs.scan.scan.Tie as tie
 
 abbrev Inv-loop : tie.InvT-loop
 Inv-loop sizes nvm stamps₀ tree₀ slots found₀ lane₀ lane-end stamps tree found lane = (lane ≤ lane-end)
-    × Scanned sizes nvm (length stamps₀) lane stamps tree (found .boundary) (found .base)
+    × Scanned sizes nvm (length stamps₀) lane stamps tree (found .boundary) (found .base) (found .torn)
 
 abbrev μ-loop : tie.MeasureT-loop
 μ-loop sizes nvm stamps₀ tree₀ slots found₀ lane₀ lane-end stamps tree found lane = lane-end - lane
@@ -77,7 +77,10 @@ read-lane-requires c κs =
         search needs,
         (
           lent-long (start i .args .sizes .slots) (l .lane) (l .stamps) (rw (l .inv .1 .trees .long) (fits i)),
-          lent-long (start i .args .sizes .slots) (l .lane) (l .tree) (rw (l .inv .1 .trees .tree-long) (fits i)),
+          (
+            lent-long (start i .args .sizes .slots) (l .lane) (l .tree) (rw (l .inv .1 .trees .tree-long) (fits i)),
+            scanned-low _ _ _ (l .lane) (l .stamps) (l .tree) _ _ _ (l .inv .1),
+          ),
         ),
       ),
     )
@@ -95,8 +98,8 @@ loop-again c =
     let l = i .before .loop in
     let e = r .read-lane .ensures in (
       search needs,
-      scanned-more _ _ _ (start i .pre .1 .enough) (l .lane) (l .stamps) (l .tree) _ _ (l .inv .1) (search needs) _ _ (e .1 .1 .0) (e .1 .1 .1) _ _ (e .0)
-          (e .1 .0),
+      scanned-more _ _ _ (start i .pre .1 .enough) (l .lane) (l .stamps) (l .tree) _ _ _ (l .inv .1) (search needs) _ _ (e .1 .1 .1 .0) (e .1 .1 .1 .1)
+          _ _ _ (e .0) (e .1 .0) (e .1 .1 .0),
     )
 
 same-length : tie.Need-same-length Inv-loop μ-loop
@@ -108,8 +111,8 @@ same-length-2 c = c .before .loop .inv .1 .trees .tree-long ∙ sym (c .before .
 returns : tie.Need-returns Inv-loop μ-loop
 returns c =
     let l = c .before .loop in
-    let d = scanned-all _ _ _ (l .lane) (l .stamps) (l .tree) _ _ (l .inv .1) (omega arith) in
-    (d .0, (d .1, (d .2, d .3)))
+    let d = scanned-all _ _ _ (l .lane) (l .stamps) (l .tree) _ _ _ (l .inv .1) (omega arith) in
+    (d .0, (d .1, (d .2, (d .3, d .4))))
 
 pub scan-spec : {M : Type 1} → statement M
 scan-spec =

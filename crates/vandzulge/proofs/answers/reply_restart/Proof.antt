@@ -1,4 +1,4 @@
--- `answers::reply_restart` writes the answer's three words over all three where the call is taken.
+-- `answers::reply_restart` writes the answer's four words over all four where the call is taken.
 -- Assumes nothing.
 use mathlib.Core.Path.{_∙_}
 use borrow.Author.Needs.{needs}
