@@ -126,11 +126,7 @@ pub enum Recovery {
     /// Stores remain. The record is lost: only `recover` and `format` may follow.
     Cut,
     /// The boundary, how many entries were undone, and how many log slots were torn in the non-volatile memory that this call found.
-    Finished {
-        boundary: Option<u64>,
-        undone: u64,
-        torn: u64,
-    },
+    Finished { boundary: Option<u64>, undone: u64, torn: u64 },
 }
 
 /// What every call is lent. Nobody else may write it between two calls, but for write-backs.

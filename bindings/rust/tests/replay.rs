@@ -138,7 +138,7 @@ impl Replay<'_> {
             4 => {
                 let lane = input.word()? as usize;
                 match self.call(Call::Mark(lane)) {
-                    (0, [0, stamp, _]) => line(out, format_args!("mark {stamp}")),
+                    (0, [0, stamp, ..]) => line(out, format_args!("mark {stamp}")),
                     (0, [_, stamp, ..]) => line(out, format_args!("mark {stamp} dropped")),
                     (number, _) => line(out, format_args!("mark refused {number}")),
                 }
