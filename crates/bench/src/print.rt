@@ -37,11 +37,16 @@ fn answered(arena: &Arena, name: &[u8]) {
 
 fn recovered(arena: &Arena) {
     stamped(arena, b"boundary ");
-    undone(arena, b", undone ");
+    recovery_counts(arena);
 }
 
-fn undone(arena: &Arena, name: &[u8]) {
-    answered(arena, name);
+fn unbounded(arena: &Arena) {
+    text(b"boundary none");
+    recovery_counts(arena);
+}
+
+fn recovery_counts(arena: &Arena) {
+    answered(arena, b", undone ");
     counted(b", torn ", get(arena, STORED, second::TORN));
 }
 
@@ -63,7 +68,7 @@ fn answer(arena: &Arena) {
         second::LOGGED => logged(arena),
         second::COMMITTED | second::MARKED => stamped(arena, b"stamp "),
         second::RECOVERED => recovered(arena),
-        second::UNBOUNDED => undone(arena, b"boundary none, undone "),
+        second::UNBOUNDED => unbounded(arena),
         _ => word(kind),
     }
     text(b"\n");

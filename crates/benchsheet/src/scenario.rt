@@ -83,8 +83,8 @@ pub(crate) fn run(arena: &mut Arena) {
     );
 }
 
-// Has recovery cleared the address word of a slot that holds something after `limit` stores, and not its value word?
-// Lane 0 has written slots 0 and 1, lane 1 its slots 0 to 3, which are 34 to 37 of all.
+// How many slots recovery has cleared by half after `limit` stores: the address word of one that holds something, and
+// not its value word. Lane 0 has written slots 0 and 1, lane 1 its slots 0 to 3, which are 34 to 37 of all.
 fn half_cleared(limit: u64) -> u64 {
     match limit {
         5 | 7 | 73 | 75 | 77 | 79 => 1,

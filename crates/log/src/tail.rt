@@ -115,8 +115,8 @@ pub fn append(
     onward(slots, end)
 }
 
-// Replaces the timestamp in slot j, of which only the value word changes, and flushes that word. Its wrap bit is that of
-// the address word, whatever the slot says.
+// Replaces the timestamp in slot j, of which only the value word changes, and flushes that word. Its wrap bit is that
+// of the address word, whatever the slot says.
 pub fn restamp(cache: &mut [u64], flags: &mut [u8], start: usize, j: usize, lane: usize, stamp: u64)
     requires { ⌜ start + 2 * j + 1 < length (now cache) ⌝ }
     requires { ⌜ start + 2 * j + 1 < length (now flags) ⌝ }

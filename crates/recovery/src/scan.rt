@@ -24,7 +24,7 @@ pub struct Found {
 }
 
 // What one lane's slots hold: the greatest whole timestamp, 0 where there is none, and how many are torn.
-struct Held {
+struct Seen {
     greatest: u64,
     torn: usize,
 }
@@ -65,6 +65,7 @@ fn wrap_of(content: Content) -> u64
     }
 }
 
+// 1 for a torn slot, 0 for any other.
 fn one_if_torn(content: Content) -> usize
     ensures { λ r. ⌜ r ≡ oneIfTorn content ⌝ }
 {
@@ -90,7 +91,7 @@ fn offered(base: u64, stamp: u64) -> u64
 }
 
 // One pass over a lane's slots: what each offers, and what they hold.
-fn offer(sizes: Sizes, nvm: &[u64], lane: usize, stamps: &mut [u64]) -> Held
+fn offer(sizes: Sizes, nvm: &[u64], lane: usize, stamps: &mut [u64]) -> Seen
     requires { ⌜ IsImage sizes (now nvm) ⌝ }
     requires { ⌜ lane < sizes .lanes ⌝ }
     requires { ⌜ length (now stamps) ≡ sizes .slots ⌝ }
@@ -110,7 +111,7 @@ fn offer(sizes: Sizes, nvm: &[u64], lane: usize, stamps: &mut [u64]) -> Held
         greatest = greater(greatest, stamp);
         torn += one_if_torn(content);
     }
-    Held { greatest, torn }
+    Seen { greatest, torn }
 }
 
 // The timestamp of a lane's latest sequence. Those offered are tried from the greatest down, each over its entries, up
@@ -168,13 +169,13 @@ fn read_lane(
     ensures tree { λ r. ⌜ Tournament (now (stamps .exit)) (now (tree .exit)) ⌝ }
 {
     let boundary = found.boundary;
-    let held = offer(sizes, nvm, lane, stamps);
+    let seen = offer(sizes, nvm, lane, stamps);
     winners::build(stamps, tree);
     let newest = latest(sizes, nvm, lane, stamps, tree);
     Found {
         boundary: record::lesser(boundary, newest),
-        base: greater(found.base, held.greatest),
-        torn: found.torn + held.torn,
+        base: greater(found.base, seen.greatest),
+        torn: found.torn + seen.torn,
     }
 }
 

@@ -265,8 +265,9 @@ pub extern "C" fn vandzulge_mark(
 }
 
 // Recovers, making at most `limit` stores. The answer: 0s where the limit cut it short, and the record's words are then
-// as before, but there is no record; where it finished, 1 and 0, or 2 and the boundary, then the count of entries undone
-// and that of the slots that were torn in the non-volatile memory that this call found. The record's words are not read.
+// as before, but there is no record; where it finished, 1 and 0, or 2 and the boundary, then the count of entries
+// undone and that of the slots that were torn in the non-volatile memory that this call found. The record's words are
+// not read.
 #[no_mangle]
 pub extern "C" fn vandzulge_recover(
     words: usize,

@@ -38,7 +38,8 @@ unfolding slots.entryOf slots.stampOf slots.entryShape slots.stampShape slots.wh
     recoveries.boundaryBelow recoveries.boundary recoveries.completeOf recoveries.atOrAbove recoveries.undoneBefore recoveries.insert
     recoveries.ordered recoveries.undoneFrom recoveries.undone recoveries.undoEntries recoveries.undoSequences recoveries.undoStores
     recoveries.wholeStamp recoveries.greatestBelow recoveries.greatestOf recoveries.newBase recoveries.oneIfTorn recoveries.tornBelow recoveries.tornOf
-    recoveries.tornIn recoveries.zeros recoveries.recoveryStores recoveries.recoveredNvm recoveries.oddBase recoveries.recoverRefusal recoveries.allMade recoveries.recoverStep recoveries.told
+    recoveries.tornIn recoveries.zeros recoveries.recoveryStores recoveries.recoveredNvm recoveries.oddBase recoveries.recoverRefusal
+    recoveries.allMade recoveries.recoverStep recoveries.told
     events.nvmOf events.laneOf events.callStep events.vandzulge events.isTaken events.fitted events.fit events.partlyDrained events.bare
     events.foundOr events.afterStep events.afterFormat events.recoveredSystem events.afterRecovery events.afterFailure events.notOffered
     events.happens

@@ -11,8 +11,8 @@ use Rattle.record.specs.Record.{noLane, laneAt}
 use Rattle.record.specs.declared.Lane.{Lane}
 use Rattle.store.specs.declared.Answer.the-variants.{Refused, Done, Logged, Committed, Stale, Changed, Marked}
 use Rattle.recovery.specs.declared.Recovered.the-variants.{Cut, Finished}
-use Rattle.crash.specs.Events.{log, redo, validate, mark, drain, Event, call, writeBack, recover, fails, failsInDrain, failsAfterDrain, failsInRecovery}
-use Rattle.crash.specs.Events.{System, live, down, Reply, answered, recovered, failed, vandzulge, happens}
+use Rattle.crash.specs.Events.{log, redo, validate, mark, drain, Event, call, writeBack, recover, fails, failsInDrain, failsAfterDrain}
+use Rattle.crash.specs.Events.{failsInRecovery, System, live, down, Reply, answered, recovered, failed, vandzulge, happens}
 use Rattle.crash.proofs.worked.Everything.{everything}
 use Rattle.crash.proofs.worked.Worked.{small, junk, set0, copy, writeBacks, twoLanes}
 

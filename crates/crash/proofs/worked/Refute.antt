@@ -229,5 +229,6 @@ module _ (d : Design) (z : Sizes) (start : List ℕ) (es : List Event) where
 
 -- one name that opens all of this, for the lists that the checker computes
 unfoldable pub refuting : ℕ
-unfolding everything same differ wordsSides clockSides numbersIn answerSides countsIn countSides finishedSides recoveredSides worldAfter blank was differs is leftSides
+unfolding everything same differ wordsSides clockSides numbersIn answerSides countsIn countSides finishedSides recoveredSides worldAfter blank was differs is
+    leftSides
 refuting = 0

@@ -29,8 +29,8 @@ use Rattle.crash.proofs.worked.Refute.{wrong-words, wrong-clock, wrong-
 
 -- A refutation names the store, the sizes, the start words, the events, then the last event, and two lists: the numbers that the store has at its end,
 -- and those that the theorem gives. `wrong-recovery` looks at the data words after a recovery, `wrong-count` at how many entries it says to have undone and
--- how many torn slots to have found, `wrong-words` at the cached data words, `wrong-clock` at the clock, `wrong-answer` at the number and the timestamp of an answer.
--- `refl` computes the list and sees that they differ.
+-- how many torn slots to have found, `wrong-words` at the cached data words, `wrong-clock` at the clock, `wrong-answer` at the number and the timestamp of
+-- an answer. `refl` computes the list and sees that they differ.
 
 -- ---- how a store differs from ours
 -- in its calls
@@ -134,7 +134,8 @@ joined z low high = take (1 + z.words) low ++ drop (1 + z.words) high
 
 -- one name that opens all of this
 unfoldable made : ℕ
-unfolding refuting writeBacks calling logging redoing validating marking recoverBy storing finishedAs telling withTorn base clearing withCache withLaneOf laneIn joined
+unfolding refuting writeBacks calling logging redoing validating marking recoverBy storing finishedAs telling withTorn base clearing withCache withLaneOf
+    laneIn joined
 made = 0
 
 -- ---- the traps

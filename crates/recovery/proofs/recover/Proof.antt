@@ -59,8 +59,9 @@ returns-2 c =
     let e = m .before .before in
     let r = e .before in
     let b = r .before .before .before .before in
+    let d = m .recover-nvm .ensures in
     rw (b .start-record .ensures)
-    (recover-cut _ _ _ _ (r .recover-refusal .ensures) (e .if1 .left) _ (m .recover-nvm .ensures .1 .1 .0) _ (m .recover-nvm .ensures .1 .1 .1 .1) (c .if2 .taken))
+    (recover-cut _ _ _ _ (r .recover-refusal .ensures) (e .if1 .left) _ (d .1 .1 .0) _ (d .1 .1 .1 .1) (c .if2 .taken))
 
 refill-requires : tie.Need-refill-requires
 refill-requires c κs =
