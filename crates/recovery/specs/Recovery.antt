@@ -90,6 +90,11 @@ greatestOf z image (suc k) = max (greatestOf z image k) (greatestBelow z.words (
 unfoldable pub newBase : Sizes → List ℕ → ℕ
 newBase z image = max (baseOf image) (greatestOf z image z.lanes)
 
+-- n words from `at` on become 0, in rising order
+unfoldable pub zeros : (at n : ℕ) → List Store
+zeros at zero = []
+zeros at (suc n) = record { at = at; value = 0 } ∷ zeros (suc at) n
+
 -- ---- 4. how many slots are torn
 unfoldable pub oneIfTorn : Content → ℕ
 oneIfTorn Empty = 0
@@ -109,11 +114,6 @@ tornOf z image (suc k) = tornOf z image k + tornBelow z.words (logOf z k image) 
 
 unfoldable pub tornIn : Sizes → List ℕ → ℕ
 tornIn z image = tornOf z image z.lanes
-
--- n words from `at` on become 0, in rising order
-unfoldable pub zeros : (at n : ℕ) → List Store
-zeros at zero = []
-zeros at (suc n) = record { at = at; value = 0 } ∷ zeros (suc at) n
 
 -- ---- all stores, in order: the entries undone, the base timestamp, the log words
 unfoldable pub recoveryStores : Sizes → List ℕ → List Store

@@ -47,7 +47,7 @@ pub struct Restart {
     pub state: Record,
 }
 
-// The boundary, how many stores were due, those that undo entries, and all, and how many slots were torn.
+// The boundary; how many stores were due, those that undo entries and all; how many slots were torn.
 struct Due {
     boundary: Timestamp,
     undone: usize,
