@@ -180,7 +180,7 @@ pub fn drain(words: usize, lanes: usize, slots: usize, cache: &[u64], nvm: &mut 
     }
 }
 
-/// Log of a transaction. Answer: count, timestamp, 0; all 0 where it writes nothing.
+/// Log of a transaction. Answer: count, timestamp, 0, 0; all 0 where it writes nothing.
 pub fn log(
     words: usize,
     lanes: usize,
@@ -216,7 +216,7 @@ pub fn log(
     }
 }
 
-/// Redo. Answer: 1, timestamp, 0; all 0 where it is stale.
+/// Redo. Answer: 1, timestamp, 0, 0; all 0 where it is stale.
 pub fn redo(
     words: usize,
     lanes: usize,
@@ -249,7 +249,7 @@ pub fn redo(
     }
 }
 
-/// Validate with a transaction. Answer: 1, timestamp, 0; all 0 where it changed.
+/// Validate with a transaction. Answer: 1, timestamp, 0, 0; all 0 where it changed.
 pub fn validate(
     words: usize,
     lanes: usize,
@@ -285,7 +285,7 @@ pub fn validate(
     }
 }
 
-/// Mark. Answer: 1 where a logged transaction was dropped, else 0; timestamp; 0.
+/// Mark. Answer: 1 where a logged transaction was dropped, else 0; timestamp; 0, 0.
 pub fn mark(
     words: usize,
     lanes: usize,
