@@ -73,27 +73,20 @@ fn new_base(arena: &Arena) -> u64 {
     greatest
 }
 
-// 1 for a slot that holds something, but neither an entry nor a timestamp.
-fn torn_at(arena: &Arena, lane: u64, slot: u64) -> u64 {
-    let at = reading::place(arena, lane, slot);
-    let empty = get(arena, NVM, at) == 0 && get(arena, NVM, plus(at, 1)) == 0;
-    let kind = cell(arena, DECODED, reading::row_of(lane, slot), reading::KIND);
-    only(!empty && kind == reading::NEITHER, 1)
+// 1 for a torn slot, whose words stand here, 0 for any other.
+fn torn_at(arena: &Arena, at: u64) -> u64 {
+    let words = get(arena, STATE, WORDS);
+    let address = get(arena, NVM, at);
+    let value = get(arena, NVM, plus(at, 1));
+    only(reading::is_torn(words, address, value), 1)
 }
 
-fn torn_of(arena: &Arena, lane: u64) -> u64 {
-    let mut torn = 0;
-    for slot in 0..get(arena, STATE, SLOTS) {
-        torn = plus(torn, torn_at(arena, lane, slot));
-    }
-    torn
-}
-
-// How many slots are torn.
+// How many slots are torn. The logs stand side by side behind the data words, so the lanes do not matter.
 fn torn_slots(arena: &Arena) -> u64 {
+    let start = plus(1, get(arena, STATE, WORDS));
     let mut torn = 0;
-    for lane in 0..get(arena, STATE, LANES) {
-        torn = plus(torn, torn_of(arena, lane));
+    for k in 0..times(get(arena, STATE, LANES), get(arena, STATE, SLOTS)) {
+        torn = plus(torn, torn_at(arena, plus(start, k << 1)));
     }
     torn
 }
