@@ -83,5 +83,5 @@ module _ (z : Sizes) (limit number : ℕ) (m : Machine) (e : number ≡ recoverR
         → state ≡ startRecord (getD nvm 0 0) → cache ≡ nvm → flags ≡ replicate (imageLength z) 0 → all ≤ limit
         → record { answer = Finished (record { boundary = b; undone = undone; torn = torn }); machine = machineOf state cache nvm flags }
         ≡ recoverStep z limit m
-    unfolding recoverStep allMade started baseOf
+    unfolding recoverStep allMade started baseOf tornIn
     recover-finished state cache nvm flags b undone torn e₁ e₂ e₀ e₃ e₄ e₅ e₆ l = rw (e₁, e₂, e₀, e₄, e₅, e₆, e₃, ← e, h, ← a, le-leb all limit l)
