@@ -5,24 +5,33 @@ use mathlib.Core.Bool.{Bool, false, cond, not}
 use mathlib.Core.List.{List, [], _∷_, _++_}
 use mathlib.Core.Option.{Option, none, some}
 use lib.ListN.{getD, take, replicate}
+use Rattle.txn.specs.Txn.{Rule, current}
 use Rattle.image.specs.Image.{imageLength}
 use Rattle.image.specs.Flush.{flushed, writtenBack, drainedNvm}
 use Rattle.image.specs.declared.Sizes.{Sizes}
 use Rattle.record.specs.Record.{startRecord}
 use Rattle.store.specs.Machine.{Machine, Step, said}
-use Rattle.store.specs.Calls.{formatStep, writeBackStep, drainStep, logStep, redoStep, validateStep, markStep}
+use Rattle.store.specs.Calls.{formatStep, writeBackStep, drainStep, logStepBy, redoStep, validateStepBy, markStep}
 use Rattle.store.specs.declared.Answer.{Answer}
 use Rattle.recovery.specs.Recovery.{Restarted, recoverStep, recoveredNvm}
 use Rattle.recovery.specs.declared.Recovered.{Recovered}
 use Rattle.recovery.specs.declared.Recovered.the-variants.{Refused, Cut, Finished}
 
--- the calls that take a record: the four steps, and Drain
+-- the calls that take a record: the four steps, and Drain. No function offers a Log or a Validate by the former rule, under which POKE was taken: they are
+-- here so that a store which carries over what it logged and committed under that rule is covered too
 pub data Call : Type 0 where
-  log : (lane : ℕ) (txn : List ℕ) → Call
+  logBy : Rule → (lane : ℕ) (txn : List ℕ) → Call
   redo : (lane : ℕ) → Call
-  validate : (lane : ℕ) (txn : List ℕ) → Call
+  validateBy : Rule → (lane : ℕ) (txn : List ℕ) → Call
   mark : (lane : ℕ) → Call
   drain : (lane : ℕ) → Call
+
+-- Log and Validate as they are offered
+abbrev pub log : (lane : ℕ) (txn : List ℕ) → Call
+log = logBy current
+
+abbrev pub validate : (lane : ℕ) (txn : List ℕ) → Call
+validate = validateBy current
 
 -- what a failure leaves in cache and flags: anything
 pub record Junk : Type 0 where
@@ -71,16 +80,16 @@ pub record Happened : Type 0 where
 
 -- ---- calls
 unfoldable pub laneOf : Call → ℕ
-laneOf (log L f) = L
+laneOf (logBy r L f) = L
 laneOf (redo L) = L
-laneOf (validate L f) = L
+laneOf (validateBy r L f) = L
 laneOf (mark L) = L
 laneOf (drain L) = L
 
 unfoldable pub callStep : Sizes → Call → Machine → Step
-callStep z (log L f) m = logStep z L f m
+callStep z (logBy r L f) m = logStepBy r z L f m
 callStep z (redo L) m = redoStep z L m
-callStep z (validate L f) m = validateStep z L f m
+callStep z (validateBy r L f) m = validateStepBy r z L f m
 callStep z (mark L) m = markStep z L m
 callStep z (drain L) m = drainStep z L m
 

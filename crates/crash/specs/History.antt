@@ -18,7 +18,7 @@ use Rattle.store.specs.declared.Answer.{Answer}
 use Rattle.store.specs.declared.Answer.the-variants as answer
 use Rattle.recovery.specs.Recovery.{boundary, newBase, told}
 use Rattle.recovery.specs.declared.Recovered.{Recovered}
-use Rattle.crash.specs.Events.{Call, log, redo, validate, mark, drain, laneOf}
+use Rattle.crash.specs.Events.{Call, logBy, redo, validateBy, mark, drain, laneOf}
 use Rattle.crash.specs.Events.{Event, format, writeBack, call, recover, fails, failsInDrain, failsAfterDrain, failsInRecovery}
 use Rattle.crash.specs.Events.{Reply, answered, recovered, failed, ignored}
 
@@ -111,9 +111,9 @@ isCounted (n ∷ ns) = leb 1 n
 
 -- a call that was taken, by what it answered
 unfoldable pub taken : Call → Said → History → History
-taken (log L f) t h = cond (isCounted t.count) (stamped L (some f) [] (settled L h)) (settled L h)
+taken (logBy r L f) t h = cond (isCounted t.count) (stamped L (some f) [] (settled L h)) (settled L h)
 taken (redo L) t h = cond t.stale (settled L h) (stamped L none (heldBy (pageAt h L .held)) (settled L h))
-taken (validate L f) t h = cond t.changed (released L (settled L h)) (stamped L none (f ∷ []) (settled L h))
+taken (validateBy r L f) t h = cond t.changed (released L (settled L h)) (stamped L none (f ∷ []) (settled L h))
 taken (mark L) t h = stamped L none [] (settled L h)
 taken (drain L) t h = settled L h
 
@@ -200,32 +200,32 @@ clockSpent h = leb (2 ^ 64 - 2) h.clock
 
 -- a call's causes for refusal, in order; 1 and 2 never hold, and 9 is not the history's to tell, since it has no logs
 unfoldable pub causesBy : Sizes → Call → History → List Cause
-causesBy z (log L f) h =
+causesBy z (logBy r L f) h =
     badLane z L
-    ∷ badTxn z f
+    ∷ badTxn r z f
     ∷ record { number = 6; holds = holdsOne L h }
     ∷ record { number = 8; holds = leb 1 (length (writesNow z f h)) && clockSpent h }
     ∷ []
 causesBy z (redo L) h = badLane z L ∷ notHeld L h ∷ record { number = 8; holds = clockSpent h } ∷ []
-causesBy z (validate L f) h = badLane z L ∷ badTxn z f ∷ notHeld L h ∷ record { number = 8; holds = clockSpent h } ∷ []
+causesBy z (validateBy r L f) h = badLane z L ∷ badTxn r z f ∷ notHeld L h ∷ record { number = 8; holds = clockSpent h } ∷ []
 causesBy z (mark L) h = badLane z L ∷ record { number = 8; holds = clockSpent h } ∷ []
 causesBy z (drain L) h = badLane z L ∷ []
 
 -- how many slots a call appends to its lane's log
 unfoldable pub slotsBy : Sizes → Call → History → ℕ
-slotsBy z (log L f) h = let n = length (writesNow z f h) in cond (eqb n 0) 0 (n + 1)
+slotsBy z (logBy r L f) h = let n = length (writesNow z f h) in cond (eqb n 0) 0 (n + 1)
 slotsBy z (redo L) h = 0
-slotsBy z (validate L f) h = 0
+slotsBy z (validateBy r L f) h = 0
 slotsBy z (mark L) h = 1
 slotsBy z (drain L) h = 0
 
 -- the answer of a call that is not refused
 unfoldable pub takenAnswer : Sizes → Call → History → Answer
-takenAnswer z (log L f) h =
+takenAnswer z (logBy r L f) h =
     let n = length (writesNow z f h) in
     cond (eqb n 0) answer.NoWrites (answer.Logged (record { count = n; stamp = h.clock + 2 }))
 takenAnswer z (redo L) h = cond (commitAbove (pageAt h L .newest) h.commits) answer.Stale (answer.Committed (h.clock + 2))
-takenAnswer z (validate L f) h =
+takenAnswer z (validateBy r L f) h =
     cond (sameOlds (writesNow z f h) (writesLogged z L h)) (answer.Committed (h.clock + 2)) answer.Changed
 takenAnswer z (mark L) h = answer.Marked (record { stamp = h.clock + 2; dropped = holdsOne L h })
 takenAnswer z (drain L) h = answer.Done

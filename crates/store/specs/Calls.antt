@@ -6,7 +6,7 @@ use lib.Dec.{leb, ltb, eqb}
 use lib.ListN.{length, take, replicate}
 use Rattle.slot.specs.declared.Content.{Content}
 use Rattle.slot.specs.declared.Content.the-variants.{Empty, Torn, Entry, Stamp}
-use Rattle.txn.specs.Txn.{maxWrites, txnOk, run}
+use Rattle.txn.specs.Txn.{maxWrites, Rule, current, txnBy, run}
 use Rattle.txn.specs.declared.Write.{Write}
 use Rattle.image.specs.Image.{buffersOk, imageLength, dataOf, logOf, logStart}
 use Rattle.image.specs.Flush.{flushAll, writtenBack, drainedNvm, drainedFlags}
@@ -33,8 +33,8 @@ badRecord z m = record { number = 2; holds = not (recordOk z m.state) }
 unfoldable pub badLane : Sizes → ℕ → Cause
 badLane z L = record { number = 3; holds = leb z.lanes L }
 
-unfoldable pub badTxn : Sizes → List ℕ → Cause
-badTxn z f = record { number = 5; holds = not (txnOk maxWrites z.words f) }
+unfoldable pub badTxn : Rule → Sizes → List ℕ → Cause
+badTxn r z f = record { number = 5; holds = not (txnBy r maxWrites z.words f) }
 
 unfoldable pub notLogged : ℕ → Machine → Cause
 notLogged L m = record { number = 7; holds = not (isLogged (laneAt m.state L .phase)) }
@@ -91,19 +91,19 @@ drainRefusal z L m = firstCause (badBuffers z m ∷ badRecord z m ∷ badLane z 
 unfoldable pub drainStep : Sizes → ℕ → Machine → Step
 drainStep z L m = unless (drainRefusal z L m) m (record { answer = Done; machine = drained z L m })
 
--- ---- Log
+-- ---- Log, by the rule that its transaction is checked by: the current one in the call that is offered
 -- the writes of a transaction on the cached data words
 unfoldable pub writesOn : Sizes → List ℕ → Machine → List Write
 writesOn z f m = run z.words f (dataOf z m.cache)
 
-unfoldable pub logRefusal : Sizes → ℕ → List ℕ → Machine → ℕ
-logRefusal z L f m =
+unfoldable pub logRefusalBy : Rule → Sizes → ℕ → List ℕ → Machine → ℕ
+logRefusalBy r z L f m =
     let n = length (writesOn z f m) in
     firstCause
     (badBuffers z m
     ∷ badRecord z m
     ∷ badLane z L
-    ∷ badTxn z f
+    ∷ badTxn r z f
     ∷ record { number = 6; holds = isLogged (laneAt m.state L .phase) }
     ∷ record { number = 8; holds = leb 1 n && spent m.state }
     ∷ record { number = 9; holds = leb 1 n && wouldHit z L (n + 1) m }
@@ -123,13 +123,19 @@ logged z L ws m =
     let l = laneAt m.state L in
     appended z L ws (Holds (record { first = l.next; count = length ws; stamp = m.state .clock + 2 })) (pairsOf maxWrites ws) m
 
-unfoldable pub logStep : Sizes → ℕ → List ℕ → Machine → Step
-logStep z L f m =
+unfoldable pub logStepBy : Rule → Sizes → ℕ → List ℕ → Machine → Step
+logStepBy r z L f m =
     let ws = writesOn z f m in
-    unless (logRefusal z L f m) m
+    unless (logRefusalBy r z L f m) m
     (cond (eqb (length ws) 0)
     (record { answer = NoWrites; machine = drained z L m })
     (record { answer = Logged (record { count = length ws; stamp = m.state .clock + 2 }); machine = logged z L ws (drained z L m) }))
+
+abbrev pub logRefusal : Sizes → ℕ → List ℕ → Machine → ℕ
+logRefusal = logRefusalBy current
+
+abbrev pub logStep : Sizes → ℕ → List ℕ → Machine → Step
+logStep = logStepBy current
 
 -- ---- commit: the pairs in order, then the new timestamp in the value word of the sequence's timestamp
 unfoldable pub pairStores : List Pair → List Store
@@ -165,9 +171,9 @@ redoStep z L m =
     (record { answer = Stale; machine = drained z L m })
     (record { answer = Committed (m.state .clock + 2); machine = committed z L (redoPairs L m) (drained z L m) }))
 
--- ---- Validate
-unfoldable pub validateRefusal : Sizes → ℕ → List ℕ → Machine → ℕ
-validateRefusal z L f m = firstCause (badBuffers z m ∷ badRecord z m ∷ badLane z L ∷ badTxn z f ∷ notLogged L m ∷ clockSpent m ∷ [])
+-- ---- Validate, by a rule as Log
+unfoldable pub validateRefusalBy : Rule → Sizes → ℕ → List ℕ → Machine → ℕ
+validateRefusalBy r z L f m = firstCause (badBuffers z m ∷ badRecord z m ∷ badLane z L ∷ badTxn r z f ∷ notLogged L m ∷ clockSpent m ∷ [])
 
 -- does a slot hold a whole entry of this write's word and old value; wrap bits are not compared
 unfoldable pub entryMatches : Write → Content → Bool
@@ -191,13 +197,19 @@ matches z L ws m =
 unfoldable pub released : ℕ → Machine → Machine
 released L m = record { state = withLane m.state L (idleLane (laneAt m.state L)); cache = m.cache; nvm = m.nvm; flags = m.flags }
 
-unfoldable pub validateStep : Sizes → ℕ → List ℕ → Machine → Step
-validateStep z L f m =
+unfoldable pub validateStepBy : Rule → Sizes → ℕ → List ℕ → Machine → Step
+validateStepBy r z L f m =
     let ws = writesOn z f m in
-    unless (validateRefusal z L f m) m
+    unless (validateRefusalBy r z L f m) m
     (cond (matches z L ws m)
     (record { answer = Committed (m.state .clock + 2); machine = committed z L (pairsOf (length ws) ws) (drained z L m) })
     (record { answer = Changed; machine = released L (drained z L m) }))
+
+abbrev pub validateRefusal : Sizes → ℕ → List ℕ → Machine → ℕ
+validateRefusal = validateRefusalBy current
+
+abbrev pub validateStep : Sizes → ℕ → List ℕ → Machine → Step
+validateStep = validateStepBy current
 
 -- ---- Mark
 unfoldable pub markRefusal : Sizes → ℕ → Machine → ℕ

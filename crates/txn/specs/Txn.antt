@@ -47,7 +47,7 @@ copyOk W x = eqb x.code 2 && (ltb x.a W && (ltb x.b W && eqb x.k 0))
 unfoldable pub addOk : ℕ → Instruction → Bool
 addOk W x = eqb x.code 3 && (ltb x.a W && ltb x.b W)
 
--- POKE: the word whose number is word b modulo W becomes k
+-- POKE, which is withdrawn: the word whose number is word b modulo W becomes k
 unfoldable pub pokeOk : ℕ → Instruction → Bool
 pokeOk W x = eqb x.code 4 && (eqb x.a 0 && ltb x.b W)
 
@@ -56,16 +56,29 @@ unfoldable pub skipOk : ℕ → ℕ → Instruction → Bool
 skipOk W after x = eqb x.code 5 && (eqb x.a 0 && (ltb x.b W && (leb 1 x.k && (leb x.k maxDistance && leb x.k after))))
 
 unfoldable pub instructionOk : (W after : ℕ) → Instruction → Bool
-instructionOk W after x = setOk W x || (copyOk W x || (addOk W x || (pokeOk W x || skipOk W after x)))
+instructionOk W after x = setOk W x || (copyOk W x || (addOk W x || skipOk W after x))
+
+-- A new transaction goes by the current rule. By the former one, under which a lane may have logged what it still holds, it could have POKEs too
+pub data Rule : Type 0 where
+  current : Rule
+  former : Rule
+
+unfoldable pub instructionBy : Rule → (W after : ℕ) → Instruction → Bool
+instructionBy current W after x = instructionOk W after x
+instructionBy former W after x = instructionOk W after x || pokeOk W x
 
 -- all instructions, those that a run may pass over too
-unfoldable pub allOk : ℕ → List Instruction → Bool
-allOk W [] = true
-allOk W (x ∷ xs) = instructionOk W (length xs) x && allOk W xs
+unfoldable pub allBy : Rule → ℕ → List Instruction → Bool
+allBy r W [] = true
+allBy r W (x ∷ xs) = instructionBy r W (length xs) x && allBy r W xs
 
 -- the words are 1 to `most` instructions, each well formed
-unfoldable pub txnOk : (most W : ℕ) → List ℕ → Bool
-txnOk most W f = eqb (length f % 4) 0 && (leb 1 (length f / 4) && (leb (length f / 4) most && allOk W (instructions f)))
+unfoldable pub txnBy : Rule → (most W : ℕ) → List ℕ → Bool
+txnBy r most W f = eqb (length f % 4) 0 && (leb 1 (length f / 4) && (leb (length f / 4) most && allBy r W (instructions f)))
+
+-- of a new transaction
+abbrev pub txnOk : (most W : ℕ) → List ℕ → Bool
+txnOk = txnBy current
 
 -- ---- the run
 -- the word that an instruction writes, where `ws` are the words so far

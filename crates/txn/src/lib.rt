@@ -52,7 +52,6 @@ fn instruction_ok(code: u64, a: u64, b: u64, k: u64, words: usize, after: usize)
         1 => b == 0,
         2 => k == 0,
         3 => true,
-        4 => a == 0,
         5 => a == 0 && distance_ok(k, after),
         _ => false,
     }
@@ -114,18 +113,7 @@ fn value(
     memory[word]
 }
 
-// The word that an instruction other than SKIP writes, where x is the value of word b.
-fn target(code: u64, a: u64, x: u64, words: usize) -> usize
-    requires { ⌜ 0 < words ⌝ }
-    ensures { λ r. ⌜ r ≡ cond (eqb code 4) (x % words) a ⌝ }
-{
-    if code == 4 {
-        return x as usize % words;
-    }
-    a as usize
-}
-
-// What it writes there.
+// What an instruction other than SKIP writes, where x is the value of word b.
 fn result(code: u64, x: u64, k: u64) -> u64
     ensures { λ r. ⌜ r ≡ cond (eqb code 2) x (cond (eqb code 3) ((x + k) % 2 ^ 64) k) ⌝ }
 {
@@ -179,7 +167,7 @@ pub fn run(txn: &[u64], memory: &[u64]) -> Writes
             i += distance(x, k) as usize;
             continue;
         }
-        let word = target(code, txn[at + 1], x, memory.len());
+        let word = txn[at + 1] as usize;
         let old = value(&words, &news, &last, memory, word);
         let new = result(code, x, k);
         list[count] = Write { word, old, new };

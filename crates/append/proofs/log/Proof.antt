@@ -3,7 +3,7 @@
 use mathlib.Core.Path.{sym, _∙_}
 use borrow.Author.Needs.{needs}
 use Rattle.record.proofs.Lengths.{lanes-eight}
-use Rattle.store.specs.Calls.{logStep}
+use Rattle.store.specs.Calls.{logStepBy}
 use Rattle.store.specs.inner.StoreLaws.{step-refused}
 use Rattle.append.specs.inner.LogMarkLaws.{log-known, log-clock, after-drain, log-empty, log-writes}
 use Rattle.append.proofs.log.Statement.{statement}
@@ -25,7 +25,7 @@ same-length-3 : tie.Need-same-length-3
 same-length-3 c = search needs
 
 returns : tie.Need-returns
-unfolding logStep
+unfolding logStepBy
 returns c = rw (c .refused .ensures) (step-refused _ _ _ _ (c .before .before .before .plan-log .ensures .number) (c .before .if1 .taken))
 
 drain-requires : tie.Need-drain-requires

@@ -12,7 +12,7 @@ use lib.Seq.{length-take-le}
 use borrow.Author.Tests.{ne-eqb, le-leb, not-false}
 use Rattle.laws.specs.inner.Tests.{split}
 use Rattle.laws.specs.inner.Lists.{none, All-map}
-use Rattle.txn.specs.Txn.{maxWrites, txnOk}
+use Rattle.txn.specs.Txn.{maxWrites, current, txnOk}
 use Rattle.txn.specs.inner.Writes.{writesOf}
 use Rattle.txn.specs.inner.TxnLaws.{few-writes, run-low}
 use Rattle.txn.specs.declared.Write.{Write}
@@ -38,8 +38,8 @@ use Rattle.record.specs.declared.Phase.the-variants.{Idle, Holds}
 use Rattle.record.specs.declared.Record.{Record}
 use Rattle.store.specs.declared.Answer.the-variants.{NoWrites, Logged, Marked}
 use Rattle.store.specs.Machine.{Machine, Step, Cause, firstCause}
-use Rattle.store.specs.Calls.{badBuffers, badRecord, badLane, badTxn, clockSpent, drainRefusal, drained, changed, wouldHit, writesOn, logRefusal, appended}
-use Rattle.store.specs.Calls.{logged, logStep, markRefusal, markStep}
+use Rattle.store.specs.Calls.{badBuffers, badRecord, badLane, badTxn, clockSpent, drainRefusal, drained, changed, wouldHit, writesOn, appended}
+use Rattle.store.specs.Calls.{logRefusalBy, logRefusal, logged, logStepBy, logStep, markRefusal, markStep}
 use Rattle.store.specs.Interface.{machineOf}
 use Rattle.store.specs.inner.Checked.{Checked, drainedState}
 use Rattle.store.specs.inner.StoreLaws.{first-holds, first-fails, first-none, first-end, refuses-txn, passes-txn, checked, lane-small, at-lane, after-lane}
@@ -124,9 +124,9 @@ first-more (c ∷ cs) ds h =
 
 module _ (z : Sizes) (L : ℕ) (f : List ℕ) (m : Machine) where
   log-unless : (logChecks z L f m ≡ 0 → ⊥) → logRefusal z L f m ≡ logChecks z L f m
-  unfolding logRefusal logChecks
+  unfolding logRefusalBy logChecks
   log-unless h =
-      first-more (badBuffers z m ∷ badRecord z m ∷ badLane z L ∷ badTxn z f ∷ record { number = 6; holds = isLogged (laneAt (m .state) L .phase) } ∷ []) _ h
+      first-more (badBuffers z m ∷ badRecord z m ∷ badLane z L ∷ badTxn current z f ∷ record { number = 6; holds = isLogged (laneAt (m .state) L .phase) } ∷ []) _ h
 
   pub log-refused : (number : ℕ) → number ≡ logChecks z L f m → (number ≡ 0 → ⊥) → number ≡ logRefusal z L f m
   log-refused number e h = e ∙ sym (log-unless (λ d. h (e ∙ d)))
@@ -154,7 +154,7 @@ module _ (z : Sizes) (L : ℕ) (f : List ℕ) (m : Machine) where
       (record { number = 8; holds = leb 1 (length (writesOn z f m)) && spent (m .state) }
       ∷ record { number = 9; holds = leb 1 (length (writesOn z f m)) && wouldHit z L (length (writesOn z f m) + 1) m }
       ∷ [])
-  unfolding logRefusal
+  unfolding logRefusalBy
   log-left u = after-lane z L m _ (u .at-lane) ∙ passes-txn _ z f (u .txn-ok) ∙ first-fails _ _ (u .idle)
 
   module _ (u : Unrefused) (w : Writes) (v : w ≡ writesOf maxWrites (writesOn z f m)) where
@@ -237,8 +237,8 @@ module _ (z : Sizes) (state : Record) (cache nvm flags : List ℕ) (L : ℕ) (pl
         checked = k;
         small = lane-small z L (k .image .sizes-ok) (k .lane-below);
         writes = p .writes e;
-        few = few-writes maxWrites (z .words) f (dataOf z cache) (u .txn-ok);
-        low = All-map (λ w h. omega (arith, sizes-in z (k .image .sizes-ok) .words-high)) (run-low maxWrites (z .words) f (dataOf z cache) (u .txn-ok));
+        few = few-writes current maxWrites (z .words) f (dataOf z cache) (u .txn-ok);
+        low = All-map (λ w h. omega (arith, sizes-in z (k .image .sizes-ok) .words-high)) (run-low current maxWrites (z .words) f (dataOf z cache) (u .txn-ok));
         latest = p .latest e;
       }
 
@@ -372,7 +372,7 @@ module _ (z : Sizes) (L : ℕ) (state : Record) (cache nvm flags : List ℕ) (pl
     -- a Log of a transaction that writes nothing drains its lane
     pub log-empty : (r : Record) → r ≡ withLane state L (drainedLane (plan .latest) (laneAt state L)) → plan .writes .count ≡ 0
         → record { answer = NoWrites; machine = machineOf r cache nvm′ flags′ } ≡ logStep z L f (machineOf state cache nvm flags)
-    unfolding logStep
+    unfolding logStepBy
     log-empty r d h =
         rw (drained-is z state r (plan .latest) cache L (p .latest e) d, now-drained, sym (count-of _ _ (p .writes e)) ∙ h)
         (step-taken _ _ _ _ (p .number) e)
@@ -381,7 +381,7 @@ module _ (z : Sizes) (L : ℕ) (state : Record) (cache nvm flags : List ℕ) (pl
     pub log-writes : (step : Step)
         → step ≡ loggedStep z L (take (plan .writes .count) (plan .writes .list)) (machineOf (drainedState z cache L state) cache nvm′ flags′)
         → (plan .writes .count ≡ 0 → ⊥) → step ≡ logStep z L f (machineOf state cache nvm flags)
-    unfolding logStep loggedStep
+    unfolding logStepBy loggedStep
     log-writes step a h =
         let k = log-known z state cache nvm flags L plan f p e in
         let n = count-of _ _ (k .writes) in

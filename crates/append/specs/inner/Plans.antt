@@ -4,7 +4,7 @@ use Prim.Native.Nat.{ℕ, _+_, _^_, _≤_, _<_}
 use mathlib.Core.Path.{_≡_}
 use mathlib.Core.List.{List, [], _∷_}
 use lib.ListN.{length}
-use Rattle.txn.specs.Txn.{maxWrites}
+use Rattle.txn.specs.Txn.{maxWrites, current}
 use Rattle.txn.specs.inner.Writes.{writesOf}
 use Rattle.txn.specs.declared.Write.{Write}
 use Rattle.txn.specs.declared.Writes.{Writes}
@@ -38,7 +38,7 @@ logChecks z L f m =
     (badBuffers z m
     ∷ badRecord z m
     ∷ badLane z L
-    ∷ badTxn z f
+    ∷ badTxn current z f
     ∷ record { number = 6; holds = isLogged (laneAt m.state L .phase) }
     ∷ [])
 

@@ -6,7 +6,7 @@ use mathlib.Core.Bool.{true}
 use Rattle.record.proofs.Lengths.{lanes-eight}
 use Rattle.store.specs.inner.StoreLaws.{lane-small, step-refused}
 use Rattle.store.specs.inner.CachedWritesLaws.{full-list, writes-few, writes-run, writes-low}
-use Rattle.store.specs.Calls.{validateStep}
+use Rattle.store.specs.Calls.{validateStepBy}
 use Rattle.commit.specs.inner.CommitLaws.{Accepted, validate-accepted, committable, validate-taken}
 use borrow.Author.Needs.{needs}
 use Rattle.commit.proofs.validate.Statement.{statement}
@@ -35,7 +35,7 @@ same-length-3 : tie.Need-same-length-3
 same-length-3 c = search needs
 
 returns : tie.Need-returns
-unfolding validateStep
+unfolding validateStepBy
 returns c = rw (c .refused .ensures) (step-refused _ _ _ _ (c .before .before .validate-refusal .ensures) (c .before .if1 .taken))
 
 writes-on-requires : tie.Need-writes-on-requires

@@ -37,7 +37,8 @@ use Rattle.record.specs.declared.Record.{Record}
 use Rattle.store.specs.declared.Answer.the-variants.{Committed, Stale, Changed}
 use Rattle.store.specs.Machine.{Machine, Step, firstCause}
 use Rattle.store.specs.Calls.{badTxn, notLogged, clockSpent, drainRefusal, drained, changed, writesOn, pairStores, commitStores, committed}
-use Rattle.store.specs.Calls.{redoRefusal, isStale, redoPairs, redoStep, validateRefusal, entryMatches, entriesMatch, matches, released, validateStep}
+use Rattle.store.specs.Calls.{redoRefusal, isStale, redoPairs, redoStep, entryMatches, entriesMatch, matches, released}
+use Rattle.store.specs.Calls.{validateRefusalBy, validateRefusal, validateStepBy, validateStep}
 use Rattle.store.specs.Interface.{machineOf}
 use Rattle.store.specs.inner.Checked.{Checked, drainedState}
 use Rattle.store.specs.inner.StoreLaws.{first-holds, first-fails, first-end, first-none, refuses-txn, passes-txn, checked, at-lane, after-lane, lane-passed}
@@ -76,17 +77,17 @@ module _ (z : Sizes) (L : ℕ) (m : Machine) (number : ℕ) (e : number ≡ drai
 
   module _ (t : List ℕ) where
     pub validate-refused : (number ≡ 0 → ⊥) → number ≡ validateRefusal z L t m
-    unfolding validateRefusal
+    unfolding validateRefusalBy
     validate-refused h = e ∙ sym (at-lane z L m _ (λ k. h (e ∙ k)))
 
     pub validate-bad : number ≡ 0 → txnOk maxWrites (z .words) t ≡ false → 5 ≡ validateRefusal z L t m
-    unfolding validateRefusal
+    unfolding validateRefusalBy
     validate-bad h f = sym (after-lane z L m _ (sym e ∙ h) ∙ refuses-txn _ z t f)
 
     pub validate-causes : (k : ℕ) (s : Bool) → number ≡ 0 → txnOk maxWrites (z .words) t ≡ true → s ≡ spent (m .state)
         → k ≡ commitRefusal (laneAt (m .state) L .phase) s
         → k ≡ validateRefusal z L t m
-    unfolding validateRefusal
+    unfolding validateRefusalBy
     validate-causes k s h g d f = f ∙ ap (commitRefusal (laneAt (m .state) L .phase)) d ∙ commit-causes L m
         ∙ sym (after-lane z L m _ (sym e ∙ h) ∙ passes-txn _ z t g)
 
@@ -115,7 +116,7 @@ module _ (z : Sizes) (state : Record) (cache nvm flags : List ℕ) (L number : �
 
   pub validate-accepted : (t : List ℕ) → number ≡ validateRefusal z L t (machineOf state cache nvm flags) → number ≡ 0
       → Accepted z state cache nvm flags L × (txnOk maxWrites (z .words) t ≡ true)
-  unfolding validateRefusal badTxn
+  unfolding validateRefusalBy badTxn
   validate-accepted t e h =
       let a = lane-passed z L (machineOf state cache nvm flags) _ (sym e ∙ h) in
       let c = first-none _ _ (λ z. omega arith) (a .1) in
@@ -414,7 +415,7 @@ module _ (z : Sizes) (L : ℕ) (state : Record) (cache nvm flags : List ℕ) (r 
   pub validate-taken : (t : List ℕ) (ws : List Write) → number ≡ validateRefusal z L t (machineOf state cache nvm flags) → number ≡ 0
       → ws ≡ run (z .words) t (dataOf z cache) → step ≡ validateDrained z L ws (machineOf r cache nvm₁ flags₁)
       → step ≡ validateStep z L t (machineOf state cache nvm flags)
-  unfolding validateStep writesOn
+  unfolding validateStepBy writesOn
   validate-taken t ws n h w s =
       s ∙ rw w (ap (validateDrained z L (run (z .words) t (dataOf z cache))) (drained-by z L state cache nvm flags r nvm₁ flags₁ d e f)
       ∙ validate-drained z L (machineOf state cache nvm flags) (run (z .words) t (dataOf z cache)))

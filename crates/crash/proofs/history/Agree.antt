@@ -14,7 +14,7 @@ use borrow.Author.Tests.{ne-eqb, ltb-true, ltb-false, lt-ltb, le-ltb}
 use Rattle.laws.specs.inner.Tests.{split, eqb-same}
 use Rattle.laws.specs.inner.Lists.{All, none as nil, more}
 use Rattle.slot.specs.declared.Content.the-variants.{Entry}
-use Rattle.txn.specs.Txn.{maxWrites, txnOk}
+use Rattle.txn.specs.Txn.{maxWrites, former, txnBy}
 use Rattle.txn.specs.inner.Writes.{noWrite}
 use Rattle.txn.specs.declared.Write.{Write}
 use Rattle.image.specs.Image.{buffersOk, logOf}
@@ -51,7 +51,7 @@ pub data Entries (W N : ℕ) (log : List ℕ) : ℕ → List Write → Type 0 wh
 pub record Holding (z : Sizes) (base : ℕ) (h : History) (m : Machine) (L : ℕ) (g : Logged) : Type 0 where
   pub txn : List ℕ
   pub held : pageAt h L .held ≡ some txn
-  pub ok : txnOk maxWrites z.words txn ≡ true
+  pub ok : txnBy former maxWrites z.words txn ≡ true
   pub newest : pageAt h L .newest ≡ At (g .stamp)
   pub above : base ≤ g .stamp
   pub upto : g .stamp ≤ h .clock

@@ -24,7 +24,7 @@ use Rattle.store.specs.Machine.{Machine, Step, said}
 use Rattle.store.specs.Calls.{drained, writesOn, isStale, entriesMatch, matches}
 use Rattle.store.specs.declared.Answer.{Answer}
 use Rattle.store.specs.declared.Answer.the-variants.{Refused}
-use Rattle.crash.specs.Events.{Call, log, redo, validate, mark, laneOf, callStep}
+use Rattle.crash.specs.Events.{Call, logBy, redo, validateBy, mark, laneOf, callStep}
 use Rattle.crash.specs.History.{History, pageAt, settled, leastFloorOf, writesLogged, sameOlds, commitAbove, slotsBy, takenAnswer}
 use Rattle.crash.specs.Theorem.{isFull, refusalBy, answerBy, Answers}
 use Rattle.crash.proofs.recovery.Data.{oldsOf}
@@ -67,7 +67,7 @@ latest-none (q ∷ qs) e = absurd (later-some (sequenceOf q) (latest qs) e)
 
 number-drains : {z : Sizes} {m : Machine} {c : Call} {a : Answer} → Drains z m c a → said a .number ≡ 0
 unfolding said
-number-drains (quiet L f ok i e) = refl
+number-drains (quiet q L f ok i e) = refl
 number-drains (late L r t) = refl
 number-drains (plain L) = refl
 
@@ -131,7 +131,7 @@ module _ (z : Sizes) (base : ℕ) (h : History) (m : Machine) (b : Book z base h
 
   drains-answer : {c : Call} {a : Answer} → Known z m (laneOf c) → Drains z m c a → a ≡ takenAnswer z c h
   unfolding takenAnswer laneOf
-  drains-answer k (quiet L f ok i e) = rw (sym (same-writes z h m (b .live) f), eq-eqb (length (writesOn z f m)) 0 e)
+  drains-answer k (quiet q L f ok i e) = rw (sym (same-writes z h m (b .live) f), eq-eqb (length (writesOn z f m)) 0 e)
   drains-answer k (late L r t) = rw (sym (same-stale L (k .lane) (r .held)), t)
   drains-answer k (plain L) = refl
 
@@ -140,16 +140,16 @@ module _ (z : Sizes) (base : ℕ) (h : History) (m : Machine) (b : Book z base h
   unfolding said takenAnswer
   by-move {c} (refusing n e d) p r = refused c n e d r
   by-move {c} (draining {a = a} k d) p r = taken c a (sym p ∙ number-drains d) r (drains-answer k d)
-  by-move (logging L f k ok i q room) p r =
-      taken (log L f) _ (sym p) r
+  by-move (logging u L f k ok i q room) p r =
+      taken (logBy u L f) _ (sym p) r
       (rw (sym (same-writes z h m (b .live) f), ne-eqb (length (writesOn z f m)) 0 (λ e. omega arith), b .live .clock))
   by-move (redoing L k y t) p r =
       taken (redo L) _ (sym p) r (rw (sym (same-stale L (k .lane) (y .held)), t, b .live .clock))
-  by-move (validating L f k ok y t) p r =
-      taken (validate L f) _ (sym p) r
+  by-move (validating u L f k ok y t) p r =
+      taken (validateBy u L f) _ (sym p) r
       (rw (sym (same-writes z h m (b .live) f), sym (same-matches L (k .lane) (y .held) (writesOn z f m)), t, b .live .clock))
-  by-move (giving-up L f k ok y t) p r =
-      taken (validate L f) _ (sym p) r
+  by-move (giving-up u L f k ok y t) p r =
+      taken (validateBy u L f) _ (sym p) r
       (rw (sym (same-writes z h m (b .live) f), sym (same-matches L (k .lane) (y .held) (writesOn z f m)), t))
   by-move (marking L k room) p r = taken (mark L) _ (sym p) r (rw (same-held z h m (b .live) L (k .lane), b .live .clock))
 

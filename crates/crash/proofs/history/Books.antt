@@ -12,7 +12,7 @@ use lib.ListN.{length, take}
 use borrow.Author.Tests.{ltb-false}
 use Rattle.laws.specs.inner.Tests.{or-left, or-right}
 use Rattle.laws.specs.inner.Lists.{All, none as nil, more, All-map}
-use Rattle.txn.specs.Txn.{maxWrites, txnOk, run, after}
+use Rattle.txn.specs.Txn.{maxWrites, former, txnBy, run, after}
 use Rattle.txn.specs.inner.TxnLaws.{few-writes, run-low}
 use Rattle.txn.specs.declared.Write.{Write}
 use Rattle.image.specs.Image.{dataOf}
@@ -259,17 +259,17 @@ module _ (z : Sizes) (base : ℕ) (L : ℕ) (lane : L < z.lanes) (h : History) (
       book-moved z base L lane h (stamped L held [] h) m (appended z L ws phase redo m) b (moved-appended ws phase redo held ranged both holds)
 
   -- ---- Log
-  module _ (f : List ℕ) (ok : txnOk maxWrites z.words f ≡ true) (some-write : 0 < length (writesOn z f m)) where
+  module _ (f : List ℕ) (ok : txnBy former maxWrites z.words f ≡ true) (some-write : 0 < length (writesOn z f m)) where
     abbrev held-now : Logged
     held-now = record { first = laneAt (m .state) L .next; count = length (writesOn z f m); stamp = m .state .clock + 2 }
 
     writes-low : All (λ w. w .word < z.words) (writesOn z f m)
     unfolding writesOn
-    writes-low = run-low maxWrites z.words f (dataOf z (m .cache)) ok
+    writes-low = run-low former maxWrites z.words f (dataOf z (m .cache)) ok
 
     writes-few : length (writesOn z f m) ≤ maxWrites
     unfolding writesOn
-    writes-few = few-writes maxWrites z.words f (dataOf z (m .cache)) ok
+    writes-few = few-writes former maxWrites z.words f (dataOf z (m .cache)) ok
 
     logged-ranged : phaseOk z (h .clock + 2) (pairsOf maxWrites (writesOn z f m)) (Holds held-now) ≡ true
     logged-ranged =
@@ -357,7 +357,7 @@ module _ (z : Sizes) (base : ℕ) (L : ℕ) (lane : L < z.lanes) (h : History) (
   book-released = book-moved z base L lane h (released L h) m (calls.released L m) b moved-released
 
   -- ---- a commit of transaction f, whose lane has a floor
-  module _ (f : List ℕ) (ok : txnOk maxWrites z.words f ≡ true) (s : ℕ) (floor : pageAt h L .floor ≡ At s) where
+  module _ (f : List ℕ) (ok : txnBy former maxWrites z.words f ≡ true) (s : ℕ) (floor : pageAt h L .floor ≡ At s) where
     abbrev its : List Write
     its = run z.words f (dataOf z (m .cache))
 
@@ -368,7 +368,7 @@ module _ (z : Sizes) (base : ℕ) (L : ℕ) (lane : L < z.lanes) (h : History) (
     words-commit : dataOf z (committed z L (pairsOf (length its) its) m .cache) ≡ present z (stamped L none (f ∷ []) h)
     unfolding after
     words-commit =
-        data-committed z L its m (run-low maxWrites z.words f (dataOf z (m .cache)) ok)
+        data-committed z L its m (run-low former maxWrites z.words f (dataOf z (m .cache)) ok)
         ∙ ap (after z.words f) (b .live .words) ∙ sym present-commit
 
     floor-stays : (t : Timestamp) → t ≡ At s → t ≡ floorOr t (At (h .clock + 2))
@@ -422,7 +422,7 @@ module _ (z : Sizes) (base : ℕ) (h : History) (m : Machine) (b : Book z base h
     pub book-drains : Book z base (settled L h) (drained z L m)
     book-drains = book-drained z base L (k .lane) h m b l
 
-    pub book-logs : (f : List ℕ) → txnOk maxWrites z.words f ≡ true → 0 < length (writesOn z f m)
+    pub book-logs : (f : List ℕ) → txnBy former maxWrites z.words f ≡ true → 0 < length (writesOn z f m)
         → Book z base (stamped L (some f) [] (settled L h)) (logged z L (writesOn z f m) (drained z L m))
     unfolding drained writesOn
     book-logs f ok some-write = book-logged z base L (k .lane) (settled L h) (drained z L m) book-drains f ok some-write
@@ -444,7 +444,7 @@ module _ (z : Sizes) (base : ℕ) (h : History) (m : Machine) (b : Book z base h
           let v = holds-it z base h m b l L (k .lane) (y .held) in
           ap (λ (p : Page). p .floor) (page-settled L h (rw (b .pages) (k .lane)) .here) ∙ rw (v .newest)
 
-      pub book-validates : (f : List ℕ) → txnOk maxWrites z.words f ≡ true
+      pub book-validates : (f : List ℕ) → txnBy former maxWrites z.words f ≡ true
           → Book z base (stamped L none (f ∷ []) (settled L h)) (committed z L (pairsOf (length (writesOn z f m)) (writesOn z f m)) (drained z L m))
       unfolding drained writesOn
       book-validates f ok = book-committed z base L (k .lane) (settled L h) (drained z L m) book-drains f ok (it .stamp) floor-drained

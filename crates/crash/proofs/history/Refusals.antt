@@ -7,7 +7,7 @@ use lib.Dec.{eqb, leb}
 use lib.ListN.{length}
 use native.Mathlib.Omega.{arith}
 use borrow.Author.Tests.{leb-false, le-leb, le-ltb, ne-eqb}
-use Rattle.txn.specs.Txn.{run}
+use Rattle.txn.specs.Txn.{Rule, run}
 use Rattle.image.specs.Image.{buffersOk}
 use Rattle.image.specs.declared.Sizes.{Sizes}
 use Rattle.log.specs.Log.{Complete, completeIn, back, ahead, overlaps, hitsFrom, hits}
@@ -16,8 +16,8 @@ use Rattle.log.specs.declared.Timestamp.the-variants.{None, At}
 use Rattle.record.specs.Record.{laneAt, isLogged, recordOk, spent, boundOf}
 use Rattle.store.specs.Machine.{Machine, Step, Cause, firstCause, unless, said}
 use Rattle.store.specs.Calls.{badBuffers, badRecord, badLane, badTxn, notLogged, clockSpent, drained, wouldHit, writesOn, drainRefusal, drainStep}
-use Rattle.store.specs.Calls.{logRefusal, logStep, redoRefusal, redoStep, isStale, validateRefusal, validateStep, matches, markRefusal, markStep}
-use Rattle.crash.specs.Events.{Call, log, redo, validate, mark, drain, laneOf, callStep}
+use Rattle.store.specs.Calls.{logRefusalBy, logStepBy, redoRefusal, redoStep, isStale, validateRefusalBy, validateStepBy, matches, markRefusal, markStep}
+use Rattle.crash.specs.Events.{Call, logBy, redo, validateBy, mark, drain, laneOf, callStep}
 use Rattle.crash.specs.History as book
 use Rattle.crash.specs.History.{History, settled, leastFloorOf, writesNow, holdsOne, causesBy, slotsBy}
 use Rattle.crash.specs.Theorem.{Live, isFull, refusalBy}
@@ -79,10 +79,10 @@ module _ (z : Sizes) (h : History) (m : Machine) (v : Live z h m) where
     unfolding wouldHit
     same-hit L n l = ap (λ (b : Timestamp). hits z.slots (laneAt (m .state) L .next) n b (completeIn z (m .cache) L)) (bound L l)
 
-    log-full : (L : ℕ) (f : List ℕ) → L < z.lanes
-        → (leb 1 (length (writesNow z f h)) && wouldHit z L (length (writesNow z f h) + 1) m) ≡ isFull z (log L f) h m
+    log-full : (r : Rule) (L : ℕ) (f : List ℕ) → L < z.lanes
+        → (leb 1 (length (writesNow z f h)) && wouldHit z L (length (writesNow z f h) + 1) m) ≡ isFull z (logBy r L f) h m
     unfolding isFull slotsBy laneOf
-    log-full L f l = go (length (writesNow z f h))
+    log-full r L f l = go (length (writesNow z f h))
       where
         go : (n : ℕ) → (leb 1 n && wouldHit z L (n + 1) m)
             ≡ hits z.slots (laneAt (m .state) L .next) (cond (eqb n 0) 0 (n + 1)) (leastFloorOf (settled L h .pages)) (completeIn z (m .cache) L)
@@ -101,11 +101,11 @@ module _ (z : Sizes) (h : History) (m : Machine) (v : Live z h m) where
         (end-false (causesBy z c h) 9)
 
     module _ (ok : Fine z m) where
-      log-refusal : (L : ℕ) (f : List ℕ) → refusalOf z (log L f) m ≡ refusalBy z (log L f) h m
-      unfolding refusalOf logRefusal refusalBy causesBy badBuffers badRecord badLane badTxn
-      log-refusal L f =
+      log-refusal : (r : Rule) (L : ℕ) (f : List ℕ) → refusalOf z (logBy r L f) m ≡ refusalBy z (logBy r L f) h m
+      unfolding refusalOf logRefusalBy refusalBy causesBy badBuffers badRecord badLane badTxn
+      log-refusal r L f =
           past-two _ _ (leb z.lanes L) 3 _ _ (ok .buffers) (ok .fields)
-          (λ e. let l = leb-false z.lanes L e in rw (same-writes f, same-spent, same-held L l, log-full L f l))
+          (λ e. let l = leb-false z.lanes L e in rw (same-writes f, same-spent, same-held L l, log-full r L f l))
 
       mark-refusal : (L : ℕ) → refusalOf z (mark L) m ≡ refusalBy z (mark L) h m
       unfolding refusalOf markRefusal refusalBy causesBy badBuffers badRecord badLane clockSpent
@@ -117,9 +117,9 @@ module _ (z : Sizes) (h : History) (m : Machine) (v : Live z h m) where
       redo-refusal L =
           past-two _ _ (leb z.lanes L) 3 _ _ (ok .buffers) (ok .fields) (λ e. rw (same-spent, same-held L (leb-false z.lanes L e)))
 
-      validate-refusal : (L : ℕ) (f : List ℕ) → refusalOf z (validate L f) m ≡ firstCause (causesBy z (validate L f) h)
-      unfolding refusalOf validateRefusal causesBy badBuffers badRecord badLane badTxn notLogged clockSpent book.notHeld
-      validate-refusal L f =
+      validate-refusal : (r : Rule) (L : ℕ) (f : List ℕ) → refusalOf z (validateBy r L f) m ≡ firstCause (causesBy z (validateBy r L f) h)
+      unfolding refusalOf validateRefusalBy causesBy badBuffers badRecord badLane badTxn notLogged clockSpent book.notHeld
+      validate-refusal r L f =
           past-two _ _ (leb z.lanes L) 3 _ _ (ok .buffers) (ok .fields) (λ e. rw (same-spent, same-held L (leb-false z.lanes L e)))
 
       drain-refusal : (L : ℕ) → refusalOf z (drain L) m ≡ firstCause (causesBy z (drain L) h)
@@ -128,9 +128,9 @@ module _ (z : Sizes) (h : History) (m : Machine) (v : Live z h m) where
 
       pub refusal-by : (c : Call) → refusalOf z c m ≡ refusalBy z c h m
       unfolding slotsBy
-      refusal-by (log L f) = log-refusal L f
+      refusal-by (logBy r L f) = log-refusal r L f
       refusal-by (redo L) = redo-refusal L ∙ sym (none-full (redo L) refl)
-      refusal-by (validate L f) = validate-refusal L f ∙ sym (none-full (validate L f) refl)
+      refusal-by (validateBy r L f) = validate-refusal r L f ∙ sym (none-full (validateBy r L f) refl)
       refusal-by (mark L) = mark-refusal L
       refusal-by (drain L) = drain-refusal L ∙ sym (none-full (drain L) refl)
 
@@ -145,9 +145,9 @@ number-cond false s t p q = q
 
 -- a call answers the number of its refusal
 pub number-is : (z : Sizes) (m : Machine) (c : Call) → said (callStep z c m .answer) .number ≡ refusalOf z c m
-unfolding callStep refusalOf logStep redoStep validateStep markStep drainStep said
-number-is z m (log L f) = number-unless (logRefusal z L f m) m _ (number-cond (eqb (length (writesOn z f m)) 0) _ _ refl refl)
+unfolding callStep refusalOf logStepBy redoStep validateStepBy markStep drainStep said
+number-is z m (logBy r L f) = number-unless (logRefusalBy r z L f m) m _ (number-cond (eqb (length (writesOn z f m)) 0) _ _ refl refl)
 number-is z m (redo L) = number-unless (redoRefusal z L m) m _ (number-cond (isStale L m) _ _ refl refl)
-number-is z m (validate L f) = number-unless (validateRefusal z L f m) m _ (number-cond (matches z L (writesOn z f m) m) _ _ refl refl)
+number-is z m (validateBy r L f) = number-unless (validateRefusalBy r z L f m) m _ (number-cond (matches z L (writesOn z f m) m) _ _ refl refl)
 number-is z m (mark L) = number-unless (markRefusal z L m) m _ refl
 number-is z m (drain L) = number-unless (drainRefusal z L m) m _ refl

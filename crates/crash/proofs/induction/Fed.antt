@@ -7,7 +7,7 @@ use Prim.Native.Nat.{ℕ, _+_, _<_}
 use lib.ListN.{length}
 use borrow.Author.Tests.{le-leb, lt-leb}
 use Rattle.laws.specs.inner.Tests.{clash}
-use Rattle.txn.specs.Txn.{maxWrites, txnOk}
+use Rattle.txn.specs.Txn.{maxWrites, former, txnBy}
 use Rattle.image.specs.declared.Sizes.{Sizes}
 use Rattle.record.specs.Record.{laneAt, isLogged, pairsOf}
 use Rattle.record.specs.declared.Phase.the-variants.{Idle}
@@ -29,22 +29,22 @@ fed-refusing c n h = refl
 
 pub fed-draining : (z : Sizes) (m : Machine) {c : Call} {a : Answer} (h : History) → Drains z m c a → afterCall c a h ≡ settled (laneOf c) h
 unfolding afterCall said taken isCounted laneOf
-fed-draining z m h (quiet L f ok i e) = refl
+fed-draining z m h (quiet q L f ok i e) = refl
 fed-draining z m h (late L r t) = refl
 fed-draining z m h (plain L) = refl
 
 -- what each move does to machine and history together: an invariant is kept by calls if it is kept so
 pub record Steps (z : Sizes) (Inv : Machine → History → Type 0) : Type 0 where
   pub drains : (m : Machine) (h : History) (L : ℕ) → Inv m h → Known z m L → Inv (drained z L m) (settled L h)
-  pub logs : (m : Machine) (h : History) (L : ℕ) (f : List ℕ) → Inv m h → Known z m L → txnOk maxWrites z.words f ≡ true
+  pub logs : (m : Machine) (h : History) (L : ℕ) (f : List ℕ) → Inv m h → Known z m L → txnBy former maxWrites z.words f ≡ true
       → isLogged (laneAt (m .state) L .phase) ≡ false → 0 < length (writesOn z f m) → Room z m L (length (writesOn z f m) + 1)
       → Inv (logged z L (writesOn z f m) (drained z L m)) (stamped L (some f) [] (settled L h))
   pub redoes : (m : Machine) (h : History) (L : ℕ) → Inv m h → Known z m L → Ready m L → isStale L m ≡ false
       → Inv (committed z L (redoPairs L m) (drained z L m)) (stamped L none (heldBy (pageAt h L .held)) (settled L h))
-  pub validates : (m : Machine) (h : History) (L : ℕ) (f : List ℕ) → Inv m h → Known z m L → txnOk maxWrites z.words f ≡ true
+  pub validates : (m : Machine) (h : History) (L : ℕ) (f : List ℕ) → Inv m h → Known z m L → txnBy former maxWrites z.words f ≡ true
       → Ready m L → matches z L (writesOn z f m) m ≡ true
       → Inv (committed z L (pairsOf (length (writesOn z f m)) (writesOn z f m)) (drained z L m)) (stamped L none (f ∷ []) (settled L h))
-  pub gives-up : (m : Machine) (h : History) (L : ℕ) (f : List ℕ) → Inv m h → Known z m L → txnOk maxWrites z.words f ≡ true
+  pub gives-up : (m : Machine) (h : History) (L : ℕ) (f : List ℕ) → Inv m h → Known z m L → txnBy former maxWrites z.words f ≡ true
       → Ready m L → matches z L (writesOn z f m) m ≡ false
       → Inv (calls.released L (drained z L m)) (released L (settled L h))
   pub marks : (m : Machine) (h : History) (L : ℕ) → Inv m h → Known z m L → Room z m L 1
@@ -55,10 +55,10 @@ module _ (z : Sizes) (Inv : Machine → History → Type 0) (steps : Steps z Inv
   unfolding afterCall said taken isCounted
   by-move m h {c} (refusing n e p) v = rw (fed-refusing c n h) v
   by-move m h (draining k d) v = rw (fed-draining z m h d) (steps .drains m h _ v k)
-  by-move m h (logging L f k ok i p r) v = rw (le-leb 1 (length (writesOn z f m)) p) (steps .logs m h L f v k ok i p r)
+  by-move m h (logging q L f k ok i p r) v = rw (le-leb 1 (length (writesOn z f m)) p) (steps .logs m h L f v k ok i p r)
   by-move m h (redoing L k r t) v = steps .redoes m h L v k r t
-  by-move m h (validating L f k ok r t) v = steps .validates m h L f v k ok r t
-  by-move m h (giving-up L f k ok r t) v = steps .gives-up m h L f v k ok r t
+  by-move m h (validating q L f k ok r t) v = steps .validates m h L f v k ok r t
+  by-move m h (giving-up q L f k ok r t) v = steps .gives-up m h L f v k ok r t
   by-move m h (marking L k r) v = steps .marks m h L v k r
 
   pub call-by-steps : (m : Machine) (h : History) (c : Call) → Inv m h → Inv (callStep z c m .machine) (afterCall c (callStep z c m .answer) h)
@@ -69,10 +69,10 @@ taken-by : (z : Sizes) (m : Machine) {c : Call} {s : Step} → Move z m c s → 
 unfolding said laneOf
 taken-by z m (refusing n e p) t = clash false t refl
 taken-by z m (draining k d) t = k
-taken-by z m (logging L f k ok i p r) t = k
+taken-by z m (logging q L f k ok i p r) t = k
 taken-by z m (redoing L k r u) t = k
-taken-by z m (validating L f k ok r u) t = k
-taken-by z m (giving-up L f k ok r u) t = k
+taken-by z m (validating q L f k ok r u) t = k
+taken-by z m (giving-up q L f k ok r u) t = k
 taken-by z m (marking L k r) t = k
 
 -- a call that is taken has checked buffers, record and lane

@@ -8,7 +8,8 @@ use lib.Dec.{eqb, leb}
 use lib.ListN.{length}
 use borrow.Author.Tests.{eqb-true, eqb-false, leb-false, not-false, le-leb}
 use Rattle.laws.specs.inner.Tests.{split, clash}
-use Rattle.txn.specs.Txn.{maxWrites, txnOk}
+use Rattle.txn.specs.Txn.{maxWrites, Rule, former, txnBy}
+use Rattle.txn.specs.inner.CheckLaws.{txn-former}
 use Rattle.image.specs.Image.{buffersOk}
 use Rattle.image.specs.declared.Sizes.{Sizes}
 use Rattle.record.specs.Record.{laneAt, isLogged, recordOk, spent, pairsOf}
@@ -16,10 +17,10 @@ use Rattle.record.specs.declared.Phase.the-variants.{Idle}
 use Rattle.store.specs.Machine.{Machine, Step, Cause, firstCause, unless}
 use Rattle.store.specs.Calls.{badBuffers, badRecord, badLane, badTxn, notLogged, clockSpent, drained, wouldHit, writesOn}
 use Rattle.store.specs.Calls.{appended, logged, committed, isStale, redoPairs, matches, released, drainRefusal, drainStep}
-use Rattle.store.specs.Calls.{logRefusal, logStep, redoRefusal, redoStep, validateRefusal, validateStep, markRefusal, markStep}
+use Rattle.store.specs.Calls.{logRefusalBy, logStepBy, redoRefusal, redoStep, validateRefusalBy, validateStepBy, markRefusal, markStep}
 use Rattle.store.specs.declared.Answer.{Answer}
 use Rattle.store.specs.declared.Answer.the-variants.{Refused, Done, NoWrites, Logged, Committed, Stale, Changed, Marked}
-use Rattle.crash.specs.Events.{Call, log, redo, validate, mark, drain, laneOf, callStep}
+use Rattle.crash.specs.Events.{Call, logBy, redo, validateBy, mark, drain, laneOf, callStep}
 
 -- ---- what a call has checked
 -- every call that is not refused: causes 1, 2 and 3 do not hold
@@ -40,40 +41,40 @@ pub record Ready (m : Machine) (L : ℕ) : Type 0 where
 
 -- the number of a call's refusal, 0 where it is none
 unfoldable pub refusalOf : Sizes → Call → Machine → ℕ
-refusalOf z (log L f) m = logRefusal z L f m
+refusalOf z (logBy r L f) m = logRefusalBy r z L f m
 refusalOf z (redo L) m = redoRefusal z L m
-refusalOf z (validate L f) m = validateRefusal z L f m
+refusalOf z (validateBy r L f) m = validateRefusalBy r z L f m
 refusalOf z (mark L) m = markRefusal z L m
 refusalOf z (drain L) m = drainRefusal z L m
 
 -- ---- the moves
 -- the calls that only drain: a Log that writes nothing, a Redo that is stale, a Drain
 pub data Drains (z : Sizes) (m : Machine) : Call → Answer → Type 0 where
-  quiet : (L : ℕ) (f : List ℕ) → txnOk maxWrites z.words f ≡ true → isLogged (laneAt (m .state) L .phase) ≡ false → length (writesOn z f m) ≡ 0
-      → Drains z m (log L f) NoWrites
+  quiet : (r : Rule) (L : ℕ) (f : List ℕ) → txnBy former maxWrites z.words f ≡ true → isLogged (laneAt (m .state) L .phase) ≡ false → length (writesOn z f m) ≡ 0
+      → Drains z m (logBy r L f) NoWrites
   late : (L : ℕ) → Ready m L → isStale L m ≡ true → Drains z m (redo L) Stale
   plain : (L : ℕ) → Drains z m (drain L) Done
 
 pub data Move (z : Sizes) (m : Machine) : Call → Step → Type 0 where
   refusing : {c : Call} (n : ℕ) → refusalOf z c m ≡ n → (n ≡ 0 → ⊥) → Move z m c (record { answer = Refused n; machine = m })
   draining : {c : Call} {a : Answer} → Known z m (laneOf c) → Drains z m c a → Move z m c (record { answer = a; machine = drained z (laneOf c) m })
-  logging : (L : ℕ) (f : List ℕ) → Known z m L → txnOk maxWrites z.words f ≡ true → isLogged (laneAt (m .state) L .phase) ≡ false
+  logging : (r : Rule) (L : ℕ) (f : List ℕ) → Known z m L → txnBy former maxWrites z.words f ≡ true → isLogged (laneAt (m .state) L .phase) ≡ false
       → 0 < length (writesOn z f m) → Room z m L (length (writesOn z f m) + 1)
-      → Move z m (log L f)
+      → Move z m (logBy r L f)
       (record {
         answer = Logged (record { count = length (writesOn z f m); stamp = m .state .clock + 2 });
         machine = logged z L (writesOn z f m) (drained z L m);
       })
   redoing : (L : ℕ) → Known z m L → Ready m L → isStale L m ≡ false
       → Move z m (redo L) (record { answer = Committed (m .state .clock + 2); machine = committed z L (redoPairs L m) (drained z L m) })
-  validating : (L : ℕ) (f : List ℕ) → Known z m L → txnOk maxWrites z.words f ≡ true → Ready m L → matches z L (writesOn z f m) m ≡ true
-      → Move z m (validate L f)
+  validating : (r : Rule) (L : ℕ) (f : List ℕ) → Known z m L → txnBy former maxWrites z.words f ≡ true → Ready m L → matches z L (writesOn z f m) m ≡ true
+      → Move z m (validateBy r L f)
       (record {
         answer = Committed (m .state .clock + 2);
         machine = committed z L (pairsOf (length (writesOn z f m)) (writesOn z f m)) (drained z L m);
       })
-  giving-up : (L : ℕ) (f : List ℕ) → Known z m L → txnOk maxWrites z.words f ≡ true → Ready m L → matches z L (writesOn z f m) m ≡ false
-      → Move z m (validate L f) (record { answer = Changed; machine = released L (drained z L m) })
+  giving-up : (r : Rule) (L : ℕ) (f : List ℕ) → Known z m L → txnBy former maxWrites z.words f ≡ true → Ready m L → matches z L (writesOn z f m) m ≡ false
+      → Move z m (validateBy r L f) (record { answer = Changed; machine = released L (drained z L m) })
   marking : (L : ℕ) → Known z m L → Room z m L 1
       → Move z m (mark L)
       (record {
@@ -142,44 +143,44 @@ module _ (z : Sizes) (m : Machine) (L : ℕ) where
       let c₉ = none-holds _ _ _ (c₈ .1) in
       marking L (k .0) (record { clock = c₈ .0; slots = c₉ .0 }))
 
-  module _ (f : List ℕ) where
-    pub log-moves : Move z m (log L f) (logStep z L f m)
-    unfolding logStep logRefusal badBuffers badRecord badLane badTxn refusalOf laneOf
+  module _ (q : Rule) (f : List ℕ) where
+    pub log-moves : Move z m (logBy q L f) (logStepBy q z L f m)
+    unfolding logStepBy logRefusalBy badBuffers badRecord badLane badTxn refusalOf laneOf
     log-moves =
-        unless-by (Move z m (log L f)) _ m _ (refusing _ refl)
+        unless-by (Move z m (logBy q L f)) _ m _ (refusing _ refl)
         (λ e.
         let k = first-three _ e in
         let c₅ = none-holds _ _ _ (k .1) in
         let c₆ = none-holds _ _ _ (c₅ .1) in
         let c₈ = none-holds _ _ _ (c₆ .1) in
         let c₉ = none-holds _ _ _ (c₈ .1) in
-        let ok = not-false (txnOk maxWrites z.words f) (c₅ .0) in
-        cond-by (Move z m (log L f)) (eqb n 0) _ _ (λ t. draining (k .0) (quiet L f ok (c₆ .0) (eqb-true n 0 t)))
+        let ok = txn-former q maxWrites z.words f (not-false (txnBy q maxWrites z.words f) (c₅ .0)) in
+        cond-by (Move z m (logBy q L f)) (eqb n 0) _ _ (λ t. draining (k .0) (quiet q L f ok (c₆ .0) (eqb-true n 0 t)))
         (λ t.
         let p : 0 < n = positive n (eqb-false n 0 t) in
-        logging L f (k .0) ok (c₆ .0) p
+        logging q L f (k .0) ok (c₆ .0) p
         (record { clock = rest (leb 1 n) _ (le-leb 1 n p) (c₈ .0); slots = rest (leb 1 n) _ (le-leb 1 n p) (c₉ .0) })))
       where
         n : ℕ
         n = length (writesOn z f m)
 
-    pub validate-moves : Move z m (validate L f) (validateStep z L f m)
-    unfolding validateStep validateRefusal badBuffers badRecord badLane badTxn notLogged clockSpent refusalOf
+    pub validate-moves : Move z m (validateBy q L f) (validateStepBy q z L f m)
+    unfolding validateStepBy validateRefusalBy badBuffers badRecord badLane badTxn notLogged clockSpent refusalOf
     validate-moves =
-        unless-by (Move z m (validate L f)) _ m _ (refusing _ refl)
+        unless-by (Move z m (validateBy q L f)) _ m _ (refusing _ refl)
         (λ e.
         let k = first-three _ e in
         let c₅ = none-holds _ _ _ (k .1) in
         let c₇ = none-holds _ _ _ (c₅ .1) in
         let c₈ = none-holds _ _ _ (c₇ .1) in
-        let ok = not-false (txnOk maxWrites z.words f) (c₅ .0) in
+        let ok = txn-former q maxWrites z.words f (not-false (txnBy q maxWrites z.words f) (c₅ .0)) in
         let r : Ready m L = record { held = not-false (isLogged (laneAt (m .state) L .phase)) (c₇ .0); clock = c₈ .0 } in
-        cond-by (Move z m (validate L f)) (matches z L (writesOn z f m) m) _ _ (λ t. validating L f (k .0) ok r t) (λ t. giving-up L f (k .0) ok r t))
+        cond-by (Move z m (validateBy q L f)) (matches z L (writesOn z f m) m) _ _ (λ t. validating q L f (k .0) ok r t) (λ t. giving-up q L f (k .0) ok r t))
 
 pub call-moves : (z : Sizes) (m : Machine) (c : Call) → Move z m c (callStep z c m)
 unfolding callStep
-call-moves z m (log L f) = log-moves z m L f
+call-moves z m (logBy r L f) = log-moves z m L r f
 call-moves z m (redo L) = redo-moves z m L
-call-moves z m (validate L f) = validate-moves z m L f
+call-moves z m (validateBy r L f) = validate-moves z m L r f
 call-moves z m (mark L) = mark-moves z m L
 call-moves z m (drain L) = drain-moves z m L

@@ -11,7 +11,7 @@ use native.Mathlib.Nat.{le-trans}
 use lib.ListN.{length, getD}
 use Rattle.laws.specs.inner.Tests.{clash}
 use Rattle.laws.specs.inner.Lists.{All, more, All-map}
-use Rattle.txn.specs.Txn.{maxWrites, txnOk, run}
+use Rattle.txn.specs.Txn.{maxWrites, former, txnBy, run}
 use Rattle.txn.specs.inner.TxnLaws.{Chain, chain-nil, run-chain, few-writes, run-low}
 use Rattle.txn.specs.declared.Write.{Write}
 use Rattle.image.specs.Image.{baseOf, dataOf, logStart}
@@ -224,14 +224,14 @@ module _ (z : Sizes) (base : ℕ) (h : History) (m : Machine) (b : Book z base h
 
 -- ---- the calls
 pub ties-appends : (z : Sizes) (base : ℕ) (m : Machine) (h : History) (L : ℕ) (f : List ℕ)
-    → Book z base h m → Ties z base m h → Known z m L → txnOk maxWrites z.words f ≡ true
+    → Book z base h m → Ties z base m h → Known z m L → txnBy former maxWrites z.words f ≡ true
     → isLogged (laneAt (m .state) L .phase) ≡ false → 0 < length (writesOn z f m) → Room z m L (length (writesOn z f m) + 1)
     → Ties z base (logged z L (writesOn z f m) (drained z L m)) (stamped L (some f) [] (settled L h))
 unfolding logged writesOn
 ties-appends z base m h L f b t k ok i p r =
     appended-ties z base h m b t L k (writesOn z f m) chain r _ _ (some f)
     (running-logs z m (t .ts) (t .running) L (k .lane) (writesOn z f m)
-    (few-writes maxWrites z.words f (dataOf z (m .cache)) ok) (run-low maxWrites z.words f (dataOf z (m .cache)) ok))
+    (few-writes former maxWrites z.words f (dataOf z (m .cache)) ok) (run-low former maxWrites z.words f (dataOf z (m .cache)) ok))
     (λ x e. ap oldsOf (sym (logged-new z base h m b t L k f)))
   where
     chain : Chain (dataOf z (m .cache)) (writesOn z f m)

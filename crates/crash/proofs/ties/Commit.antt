@@ -12,7 +12,7 @@ use lib.ListN.{length, getD}
 use borrow.Author.Tests.{ne-eqb, le-ltb}
 use Rattle.laws.specs.inner.Tests.{eqb-same}
 use Rattle.laws.specs.inner.Lists.{All, none as nil, more, All-map, All-rest}
-use Rattle.txn.specs.Txn.{maxWrites, txnOk, run}
+use Rattle.txn.specs.Txn.{maxWrites, former, txnBy, run}
 use Rattle.txn.specs.inner.TxnLaws.{run-low}
 use Rattle.txn.specs.declared.Write.{Write}
 use Rattle.image.specs.Image.{baseOf, dataOf, logStart}
@@ -105,7 +105,7 @@ seal-in c s g (there i) d e = there i
 -- ---- a commit of transaction f by a lane that has just drained: the sequence that it holds names what f writes now
 module _ (z : Sizes) (base : ℕ) (h : History) (m : Machine) (b : Book z base h m) (t : Ties z base m h) (L : ℕ) (lane : L < z.lanes)
     (clear : (w : ℕ) → w < z.words → flushed L (getD (m .flags) (1 + w) 0) ≡ false) (x : Logged) (held : laneAt (m .state) L .phase ≡ Holds x)
-    (f : List ℕ) (ok : txnOk maxWrites z.words f ≡ true) (same : oldsOf (writesOn z f m) ≡ oldsOf (writesLogged z L h))
+    (f : List ℕ) (ok : txnBy former maxWrites z.words f ≡ true) (same : oldsOf (writesOn z f m) ≡ oldsOf (writesLogged z L h))
     (us : ℕ → Track) (to : TrackTo (t .ts) us L (restampedBy z L m (h .clock + 2) (t .ts L)))
     (runs : Running z (committed z L (pairsOf (length (writesOn z f m)) (writesOn z f m)) m) us) where
   abbrev ws : List Write
@@ -131,7 +131,7 @@ module _ (z : Sizes) (base : ℕ) (h : History) (m : Machine) (b : Book z base h
 
   low : All (λ w. w .word < z.words) ws
   unfolding writesOn
-  low = run-low maxWrites z.words f (dataOf z (m .cache)) ok
+  low = run-low former maxWrites z.words f (dataOf z (m .cache)) ok
 
   words-at : wordsBelow z (At (h .clock + 2)) k ≡ dataOf z (m .cache)
   words-at = commit-below z L f h (b .upto) ∙ sym (b .live .words)
@@ -265,7 +265,7 @@ restamped-to z L m ts vs c e p q =
     both = track-on (track-to L (levelled z L m (ts L)) ts) (track-to L (restampedBy z L m c (ts L)) ts)
 
 module _ (z : Sizes) (base : ℕ) (m : Machine) (h : History) (L : ℕ) (b : Book z base h m) (t : Ties z base m h) (k : Known z m L) where
-  pub ties-commits : (x : Logged) → laneAt (m .state) L .phase ≡ Holds x → (f : List ℕ) → txnOk maxWrites z.words f ≡ true
+  pub ties-commits : (x : Logged) → laneAt (m .state) L .phase ≡ Holds x → (f : List ℕ) → txnBy former maxWrites z.words f ≡ true
       → oldsOf (writesOn z f m) ≡ oldsOf (writesLogged z L h)
       → Ties z base (committed z L (pairsOf (length (writesOn z f m)) (writesOn z f m)) (drained z L m)) (stamped L none (f ∷ []) (settled L h))
   unfolding drained drainedLane writesOn settled withLane
@@ -280,7 +280,7 @@ module _ (z : Sizes) (base : ℕ) (m : Machine) (h : History) (L : ℕ) (b : Boo
       (updated L (restampedBy z L m (m .state .clock + 2) (t .ts L)) (t .ts))
       (restamped-to z L m (t .ts) (d .ties .ts) (m .state .clock + 2) (h .clock + 2) (d .tracks) (ap (λ (c : ℕ). c + 2) (b .live .clock)))
       (running-commits z m (t .ts) (t .running) L (k .lane) (pairsOf (length (writesOn z f m)) (writesOn z f m))
-      (pairs-low z.words (run-low maxWrites z.words f (dataOf z (m .cache)) ok)) x held)
+      (pairs-low z.words (run-low former maxWrites z.words f (dataOf z (m .cache)) ok)) x held)
       .ties
 
 -- ---- Redo that is not stale, and Validate that matches
@@ -293,7 +293,7 @@ ties-redoes z base m h L b t k y e =
     (ties-commits z base m h L b t k _ (is-held (laneAt (m .state) L .phase) (y .held)) (v .txn) (v .ok) (ap oldsOf (sym (redo-now z base h m b l L k y e))))
 
 pub ties-validates : (z : Sizes) (base : ℕ) (m : Machine) (h : History) (L : ℕ) (f : List ℕ)
-    → Book z base h m → Ties z base m h → Known z m L → txnOk maxWrites z.words f ≡ true
+    → Book z base h m → Ties z base m h → Known z m L → txnBy former maxWrites z.words f ≡ true
     → Ready m L → matches z L (writesOn z f m) m ≡ true
     → Ties z base (committed z L (pairsOf (length (writesOn z f m)) (writesOn z f m)) (drained z L m)) (stamped L none (f ∷ []) (settled L h))
 ties-validates z base m h L f b t k ok y e =

@@ -11,7 +11,7 @@ use native.Mathlib.Nat.{le-trans}
 use lib.ListN.{length, getD}
 use Rattle.laws.specs.inner.Tests.{clash}
 use Rattle.laws.specs.inner.Lists.{more}
-use Rattle.txn.specs.Txn.{maxWrites, txnOk}
+use Rattle.txn.specs.Txn.{maxWrites, former, txnBy}
 use Rattle.image.specs.declared.Sizes.{Sizes}
 use Rattle.record.specs.Record.{laneAt, drainedLane, idleLane}
 use Rattle.record.specs.declared.Phase.the-variants.{Idle, Holds}
@@ -147,7 +147,7 @@ pub ties-drains : (z : Sizes) (base : ℕ) (m : Machine) (h : History) (L : ℕ)
 ties-drains z base m h L b t k = drained-ties z base h m b t L (k .lane) .ties
 
 pub ties-gives-up : (z : Sizes) (base : ℕ) (m : Machine) (h : History) (L : ℕ) (f : List ℕ)
-    → Book z base h m → Ties z base m h → Known z m L → txnOk maxWrites z.words f ≡ true
+    → Book z base h m → Ties z base m h → Known z m L → txnBy former maxWrites z.words f ≡ true
     → Ready m L → matches z L (writesOn z f m) m ≡ false → Ties z base (calls.released L (drained z L m)) (released L (settled L h))
 ties-gives-up z base m h L f b t k ok y e =
     let d = drained-ties z base h m b t L (k .lane) in

@@ -17,8 +17,8 @@ use Rattle.crash.specs.Theorem as theorems
 
 unfoldable pub everything : ℕ
 unfolding slots.entryOf slots.stampOf slots.entryShape slots.stampShape slots.wholeOf slots.readOf
-    txns.instructionAt txns.instructionsFrom txns.instructions txns.setOk txns.copyOk txns.addOk txns.pokeOk txns.skipOk txns.instructionOk txns.allOk
-    txns.txnOk txns.target txns.result txns.emit txns.passed txns.applied txns.runFrom txns.run txns.after
+    txns.instructionAt txns.instructionsFrom txns.instructions txns.setOk txns.copyOk txns.addOk txns.pokeOk txns.skipOk txns.instructionOk
+    txns.instructionBy txns.allBy txns.txnBy txns.target txns.result txns.emit txns.passed txns.applied txns.runFrom txns.run txns.after
     images.sizesOk images.imageLength images.buffersOk images.baseOf images.dataOf images.logStart images.logOf
     flushes.flushed flushes.flush flushes.unflush flushes.flushAll flushes.writtenBack flushes.drainedNvm flushes.drainedFlags
     stores.stored stores.places
@@ -32,9 +32,9 @@ unfolding slots.entryOf slots.stampOf slots.entryShape slots.stampShape slots.wh
     machines.firstCause machines.unless machines.said
     calls.badBuffers calls.badRecord calls.badLane calls.badTxn calls.notLogged calls.clockSpent calls.drained calls.changed calls.wouldHit
     calls.startImage calls.started calls.formatRefusal calls.formatStep calls.writeBackRefusal calls.writeBackStep calls.drainRefusal calls.drainStep
-    calls.writesOn calls.logRefusal calls.appended calls.logged calls.logStep calls.pairStores calls.commitStores calls.committed calls.redoRefusal
-    calls.isStale calls.redoPairs calls.redoStep calls.validateRefusal calls.entryMatches calls.entriesMatch calls.matches calls.released
-    calls.validateStep calls.markRefusal calls.markStep
+    calls.writesOn calls.logRefusalBy calls.appended calls.logged calls.logStepBy calls.pairStores calls.commitStores calls.committed calls.redoRefusal
+    calls.isStale calls.redoPairs calls.redoStep calls.validateRefusalBy calls.entryMatches calls.entriesMatch calls.matches calls.released
+    calls.validateStepBy calls.markRefusal calls.markStep
     recoveries.boundaryBelow recoveries.boundary recoveries.completeOf recoveries.atOrAbove recoveries.undoneBefore recoveries.insert
     recoveries.ordered recoveries.undoneFrom recoveries.undone recoveries.undoEntries recoveries.undoSequences recoveries.undoStores
     recoveries.wholeStamp recoveries.greatestBelow recoveries.greatestOf recoveries.newBase recoveries.oneIfTorn recoveries.tornBelow recoveries.tornOf

@@ -3,6 +3,7 @@ use Prim.Native.Nat.{ℕ, zero, suc}
 use mathlib.Core.Path.{_≡_, refl}
 use mathlib.Core.Bool.{true, false}
 use mathlib.Core.List.{List, [], _∷_, _++_}
+use Rattle.txn.specs.Txn.{former}
 use Rattle.image.specs.Image.{dataOf}
 use Rattle.image.specs.declared.Sizes.{Sizes}
 use Rattle.log.specs.declared.Timestamp.the-variants.{None, At}
@@ -11,10 +12,10 @@ use Rattle.record.specs.Record.{noLane, laneAt}
 use Rattle.record.specs.declared.Lane.{Lane}
 use Rattle.store.specs.declared.Answer.the-variants.{Refused, Done, Logged, Committed, Stale, Changed, Marked}
 use Rattle.recovery.specs.declared.Recovered.the-variants.{Cut, Finished}
-use Rattle.crash.specs.Events.{log, redo, validate, mark, drain, Event, call, writeBack, recover, fails, failsInDrain, failsAfterDrain}
+use Rattle.crash.specs.Events.{logBy, log, redo, validateBy, validate, mark, drain, Event, call, writeBack, recover, fails, failsInDrain, failsAfterDrain}
 use Rattle.crash.specs.Events.{failsInRecovery, System, live, down, Reply, answered, recovered, failed, vandzulge, happens}
 use Rattle.crash.proofs.worked.Everything.{everything}
-use Rattle.crash.proofs.worked.Worked.{small, junk, set0, copy, writeBacks, twoLanes}
+use Rattle.crash.proofs.worked.Worked.{small, junk, set0, copy, poke, pokePassed, writeBacks, twoLanes}
 
 -- ---- running a list of events
 unfoldable replies : Sizes → System → List Event → List Reply
@@ -39,9 +40,12 @@ unfoldable laneIn : ℕ → System → Lane
 laneIn L (live m) = laneAt (m .state) L
 laneIn L (down nvm j found) = noLane
 
--- both data words are 0 at first
+-- a start with these data words; both are 0 at first
+abbrev begunWith : List ℕ → System
+begunWith start = live (started small 0 (startImage small start))
+
 abbrev begun : System
-begun = live (started small 0 (startImage small (0 ∷ 0 ∷ [])))
+begun = begunWith (0 ∷ 0 ∷ [])
 
 -- ---- the two-lane scenario
 two-lanes : replies small begun twoLanes
@@ -231,3 +235,63 @@ marks (suc n) = call (mark 0) ∷ marks n
 full-log : replies small (afterAll small begun (call (mark 1) ∷ marks 34)) (call (mark 0) ∷ []) ≡ answered (Refused 9) ∷ []
 unfolding everything replies afterAll marks
 full-log = refl
+
+-- ---- POKE is withdrawn. Word 0 is 3, so a POKE by it writes word 3 mod 2, which is 1.
+-- A new transaction with one is refused with 5, by Log also where it is passed over; one that was logged under the former rule is redone
+abbrev redone : List Event
+redone =
+    call (logBy former 0 poke)
+    ∷ call (log 1 poke)
+    ∷ call (log 1 pokePassed)
+    ∷ call (validate 0 poke)
+    ∷ call (redo 0)
+    ∷ []
+
+poke-redone : replies small (begunWith (3 ∷ 0 ∷ [])) redone
+    ≡ answered (Logged (record { count = 1; stamp = 2 }))
+    ∷ answered (Refused 5)
+    ∷ answered (Refused 5)
+    ∷ answered (Refused 5)
+    ∷ answered (Committed 4)
+    ∷ []
+unfolding everything replies
+poke-redone = refl
+
+poke-redone-words : cachedIn small (afterAll small (begunWith (3 ∷ 0 ∷ [])) redone) ≡ 3 ∷ 7 ∷ []
+unfolding everything afterAll cachedIn
+poke-redone-words = refl
+
+-- or dropped by a Mark
+poke-dropped : replies small (begunWith (3 ∷ 0 ∷ [])) (call (logBy former 0 poke) ∷ call (mark 0) ∷ call (redo 0) ∷ [])
+    ≡ answered (Logged (record { count = 1; stamp = 2 })) ∷ answered (Marked (record { stamp = 4; dropped = true })) ∷ answered (Refused 7) ∷ []
+unfolding everything replies
+poke-dropped = refl
+
+-- a cut with one committed at 4: all is written back, the boundary is 4, and it is undone; or it is marked at 6 and drained, the boundary is 6, and it stays
+abbrev redoneCut : System
+redoneCut = afterAll small (begunWith (3 ∷ 0 ∷ [])) (redone ++ (writeBacks 0 139 ++ (fails junk ∷ [])))
+
+poke-undone : replies small redoneCut (recover 1000 junk ∷ []) ≡ recovered (Finished (record { boundary = At 4; undone = 1; torn = 0 })) ∷ []
+unfolding everything replies afterAll writeBacks
+poke-undone = refl
+
+poke-undone-words : wordsIn small (afterAll small redoneCut (recover 1000 junk ∷ [])) ≡ 3 ∷ 0 ∷ []
+unfolding everything afterAll writeBacks wordsIn
+poke-undone-words = refl
+
+poke-kept-words : wordsIn small (afterAll small (begunWith (3 ∷ 0 ∷ [])) (redone ++ (call (mark 0) ∷ call (drain 0) ∷ fails junk ∷ recover 1000 junk ∷ [])))
+    ≡ 3 ∷ 7 ∷ []
+unfolding everything afterAll wordsIn
+poke-kept-words = refl
+
+-- one that was validated under the former rule, after a commit of lane 1, is a commit as any other
+poke-validated : replies small (begunWith (3 ∷ 0 ∷ []))
+    (call (logBy former 0 poke) ∷ call (log 1 (set0 5)) ∷ call (redo 1) ∷ call (redo 0) ∷ call (validateBy former 0 poke) ∷ [])
+    ≡ answered (Logged (record { count = 1; stamp = 2 }))
+    ∷ answered (Logged (record { count = 1; stamp = 4 }))
+    ∷ answered (Committed 6)
+    ∷ answered Stale
+    ∷ answered (Committed 8)
+    ∷ []
+unfolding everything replies
+poke-validated = refl

@@ -1,6 +1,6 @@
 -- What the worked lists of events share: sizes, transactions, and the two-lane scenario. Assumes nothing.
 use Prim.Native.Nat.{ℕ, zero, suc}
-use mathlib.Core.List.{List, [], _∷_}
+use mathlib.Core.List.{List, [], _∷_, _++_}
 use Rattle.image.specs.declared.Sizes.{Sizes}
 use Rattle.crash.specs.Events.{log, redo, validate, Junk, Event, writeBack, call}
 
@@ -18,6 +18,13 @@ set0 k = 1 ∷ 0 ∷ 0 ∷ k ∷ []
 
 abbrev pub copy : List ℕ
 copy = 2 ∷ 1 ∷ 0 ∷ 0 ∷ []
+
+-- POKE, which only the former rule takes: the word whose number is word 0 modulo W becomes 7. And the same where it is passed over if word 1 is 0
+abbrev pub poke : List ℕ
+poke = 4 ∷ 0 ∷ 0 ∷ 7 ∷ []
+
+abbrev pub pokePassed : List ℕ
+pokePassed = 5 ∷ 0 ∷ 1 ∷ 1 ∷ poke ++ set0 2
 
 -- write-backs of n words from word i on
 unfoldable pub writeBacks : (i n : ℕ) → List Event

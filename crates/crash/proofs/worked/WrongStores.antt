@@ -2,29 +2,31 @@
 -- the traps of this design, and stores that do too little or too much. Assumes nothing.
 use Prim.Native.Nat.{ℕ, zero, suc, _+_, _*_}
 use mathlib.Core.Path.{refl}
-use mathlib.Core.Bool.{cond}
+use mathlib.Core.Bool.{Bool, false, cond, _&&_, _||_}
 use mathlib.Core.List.{List, [], _∷_, _++_}
 use lib.Dec.{eqb, leb}
 use lib.ListN.{length, getD, set, take, drop}
-use Rattle.image.specs.Image.{logStart, baseOf}
+use Rattle.txn.specs.Txn.{Instruction, instructions, Rule, former, emit, passed, applied}
+use Rattle.image.specs.Image.{dataOf, logStart, baseOf}
 use Rattle.image.specs.Stores.{Store, stored}
 use Rattle.image.specs.declared.Sizes.{Sizes}
 use Rattle.log.specs.Log.{Old, Complete}
 use Rattle.log.specs.Append.{circular}
 use Rattle.log.specs.declared.Timestamp.{Timestamp}
 use Rattle.log.specs.declared.Timestamp.the-variants.{None, At}
-use Rattle.record.specs.Record.{laneAt, loggedIn, withLane}
+use Rattle.record.specs.Record.{noPair, laneAt, loggedIn, withLane}
 use Rattle.record.specs.declared.Lane.{Lane}
-use Rattle.store.specs.Machine.{Machine, Step}
-use Rattle.store.specs.Calls.{started, drained, writesOn, logged, formatStep, writeBackStep, logRefusal, logStep, redoStep, validateStep, markStep}
+use Rattle.store.specs.Machine.{Machine, Step, said}
+use Rattle.store.specs.Calls.{started, drained, writesOn, logged, formatStep, writeBackStep, logRefusalBy, logStepBy, redoStep, validateStepBy, markStep}
 use Rattle.store.specs.declared.Answer.the-variants.{Refused, Logged, Stale}
 use Rattle.recovery.specs.Recovery.{completeOf, ordered, undone, undoSequences, undoStores, newBase, tornIn, zeros, recoverStep, recoveredNvm, Restarted}
 use Rattle.recovery.specs.declared.Finished.{Finished}
 use Rattle.recovery.specs.declared.Recovered.{Recovered}
 use Rattle.recovery.specs.declared.Recovered.the-variants as recovereds
-use Rattle.crash.specs.Events.{Call, log, redo, validate, mark, drain, Event, format, writeBack, call, recover, fails, failsInDrain, Design, callStep}
+use Rattle.crash.specs.Events.{Call, logBy, log, redo, validateBy, validate, mark, drain, Event, format, writeBack, call, recover, fails, failsInDrain}
+use Rattle.crash.specs.Events.{Design, callStep}
 use Rattle.crash.specs.Theorem.{CrashTheorem}
-use Rattle.crash.proofs.worked.Worked.{small, junk, set0, copy, writeBacks, twoLanes}
+use Rattle.crash.proofs.worked.Worked.{small, junk, set0, copy, poke, pokePassed, writeBacks, twoLanes}
 use Rattle.crash.proofs.worked.Refute.{wrong-words, wrong-clock, wrong-answer, wrong-count, wrong-recovery, refuting}
 
 -- A refutation names the store, the sizes, the start words, the events, then the last event, and two lists: the numbers that the store has at its end,
@@ -41,31 +43,31 @@ unfoldable calling : Calls → Design
 calling f = record { format = formatStep; writeBack = writeBackStep; call = f; recover = recoverStep; cutShort = recoveredNvm }
 
 -- in one of them
-unfoldable logging : (Sizes → ℕ → List ℕ → Machine → Step) → Calls → Calls
-logging f rest z (log L g) m = f z L g m
+unfoldable logging : (Rule → Sizes → ℕ → List ℕ → Machine → Step) → Calls → Calls
+logging f rest z (logBy r L g) m = f r z L g m
 logging f rest z (redo L) m = rest z (redo L) m
-logging f rest z (validate L g) m = rest z (validate L g) m
+logging f rest z (validateBy r L g) m = rest z (validateBy r L g) m
 logging f rest z (mark L) m = rest z (mark L) m
 logging f rest z (drain L) m = rest z (drain L) m
 
 unfoldable redoing : (Sizes → ℕ → Machine → Step) → Calls → Calls
-redoing f rest z (log L g) m = rest z (log L g) m
+redoing f rest z (logBy r L g) m = rest z (logBy r L g) m
 redoing f rest z (redo L) m = f z L m
-redoing f rest z (validate L g) m = rest z (validate L g) m
+redoing f rest z (validateBy r L g) m = rest z (validateBy r L g) m
 redoing f rest z (mark L) m = rest z (mark L) m
 redoing f rest z (drain L) m = rest z (drain L) m
 
-unfoldable validating : (Sizes → ℕ → List ℕ → Machine → Step) → Calls → Calls
-validating f rest z (log L g) m = rest z (log L g) m
+unfoldable validating : (Rule → Sizes → ℕ → List ℕ → Machine → Step) → Calls → Calls
+validating f rest z (logBy r L g) m = rest z (logBy r L g) m
 validating f rest z (redo L) m = rest z (redo L) m
-validating f rest z (validate L g) m = f z L g m
+validating f rest z (validateBy r L g) m = f r z L g m
 validating f rest z (mark L) m = rest z (mark L) m
 validating f rest z (drain L) m = rest z (drain L) m
 
 unfoldable marking : (Sizes → ℕ → Machine → Step) → Calls → Calls
-marking f rest z (log L g) m = rest z (log L g) m
+marking f rest z (logBy r L g) m = rest z (logBy r L g) m
 marking f rest z (redo L) m = rest z (redo L) m
-marking f rest z (validate L g) m = rest z (validate L g) m
+marking f rest z (validateBy r L g) m = rest z (validateBy r L g) m
 marking f rest z (mark L) m = f z L m
 marking f rest z (drain L) m = rest z (drain L) m
 
@@ -145,7 +147,7 @@ unfoldable logsKept : Machine → Sizes → Step → Step
 logsKept m z s = withCache (joined z (s .machine .cache) (m .cache)) s
 
 unfoldable byFirstStamp : Design
-byFirstStamp = calling (redoing (λ z L m. logsKept m z (redoStep z L m)) (validating (λ z L f m. logsKept m z (validateStep z L f m)) callStep))
+byFirstStamp = calling (redoing (λ z L m. logsKept m z (redoStep z L m)) (validating (λ r z L f m. logsKept m z (validateStepBy r z L f m)) callStep))
 
 by-first-stamp : CrashTheorem byFirstStamp → ⊥
 unfolding made byFirstStamp logsKept
@@ -156,11 +158,11 @@ by-first-stamp = wrong-recovery byFirstStamp small (0 ∷ 0 ∷ []) (twoLanes ++
 unfoldable neverFull : Calls
 neverFull =
     logging
-    (λ z L f m.
+    (λ r z L f m.
     let ws = writesOn z f m in
-    cond (eqb (logRefusal z L f m) 9)
+    cond (eqb (logRefusalBy r z L f m) 9)
     (record { answer = Logged (record { count = length ws; stamp = m .state .clock + 2 }); machine = logged z L ws (drained z L m) })
-    (logStep z L f m))
+    (logStepBy r z L f m))
     callStep
 
 -- word 0 plus 1, n times
@@ -184,8 +186,8 @@ unfoldable overFirst : Design
 overFirst =
     calling
     (validating
-    (λ z L f m.
-    let s = validateStep z L f m in
+    (λ r z L f m.
+    let s = validateStepBy r z L f m in
     let l = laneIn L s in
     withLaneOf L (record { phase = l .phase; next = loggedIn (laneAt (m .state) L .phase) .first; wrap = l .wrap; floor = l .floor; redo = l .redo }) s)
     neverFull)
@@ -212,7 +214,7 @@ oddAt z L slot s =
 unfoldable oddStamps : Design
 oddStamps =
     calling
-    (logging (λ z L f m. oddAt z L (circular z.slots (laneAt (m .state) L .next + length (writesOn z f m))) (logStep z L f m))
+    (logging (λ r z L f m. oddAt z L (circular z.slots (laneAt (m .state) L .next + length (writesOn z f m))) (logStepBy r z L f m))
     (redoing (λ z L m. let g = loggedIn (laneAt (m .state) L .phase) in oddAt z L (circular z.slots (g .first + g .count)) (redoStep z L m)) callStep))
 
 odd-stamps : CrashTheorem oddStamps → ⊥
@@ -255,8 +257,8 @@ unfoldable noFirstFloor : Design
 noFirstFloor =
     calling
     (logging
-    (λ z L f m.
-    let s = logStep z L f m in
+    (λ r z L f m.
+    let s = logStepBy r z L f m in
     let l = laneIn L s in
     withLaneOf L (record { phase = l .phase; next = l .next; wrap = l .wrap; floor = laneAt (drained z L m .state) L .floor; redo = l .redo }) s)
     callStep)
@@ -341,7 +343,7 @@ refusedIfNone None m s = record { answer = Refused 9; machine = m }
 refusedIfNone (At f) m s = s
 
 unfoldable nineOnEmpty : Design
-nineOnEmpty = calling (logging (λ z L f m. refusedIfNone (laneAt (m .state) L .floor) m (logStep z L f m)) callStep)
+nineOnEmpty = calling (logging (λ r z L f m. refusedIfNone (laneAt (m .state) L .floor) m (logStepBy r z L f m)) callStep)
 
 nine-on-empty : CrashTheorem nineOnEmpty → ⊥
 unfolding made nineOnEmpty refusedIfNone
@@ -413,3 +415,47 @@ torn-left : CrashTheorem tornLeft → ⊥
 unfolding made tornLeft
 torn-left =
     wrong-count tornLeft small (0 ∷ 0 ∷ []) (call (log 0 (set0 2)) ∷ writeBack 3 ∷ fails junk ∷ []) 1000 junk (0 ∷ 0 ∷ []) (0 ∷ 1 ∷ []) refl
+
+-- ---- the withdrawn POKE
+-- 21. Log refuses a POKE only where its run comes to it, and takes one that is passed over
+unfoldable pokes : (W n : ℕ) → List Instruction → List ℕ → Bool
+pokes W n [] ws = false
+pokes W n (x ∷ xs) ws = (eqb n 0 && eqb (x .code) 4) || pokes W (passed n x ws) xs (applied (emit W n x ws) ws)
+
+unfoldable pokePassedOver : Design
+pokePassedOver =
+    calling
+    (logging
+    (λ r z L f m. cond (pokes z.words 0 (instructions f) (dataOf z (m .cache))) (record { answer = Refused 5; machine = m }) (logStepBy former z L f m))
+    callStep)
+
+poke-passed-over : CrashTheorem pokePassedOver → ⊥
+unfolding made pokePassedOver pokes
+poke-passed-over = wrong-answer pokePassedOver small (3 ∷ 0 ∷ []) [] (log 0 pokePassed) (0 ∷ 2 ∷ []) (5 ∷ []) refl
+
+-- 22. Validate takes the POKE that its lane holds
+unfoldable validatesPoke : Design
+validatesPoke = calling (validating (λ r z L f m. validateStepBy former z L f m) callStep)
+
+validates-poke : CrashTheorem validatesPoke → ⊥
+unfolding made validatesPoke
+validates-poke = wrong-answer validatesPoke small (3 ∷ 0 ∷ []) (call (logBy former 0 poke) ∷ []) (validate 0 poke) (0 ∷ 4 ∷ []) (5 ∷ []) refl
+
+-- 23. Redo refuses a transaction that has a POKE. What a lane holds does not tell, so this store notes a transaction's first code in the lane's last pair
+unfoldable noted : ℕ → (code : ℕ) → Step → Step
+noted L code s =
+    let l = laneIn L s in
+    let redo = set (l .redo) 15 (record { word = 0; value = code }) in
+    cond (said (s .answer) .refused) s (withLaneOf L (record { phase = l .phase; next = l .next; wrap = l .wrap; floor = l .floor; redo = redo }) s)
+
+unfoldable redoRefuses : Design
+redoRefuses =
+    calling
+    (logging (λ r z L f m. noted L (getD f 0 0) (logStepBy r z L f m))
+    (redoing
+    (λ z L m. cond (eqb (getD (laneAt (m .state) L .redo) 15 noPair .value) 4) (record { answer = Refused 5; machine = m }) (redoStep z L m))
+    callStep))
+
+redo-refuses : CrashTheorem redoRefuses → ⊥
+unfolding made redoRefuses noted
+redo-refuses = wrong-answer redoRefuses small (3 ∷ 0 ∷ []) (call (logBy former 0 poke) ∷ []) (redo 0) (5 ∷ []) (0 ∷ 4 ∷ []) refl

@@ -7,7 +7,7 @@ use mathlib.Core.List.{List}
 use native.Mathlib.Nat.{add-sub-cancel-left}
 use native.Mathlib.Omega.{arith}
 use lib.ListN.{length, take, drop}
-use Rattle.txn.specs.Txn.{maxWrites, txnOk, run}
+use Rattle.txn.specs.Txn.{maxWrites, current, txnOk, run}
 use Rattle.txn.specs.inner.Writes.{writesOf}
 use Rattle.txn.specs.inner.TxnLaws.{few-writes, run-low}
 use Rattle.txn.specs.inner.WritesLaws.{length-padded, take-padded, count-few}
@@ -63,10 +63,10 @@ module _ (W : ℕ) (t memory : List ℕ) (w : Writes) (e : w ≡ writesOf maxWri
   writes-few = rw e (count-few maxWrites W t memory ok)
 
   pub writes-run : take (w .count) (w .list) ≡ run W t memory
-  writes-run = writes-of w (run W t memory) e (few-writes maxWrites W t memory ok)
+  writes-run = writes-of w (run W t memory) e (few-writes current maxWrites W t memory ok)
 
   pub writes-low : WordsBelow W (take (w .count) (w .list))
-  writes-low = rw writes-run (run-low maxWrites W t memory ok)
+  writes-low = rw writes-run (run-low current maxWrites W t memory ok)
 
 -- on a machine's data words they are what the calls' refusals and steps speak of
 pub run-on : (z : Sizes) (t : List ℕ) (w : Writes) (state : Record) (cache nvm flags : List ℕ) → w ≡ writesOf maxWrites (run (z .words) t (dataOf z cache))

@@ -11,7 +11,7 @@ use lib.Dec.{ltb}
 use lib.Seq.{getD-set-same, set-out}
 use borrow.Author.Tests.{ne-eqb, eqb-true, leb-false, ltb-true, ltb-false, not-false}
 use Rattle.laws.specs.inner.Tests.{split}
-use Rattle.txn.specs.Txn.{maxWrites, txnOk}
+use Rattle.txn.specs.Txn.{maxWrites, current, txnOk}
 use Rattle.image.specs.Image.{maxLanes, sizesOk, imageLength}
 use Rattle.image.specs.inner.ImageLaws.{sizes-in, Buffers, buffers-in}
 use Rattle.image.specs.Flush.{drainedNvm, drainedFlags}
@@ -48,11 +48,11 @@ first-none c cs h e =
 
 -- ---- causes of several calls, before any others
 module _ (cs : List Cause) where
-  pub refuses-txn : (z : Sizes) (f : List ℕ) → txnOk maxWrites (z .words) f ≡ false → firstCause (badTxn z f ∷ cs) ≡ 5
+  pub refuses-txn : (z : Sizes) (f : List ℕ) → txnOk maxWrites (z .words) f ≡ false → firstCause (badTxn current z f ∷ cs) ≡ 5
   unfolding badTxn
   refuses-txn z f e = first-holds _ cs (rw e)
 
-  pub passes-txn : (z : Sizes) (f : List ℕ) → txnOk maxWrites (z .words) f ≡ true → firstCause (badTxn z f ∷ cs) ≡ firstCause cs
+  pub passes-txn : (z : Sizes) (f : List ℕ) → txnOk maxWrites (z .words) f ≡ true → firstCause (badTxn current z f ∷ cs) ≡ firstCause cs
   unfolding badTxn
   passes-txn z f e = first-fails _ cs (rw e)
 

@@ -3,7 +3,7 @@ use Prim.Native.Nat.{_≤_, _-_}
 use borrow.Author.Needs.{needs}
 use Rattle.txn.specs.Txn.{maxWrites, instructionAt}
 use Rattle.txn.specs.inner.Progress.{Reached}
-use Rattle.txn.specs.inner.ProgressLaws.{reached-none, reached-all, reached-b, reached-skip, reached-target, reached-write}
+use Rattle.txn.specs.inner.ProgressLaws.{reached-none, reached-all, reached-b, reached-skip, reached-a, reached-write}
 use Rattle.txn.proofs.run.Statement.{statement}
 use Rattle.txn.proofs.run.Tie as tie
 
@@ -71,26 +71,19 @@ loop-again c = let v = c .before .before in
     let e = v .before .before .before .before .before .before .before in
     reached-skip (e .before .loop .inv .1) (e .loop-test .taken) _ (v .value .ensures) (c .before .if1 .taken) _ (c .distance .ensures)
 
-add-target : tie.Need-add-target Inv-loop μ-loop
-add-target c = search needs
+add-word : tie.Need-add-word Inv-loop μ-loop
+add-word c = search needs
 
-mul-target : tie.Need-mul-target Inv-loop μ-loop
-mul-target c = search needs
+mul-word : tie.Need-mul-word Inv-loop μ-loop
+mul-word c = search needs
 
-shared-slice-read-target : tie.Need-shared-slice-read-target Inv-loop μ-loop
-shared-slice-read-target c = search needs
-
-target-requires : tie.Need-target-requires Inv-loop μ-loop
-target-requires c κs = let e = c .before .before .before .before .before .before .before .before .before in
-    let b = reached-b (e .before .loop .inv .1) (e .loop-test .taken) in
-    search needs
+shared-slice-read-word : tie.Need-shared-slice-read-word Inv-loop μ-loop
+shared-slice-read-word c = search needs
 
 value-requires-2 : tie.Need-value-requires-2 Inv-loop μ-loop
 unfolding instructionAt
-value-requires-2 c κs = let t = c .before .before .before in
-    let v = t .before .before .before in
-    let e = v .before .before .before .before .before .before .before in
-    reached-target (e .before .loop .inv .1) (e .loop-test .taken) _ (v .value .ensures) (t .before .before .if1 .left) _ (t .target .ensures)
+value-requires-2 c κs = let e = c .before .before .before .before .before .before .before .before .before .before .before .before in
+    reached-a (e .before .loop .inv .1) (e .loop-test .taken)
 
 result-requires : tie.Need-result-requires Inv-loop μ-loop
 result-requires c κs = search needs
@@ -128,12 +121,12 @@ loop-less-2 c = search needs
 loop-again-2 : tie.Need-loop-again-2 Inv-loop μ-loop
 unfolding instructionAt
 loop-again-2 c = let o = c .before in
-    let t = o .before .before .before .before in
-    let v = t .before .before .before in
+    let w = o .before .before .before .before .before in
+    let v = w .before in
     let e = v .before .before .before .before .before .before .before in (
       search needs,
-      reached-write (e .before .loop .inv .1) (e .loop-test .taken) _ (v .value .ensures) (t .before .before .if1 .left) _ (t .target .ensures)
-          _ _ (o .value2 .ensures) (c .result .ensures),
+      reached-write (e .before .loop .inv .1) (e .loop-test .taken) _ (v .value .ensures) (w .if1 .left) _ _ (o .value2 .ensures)
+          (c .result .ensures),
     )
 
 returns : tie.Need-returns Inv-loop μ-loop
@@ -143,7 +136,7 @@ pub run-spec : {M : Type 1} → statement M
 run-spec =
     tie.close
     (tie.spec Inv-loop μ-loop loop-holds mul-at add-i mul-code shared-slice-read-code add-k mul-k shared-slice-read-k
-    add-value mul-value shared-slice-read-value value-requires distance-requires add-i-2 loop-less loop-again add-target
-    mul-target shared-slice-read-target target-requires value-requires-2 result-requires mul-list array-set-from-list
+    add-value mul-value shared-slice-read-value value-requires distance-requires add-i-2 loop-less loop-again add-word
+    mul-word shared-slice-read-word value-requires-2 result-requires mul-list array-set-from-list
     mul-words array-write-words mul-news array-write-news add-count cast-last array-write-last loop-less-2 loop-again-2
     returns)

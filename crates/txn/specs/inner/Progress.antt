@@ -5,7 +5,7 @@ use mathlib.Core.Bool.{true}
 use mathlib.Core.List.{List, _++_}
 use lib.ListN.{length}
 use Rattle.txn.specs.declared.Write.{Write}
-use Rattle.txn.specs.Txn.{instructionsFrom, allOk, applied, runFrom, run}
+use Rattle.txn.specs.Txn.{instructionsFrom, current, allBy, applied, runFrom, run}
 use Rattle.txn.specs.inner.Writes.{padded}
 use Rattle.txn.specs.inner.Lookup.{Seen}
 
@@ -17,5 +17,5 @@ pub record Reached (most : ℕ) (f ws : List ℕ) (n i : ℕ) (list : List Write
   pub seen : Seen most ws count words news last (applied done ws)
   pub few : count ≤ i
   pub fits : n ≤ most
-  pub ok : allOk (length ws) (instructionsFrom f i (n - i)) ≡ true
+  pub ok : allBy current (length ws) (instructionsFrom f i (n - i)) ≡ true
   pub rest : run (length ws) f ws ≡ done ++ runFrom (length ws) 0 (instructionsFrom f i (n - i)) (applied done ws)

@@ -5,16 +5,16 @@ use mathlib.Core.Path.{_≡_, refl, sym, ap, _∙_}
 use mathlib.Core.Bool.{true, cond, _&&_}
 use mathlib.Core.List.{List, [], _∷_, _++_, append-assoc, append-nil}
 use native.Mathlib.Omega.{arith}
-use native.Mathlib.Nat.{mod-lt, le-of-suc-le-suc}
+use native.Mathlib.Nat.{le-of-suc-le-suc}
 use lib.Dec.{eqb}
 use lib.ListN.{length, getD, set, replicate, length-append}
 use borrow.Author.Tests.{eq-eqb, ne-eqb, le-leb}
-use Rattle.laws.specs.inner.Tests.{split, and-left, and-right}
+use Rattle.laws.specs.inner.Tests.{split, clash, and-left, and-right}
 use Rattle.txn.specs.declared.Write.{Write}
-use Rattle.txn.specs.Txn.{Instruction, instructionAt, instructionsFrom, instructions, instructionOk, allOk, txnOk}
+use Rattle.txn.specs.Txn.{Instruction, instructionAt, instructionsFrom, instructions, instructionOk, current, instructionBy, allBy, txnOk}
 use Rattle.txn.specs.Txn.{target, result, emit, passed, applied, runFrom, run}
 use Rattle.txn.specs.inner.Writes.{noWrite, writesOf}
-use Rattle.txn.specs.inner.CheckLaws.{ok-few, ok-low, ok-skip, ok-all, from-next, all-next}
+use Rattle.txn.specs.inner.CheckLaws.{ok-few, ok-low, ok-skip, ok-all, poke-refused, from-next, all-next}
 use Rattle.txn.specs.inner.TxnLaws.{applied-append}
 use Rattle.txn.specs.inner.WritesLaws.{padded-none, set-padded}
 use Rattle.txn.specs.inner.Lookup.{buckets, latest}
@@ -33,8 +33,8 @@ reached-none most f ws ok =
       listed = padded-none most;
       seen = seen-none most ws;
       few = omega arith;
-      fits = ok-few most (length ws) f ok;
-      ok = rw z (ok-all most (length ws) f ok);
+      fits = ok-few current most (length ws) f ok;
+      ok = rw z (ok-all current most (length ws) f ok);
       rest = rw z;
     }
 
@@ -50,14 +50,19 @@ module _ (W : ℕ) (f : List ℕ) where
       let p : suc k - 1 ≡ k = omega arith in
       rw (le-leb 1 (suc k) (omega arith), p, e, z) (run-over k (suc i) m ws (le-of-suc-le-suc h))
 
-  all-over : (k i m : ℕ) → k ≤ m → allOk W (instructionsFrom f i m) ≡ true → allOk W (instructionsFrom f (i + k) (m - k)) ≡ true
-  unfolding instructionsFrom allOk
+  all-over : (k i m : ℕ) → k ≤ m → allBy current W (instructionsFrom f i m) ≡ true → allBy current W (instructionsFrom f (i + k) (m - k)) ≡ true
+  unfolding instructionsFrom allBy
   all-over zero i m h a = let e : i + 0 ≡ i = omega arith in let z : m - 0 ≡ m = omega arith in rw (e, z) a
   all-over (suc k) i zero h a = absurd (omega arith)
   all-over (suc k) i (suc m) h a =
       let e : i + suc k ≡ suc i + k = omega arith in
       let z : suc m - suc k ≡ m - k = omega arith in
-      rw (e, z) (all-over k (suc i) m (le-of-suc-le-suc h) (and-right (instructionOk W (length (instructionsFrom f (suc i) m)) (instructionAt f i)) _ a))
+      rw (e, z) (all-over k (suc i) m (le-of-suc-le-suc h) (and-right (instructionBy current W (length (instructionsFrom f (suc i) m)) (instructionAt f i)) _ a))
+
+-- no instruction that is ok is a POKE: it writes word a
+ok-target : (W : ℕ) (x : Instruction) (n : ℕ) (ws : List ℕ) → instructionOk W n x ≡ true → target W x ws ≡ x .a
+unfolding target
+ok-target W x n ws h = rw (ne-eqb (x .code) 4 (λ e. clash (instructionOk W n x) h (poke-refused W x n e)))
 
 module _ {most : ℕ} {f ws : List ℕ} {n i : ℕ} {list : List Write} {words news last : List ℕ} {count : ℕ}
     (h : Reached most f ws n i list words news last count)
@@ -80,19 +85,23 @@ module _ {most : ℕ} {f ws : List ℕ} {n i : ℕ} {list : List Write} {words n
       abbrev running : List ℕ
       running = applied (h .done) ws
 
-      all-ok : (instructionOk (length ws) (n - i - 1) next && allOk (length ws) later) ≡ true
+      all-ok : (instructionOk (length ws) (n - i - 1) next && allBy current (length ws) later) ≡ true
       all-ok = sym (all-next (length ws) f n i l) ∙ h .ok
 
-      later-ok : allOk (length ws) later ≡ true
+      later-ok : allBy current (length ws) later ≡ true
       later-ok = and-right (instructionOk (length ws) (n - i - 1) next) _ all-ok
 
       low : (next .a < length ws) × (next .b < length ws)
-      low = ok-low (length ws) next (n - i - 1) (and-left _ _ all-ok)
+      unfolding instructionBy
+      low = ok-low (length ws) next current (n - i - 1) (and-left _ _ all-ok)
 
       within : (w : ℕ) → getD last (w % buckets) 0 ≤ most
       within w = omega (arith, h .seen .within w, h .few, h .fits)
 
-      -- its word b can be looked up
+      -- its words a and b can be looked up
+      pub reached-a : (getD last (next .a % buckets) 0 ≤ most) × (next .a < length ws)
+      reached-a = (within (next .a), low .0)
+
       pub reached-b : (getD last (next .b % buckets) 0 ≤ most) × (next .b < length ws)
       reached-b = (within (next .b), low .1)
 
@@ -145,58 +154,49 @@ module _ {most : ℕ} {f ws : List ℕ} {n i : ℕ} {list : List Write} {words n
                 },
               )
 
-        module _ (no : next .code ≡ 5 → ⊥) (word : ℕ) (t : word ≡ cond (eqb (next .code) 4) (x % length ws) (next .a)) where
-          word-low : word < length ws
-          word-low = rw t (split (eqb (next .code) 4) (λ e. rw e (mod-lt x (omega (arith, low)))) (λ e. rw e (low .0)))
+        module _ (no : next .code ≡ 5 → ⊥) (old new : ℕ) (o : old ≡ latest words news (getD last (next .a % buckets) 0) ws (next .a))
+            (r : new ≡ cond (eqb (next .code) 2) x (cond (eqb (next .code) 3) ((x + next .k) % 2 ^ 64) (next .k)))
+          where
+            abbrev write : Write
+            write = record { word = next .a; old = old; new = new }
 
-          -- the word that it writes can be looked up
-          pub reached-target : (getD last (word % buckets) 0 ≤ most) × (word < length ws)
-          reached-target = (within word, word-low)
+            word-is : target (length ws) next running ≡ next .a
+            word-is = ok-target (length ws) next (n - i - 1) running (and-left _ _ all-ok)
 
-          module _ (old new : ℕ) (o : old ≡ latest words news (getD last (word % buckets) 0) ws word)
-              (r : new ≡ cond (eqb (next .code) 2) x (cond (eqb (next .code) 3) ((x + next .k) % 2 ^ 64) (next .k)))
-            where
-              abbrev write : Write
-              write = record { word = word; old = old; new = new }
+            old-is : getD running (next .a) 0 ≡ old
+            old-is = sym (o ∙ h .seen .by-bucket (next .a) (low .0))
 
-              word-is : target (length ws) next running ≡ word
-              unfolding target
-              word-is = rw x-is (sym t)
+            new-is : result next running ≡ new
+            unfolding result
+            new-is = rw x-is (sym r)
 
-              old-is : getD running word 0 ≡ old
-              old-is = sym (o ∙ h .seen .by-bucket word word-low)
+            emitted : emit (length ws) 0 next running ≡ write ∷ []
+            unfolding emit
+            emitted = rw (ne-eqb (next .code) 5 no, word-is, old-is, new-is)
 
-              new-is : result next running ≡ new
-              unfolding result
-              new-is = rw x-is (sym r)
+            goes-on : passed 0 next running ≡ 0
+            unfolding passed
+            goes-on = rw (ne-eqb (next .code) 5 no)
 
-              emitted : emit (length ws) 0 next running ≡ write ∷ []
-              unfolding emit
-              emitted = rw (ne-eqb (next .code) 5 no, word-is, old-is, new-is)
+            stored : applied (h .done ++ (write ∷ [])) ws ≡ set running (next .a) new
+            unfolding applied
+            stored = applied-append (h .done) (write ∷ []) ws
 
-              goes-on : passed 0 next running ≡ 0
-              unfolding passed
-              goes-on = rw (ne-eqb (next .code) 5 no)
+            rest-written : run (length ws) f ws ≡ (h .done ++ (write ∷ [])) ++ runFrom (length ws) 0 later (applied (h .done ++ (write ∷ [])) ws)
+            unfolding applied
+            rest-written = rw (stored, append-assoc (h .done) (write ∷ [])) (rw (emitted, goes-on) at left)
 
-              stored : applied (h .done ++ (write ∷ [])) ws ≡ set running word new
-              unfolding applied
-              stored = applied-append (h .done) (write ∷ []) ws
-
-              rest-written : run (length ws) f ws ≡ (h .done ++ (write ∷ [])) ++ runFrom (length ws) 0 later (applied (h .done ++ (write ∷ [])) ws)
-              unfolding applied
-              rest-written = rw (stored, append-assoc (h .done) (write ∷ [])) (rw (emitted, goes-on) at left)
-
-              -- it writes
-              pub reached-write : Reached most f ws n (i + 1) (set list count write)
-                  (set words count word) (set news count new) (set last (word % buckets) (count + 1)) (count + 1)
-              reached-write =
-                  record {
-                    done = h .done ++ (write ∷ []);
-                    counted = omega (arith, h .counted, length-append (h .done) (write ∷ []));
-                    listed = rw (h .listed, h .counted) (set-padded most (h .done) write (omega (arith, h .few, h .fits, h .counted)));
-                    seen = rw stored (seen-more most ws count words news last running (h .seen) word new (omega (arith, h .few, h .fits)));
-                    few = omega (arith, h .few);
-                    fits = h .fits;
-                    ok = later-ok;
-                    rest = rest-written;
-                  }
+            -- it writes
+            pub reached-write : Reached most f ws n (i + 1) (set list count write)
+                (set words count (next .a)) (set news count new) (set last (next .a % buckets) (count + 1)) (count + 1)
+            reached-write =
+                record {
+                  done = h .done ++ (write ∷ []);
+                  counted = omega (arith, h .counted, length-append (h .done) (write ∷ []));
+                  listed = rw (h .listed, h .counted) (set-padded most (h .done) write (omega (arith, h .few, h .fits, h .counted)));
+                  seen = rw stored (seen-more most ws count words news last running (h .seen) (next .a) new (omega (arith, h .few, h .fits)));
+                  few = omega (arith, h .few);
+                  fits = h .fits;
+                  ok = later-ok;
+                  rest = rest-written;
+                }

@@ -12,7 +12,8 @@ use lib.Seq.{set-set, set-getD}
 use Rattle.laws.specs.inner.Tests.{split, and-left, and-right}
 use Rattle.laws.specs.inner.Lists.{All, none, more, All-append}
 use Rattle.txn.specs.declared.Write.{Write}
-use Rattle.txn.specs.Txn.{Instruction, instructionsFrom, instructions, instructionOk, allOk, txnOk, target, emit, passed, applied, runFrom, run, after}
+use Rattle.txn.specs.Txn.{Instruction, instructionsFrom, instructions, Rule, instructionBy, allBy, txnBy}
+use Rattle.txn.specs.Txn.{target, emit, passed, applied, runFrom, run, after}
 use Rattle.txn.specs.inner.CheckLaws.{length-from, ok-few, ok-all, ok-low}
 
 -- ---- the words after a list of writes
@@ -44,8 +45,8 @@ pub length-run : (W : ℕ) (f ws : List ℕ) → length (run W f ws) ≤ length 
 unfolding run instructions
 length-run W f ws = omega (arith, length-runFrom W 0 (instructionsFrom f 0 (length f / 4)) ws, length-from f 0 (length f / 4))
 
-pub few-writes : (most W : ℕ) (f ws : List ℕ) → txnOk most W f ≡ true → length (run W f ws) ≤ most
-few-writes most W f ws ok = omega (arith, length-run W f ws, ok-few most W f ok)
+pub few-writes : (r : Rule) (most W : ℕ) (f ws : List ℕ) → txnBy r most W f ≡ true → length (run W f ws) ≤ most
+few-writes r most W f ws ok = omega (arith, length-run W f ws, ok-few r most W f ok)
 
 -- ---- every word written is below W
 target-low : (W : ℕ) (x : Instruction) (ws : List ℕ) → x .a < W → target W x ws < W
@@ -56,16 +57,16 @@ emit-low : (W n : ℕ) (x : Instruction) (ws : List ℕ) → x .a < W → All (�
 unfolding emit
 emit-low W n x ws h = split (leb 1 n || eqb (x .code) 5) (λ e. rw e none) (λ e. rw e (more (target-low W x ws h) none))
 
-pub runFrom-low : (W n : ℕ) (xs : List Instruction) (ws : List ℕ) → allOk W xs ≡ true → All (λ w. w .word < W) (runFrom W n xs ws)
-unfolding runFrom allOk
-runFrom-low W n [] ws ok = none
-runFrom-low W n (x ∷ xs) ws ok =
-    All-append (emit-low W n x ws (ok-low W x (length xs) (and-left _ _ ok) .0))
-    (runFrom-low W (passed n x ws) xs (applied (emit W n x ws) ws) (and-right (instructionOk W (length xs) x) _ ok))
+pub runFrom-low : (r : Rule) (W n : ℕ) (xs : List Instruction) (ws : List ℕ) → allBy r W xs ≡ true → All (λ w. w .word < W) (runFrom W n xs ws)
+unfolding runFrom allBy
+runFrom-low r W n [] ws ok = none
+runFrom-low r W n (x ∷ xs) ws ok =
+    All-append (emit-low W n x ws (ok-low W x r (length xs) (and-left _ _ ok) .0))
+    (runFrom-low r W (passed n x ws) xs (applied (emit W n x ws) ws) (and-right (instructionBy r W (length xs) x) _ ok))
 
-pub run-low : (most W : ℕ) (f ws : List ℕ) → txnOk most W f ≡ true → All (λ w. w .word < W) (run W f ws)
+pub run-low : (r : Rule) (most W : ℕ) (f ws : List ℕ) → txnBy r most W f ≡ true → All (λ w. w .word < W) (run W f ws)
 unfolding run
-run-low most W f ws ok = runFrom-low W 0 (instructions f) ws (ok-all most W f ok)
+run-low r most W f ws ok = runFrom-low r W 0 (instructions f) ws (ok-all r most W f ok)
 
 -- ---- each old value is the running one
 pub data Chain : List ℕ → List Write → Type 0 where

@@ -9,7 +9,7 @@ use native.Mathlib.Nat.{le-of-suc-le-suc}
 use lib.ListN.{length, getD, set, take, replicate}
 use Rattle.laws.specs.inner.Lists.{All, none, more}
 use Rattle.txn.specs.declared.Write.{Write}
-use Rattle.txn.specs.Txn.{txnOk, run}
+use Rattle.txn.specs.Txn.{current, txnOk, run}
 use Rattle.txn.specs.inner.Writes.{noWrite, padded, writesOf}
 use Rattle.txn.specs.inner.TxnLaws.{few-writes}
 
@@ -48,4 +48,4 @@ All-getD (suc i) (more p a) h = All-getD i a (le-of-suc-le-suc h)
 module _ (most W : ℕ) (f ws : List ℕ) (ok : txnOk most W f ≡ true) where
   pub count-few : writesOf most (run W f ws) .count ≤ most
   unfolding writesOf
-  count-few = few-writes most W f ws ok
+  count-few = few-writes current most W f ws ok
