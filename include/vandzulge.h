@@ -11,7 +11,9 @@
  *                A taken call writes them all: a phase or floor word that is set becomes 1, words that say nothing 0, in lanes not in use too
  *   answer       VANDZULGE_ANSWER_WORDS words
  *   txn          a transaction: 4 words an instruction (code, a, b, k), 1 to 16 instructions; unused fields are 0, a and b are data word numbers
- *                1 SET a := k   2 COPY a := [b]   3 ADD a := [b] + k   4 POKE word [b] mod W := k   5 SKIP the next k (1 to 15) if [b] is 0
+ *                1 SET a := k   2 COPY a := [b]   3 ADD a := [b] + k   5 SKIP the next k (1 to 15) if [b] is 0
+ *                4 was POKE, word [b] mod W := k, and is withdrawn: Log and Validate refuse it with 5 wherever it stands, also where SKIP would pass over it.
+ *                A lane that holds one, logged by an earlier library: Redo commits it unless it is stale, Mark drops it, and Validate with it is refused
  *
  * What the caller owes: no null pointer, also where a length is 0; each pointer has its length in elements, aligned; a buffer that is written overlaps no
  * other one; nobody else touches them during a call, nor writes them between calls. All else is checked: any words are taken as a record, transaction or image.

@@ -47,7 +47,7 @@ pub enum Refusal {
     Lane,
     /// 4: no such word in the image
     Word,
-    /// 5: no well-formed transaction
+    /// 5: no well-formed transaction; one with the withdrawn POKE (code 4) is none, wherever it stands
     Txn,
     /// 6: Log on a lane that holds a transaction
     Logged,
@@ -182,7 +182,7 @@ impl Store<'_> {
         })
     }
 
-    /// Commits the lane's logged transaction with the values that Log computed.
+    /// Commits the lane's logged transaction with the values that Log computed; also one with a POKE, logged before that was withdrawn.
     pub fn redo(&mut self, lane: usize) -> Result<Redo, Refusal> {
         let Sizes { words, lanes, slots } = self.sizes;
         let mut answer: Answer = [0; ANSWER_WORDS];

@@ -12,6 +12,9 @@ const SIZES: Sizes = Sizes { words: 2, lanes: 2, slots: 34 };
 const COPY_0_TO_1: [u64; 4] = [2, 1, 0, 0];
 const SET_0_TO_2: [u64; 4] = [1, 0, 0, 2];
 const PASS_OVER: [u64; 8] = [5, 0, 0, 1, 1, 0, 0, 9];
+/// Withdrawn: the word whose number is word 0 modulo W becomes 7. And the same where it is passed over if word 1 is 0.
+const POKE: [u64; 4] = [4, 0, 0, 7];
+const PASS_OVER_POKE: [u64; 12] = [5, 0, 1, 1, 4, 0, 0, 7, 1, 0, 0, 9];
 
 #[test]
 fn two_lanes_and_a_power_cut() {
@@ -66,6 +69,32 @@ fn marks_drains_and_changes() {
         assert_eq!(store.validate(0, &SET_0_TO_2), Ok(Validate::Changed));
         assert_eq!(store.drain(0), Ok(()));
         assert_eq!(store.flags.iter().copied().max(), Some(0));
+    });
+}
+
+/// A store whose word 0 is 3, with lane 0 as a Log of that POKE left it under the former rule: it wrote word 3 modulo 2, so a Log of a SET of word 1 leaves the same.
+fn with_poke_held(test: impl FnOnce(&mut Store)) {
+    with_store(SIZES, |store| {
+        assert_eq!(store.format(&[3, 0]), Ok(()));
+        assert_eq!(store.log(0, &[1, 1, 0, 7]), Ok(Log::Logged { count: 1, stamp: 2 }));
+        test(store);
+    });
+}
+
+#[test]
+fn a_new_poke_is_refused_and_a_logged_one_ends_by_redo_or_mark() {
+    with_poke_held(|store| {
+        assert_eq!(store.log(1, &POKE), Err(Refusal::Txn));
+        assert_eq!(store.log(1, &PASS_OVER_POKE), Err(Refusal::Txn));
+        assert_eq!(store.validate(0, &POKE), Err(Refusal::Txn));
+        assert_eq!(store.validate(0, &PASS_OVER_POKE), Err(Refusal::Txn));
+        assert_eq!(store.redo(0), Ok(Redo::Committed { stamp: 4 }));
+        assert_eq!(store.cache[1..3], [3, 7]);
+    });
+    with_poke_held(|store| {
+        assert_eq!(store.mark(0), Ok(Mark { stamp: 4, dropped: true }));
+        assert_eq!(store.redo(0), Err(Refusal::Idle));
+        assert_eq!(store.cache[1..3], [3, 0]);
     });
 }
 

@@ -28,12 +28,16 @@ use second::words::plus;
 use second::words::put;
 use second::words::set_row;
 
-// SET, COPY, ADD, POKE or SKIP; a SKIP has an instruction after it.
+// The code for one of forty picks: SET, COPY or ADD, SKIP where an instruction comes after it, and now and then the
+// withdrawn POKE.
 fn code_for(pick: u64, after: u64) -> u64 {
-    if pick == 4 && after == 0 {
-        return 1;
+    if pick == 0 {
+        return 4;
     }
-    plus(pick, 1)
+    if pick <= 8 && after != 0 {
+        return 5;
+    }
+    plus(pick % 3, 1)
 }
 
 fn k_for(code: u64, k: u64, distance: u64) -> u64 {
@@ -44,14 +48,14 @@ fn k_for(code: u64, k: u64, distance: u64) -> u64 {
     }
 }
 
-// Instruction `at`, well formed, with `after` instructions after it.
+// Instruction `at`, well formed but for its code where that is POKE's, with `after` instructions after it.
 fn make_instruction(arena: &mut Arena, at: u64, after: u64) {
     let words = get(arena, STATE, WORDS);
     let a = below(arena, words);
     let b = below(arena, words);
     let k = value(arena);
     let distance = plus(1, below(arena, least(after, 15)));
-    let code = code_for(below(arena, 5), after);
+    let code = code_for(below(arena, 40), after);
     set_row(
         arena,
         TXN,

@@ -1,10 +1,12 @@
-// The bench sheet's half that is run on fixed lists of calls: both sides of the ends of each range, sets of causes of a
-// refusal, the two-lane scenario with recovery cut after each store. The control, which spoils what the store left, is
-// here too. Prints what it ran, what the store answered, and how many calls differed from the second implementation.
+// The bench sheet's half that is run on fixed lists of calls: both sides of the ends of each range, the withdrawn POKE,
+// sets of causes of a refusal, the two-lane scenario with recovery cut after each store. The control, which spoils what
+// the store left, is here too. Prints what it ran, what the store answered, and how many calls differed from the second
+// implementation.
 mod causes;
 mod control;
 mod edges;
 mod scenario;
+mod withdrawn;
 
 use bench::print;
 use bench::regions::TALLIED;
@@ -24,19 +26,21 @@ const LANES: u64 = 3;
 
 const TXNS: u64 = 4;
 
-const CLOCKS: u64 = 5;
+const WITHDRAWN: u64 = 5;
 
-const RECORDS: u64 = 6;
+const CLOCKS: u64 = 6;
 
-const SPOILED: u64 = 7;
+const RECORDS: u64 = 7;
 
-const SETS: u64 = 8;
+const SPOILED: u64 = 8;
 
-const OVERWRITING: u64 = 9;
+const SETS: u64 = 9;
 
-const TWO_LANES: u64 = 10;
+const OVERWRITING: u64 = 10;
 
-const CUTS: u64 = 11;
+const TWO_LANES: u64 = 11;
+
+const CUTS: u64 = 12;
 
 // Case i of an edge.
 fn edge(arena: &mut Arena, group: u64, i: u64) {
@@ -46,6 +50,7 @@ fn edge(arena: &mut Arena, group: u64, i: u64) {
         WORDS => edges::words(arena, i),
         LANES => edges::lanes(arena, i),
         TXNS => edges::txns(arena, i),
+        WITHDRAWN => withdrawn::cases(arena, i),
         CLOCKS => edges::clocks(arena, i),
         _ => edges::records(arena, i),
     }
@@ -90,6 +95,7 @@ fn first_edges(arena: &mut Arena) {
 
 fn more_edges(arena: &mut Arena) {
     run(arena, TXNS, 2156, b"transactions");
+    run(arena, WITHDRAWN, 7, b"POKE withdrawn");
     run(arena, CLOCKS, 9, b"clocks");
     run(arena, RECORDS, 200, b"records");
 }

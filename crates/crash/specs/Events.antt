@@ -17,8 +17,8 @@ use Rattle.recovery.specs.Recovery.{Restarted, recoverStep, recoveredNvm}
 use Rattle.recovery.specs.declared.Recovered.{Recovered}
 use Rattle.recovery.specs.declared.Recovered.the-variants.{Refused, Cut, Finished}
 
--- the calls that take a record: the four steps, and Drain. No function offers a Log or a Validate by the former rule, under which POKE was taken: they are
--- here so that a store which carries over what it logged and committed under that rule is covered too
+-- the calls that take a record: the four steps, and Drain. No function offers a Log or a Validate by the former rule: they are here so that a store which
+-- carries over what it logged and committed under that rule is covered too
 pub data Call : Type 0 where
   logBy : Rule → (lane : ℕ) (txn : List ℕ) → Call
   redo : (lane : ℕ) → Call
@@ -102,7 +102,7 @@ pub record Design : Type 0 where
   pub recover : Sizes → (limit : ℕ) → Machine → Restarted
   pub cutShort : Sizes → (stores : ℕ) → (nvm : List ℕ) → List ℕ
 
--- this one: the definitions that the contracts of its code cite
+-- this one: the definitions that the contracts of its code cite, Log's and Validate's at the current rule; of the former rule there is no code any more
 unfoldable pub vandzulge : Design
 vandzulge = record { format = formatStep; writeBack = writeBackStep; call = callStep; recover = recoverStep; cutShort = recoveredNvm }
 

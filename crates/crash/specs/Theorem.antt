@@ -137,7 +137,7 @@ Holds d z y h (e ∷ es) =
     Agrees d z h e y × Holds d z (happens d z y e .system) (fed z e (happens d z y e .reply) (happens d z y e .found) h) es
 
 -- the theorem about a store: for all sizes, buffers and start words that Format is not to refuse, and all lists of events that begin with it;
--- the history before it does not matter. It holds of ours (`CrashTheorem.crash-theorem`), and of none of the wrong ones in `proofs/WrongStores`
+-- the history before it does not matter. It holds of ours (`CrashTheorem.crash-theorem`), and of none of the wrong ones in `proofs/worked/WrongStores`
 unfoldable pub CrashTheorem : Design → Type 0
 CrashTheorem d =
     (z : Sizes) (start : List ℕ) (m : Machine) (h : History) → formatRefusal z start m ≡ 0

@@ -14,7 +14,6 @@ use crate::words::get;
 use crate::words::minus;
 use crate::words::plus;
 use crate::words::put;
-use crate::words::remainder;
 use crate::words::set_row;
 
 // An instruction is a row: code, a, b, k.
@@ -23,8 +22,6 @@ const SET: u64 = 1;
 const COPY: u64 = 2;
 
 const ADD: u64 = 3;
-
-const POKE: u64 = 4;
 
 const SKIP: u64 = 5;
 
@@ -54,10 +51,15 @@ fn k_ok(code: u64, k: u64, after: u64) -> bool {
     true
 }
 
+// 4 was POKE, which is withdrawn.
+fn is_code(code: u64) -> bool {
+    code == SET || code == COPY || code == ADD || code == SKIP
+}
+
 fn instruction_ok(arena: &Arena, at: u64, after: u64) -> bool {
     let words = get(arena, STATE, WORDS);
     let code = cell(arena, TXN, at, 0);
-    if code < SET || SKIP < code {
+    if !is_code(code) {
         return false;
     }
     operand_ok(words, code <= ADD, cell(arena, TXN, at, 1))
@@ -88,13 +90,6 @@ fn after_skip(arena: &Arena, at: u64) -> u64 {
     next
 }
 
-fn target(words: u64, code: u64, a: u64, source: u64) -> u64 {
-    if code == POKE {
-        return remainder(source, words);
-    }
-    a
-}
-
 fn result(code: u64, source: u64, k: u64) -> u64 {
     if code == COPY {
         return source;
@@ -109,12 +104,7 @@ fn result(code: u64, source: u64, k: u64) -> u64 {
 fn write(arena: &mut Arena, at: u64, n: u64) {
     let code = cell(arena, TXN, at, 0);
     let source = get(arena, DATA, plus(1, cell(arena, TXN, at, 2)));
-    let word = target(
-        get(arena, STATE, WORDS),
-        code,
-        cell(arena, TXN, at, 1),
-        source,
-    );
+    let word = cell(arena, TXN, at, 1);
     let new = result(code, source, cell(arena, TXN, at, 3));
     let old = get(arena, DATA, plus(1, word));
     set_row(arena, WRITES, n, word, old, new, 0);

@@ -136,13 +136,6 @@ pub(crate) fn times(a: u64, b: u64) -> u64
     a % REGION * (b % REGION)
 }
 
-pub(crate) fn remainder(a: u64, n: u64) -> u64 {
-    if n == 0 {
-        return 0;
-    }
-    a % n
-}
-
 pub fn least(a: u64, b: u64) -> u64
     ensures { λ r. ⌜ r ≤ a ⌝ }
     ensures { λ r. ⌜ r ≤ b ⌝ }

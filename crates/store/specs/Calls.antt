@@ -91,7 +91,7 @@ drainRefusal z L m = firstCause (badBuffers z m ∷ badRecord z m ∷ badLane z 
 unfoldable pub drainStep : Sizes → ℕ → Machine → Step
 drainStep z L m = unless (drainRefusal z L m) m (record { answer = Done; machine = drained z L m })
 
--- ---- Log, by the rule that its transaction is checked by: the current one in the call that is offered
+-- ---- Log, by the rule that its transaction is checked by
 -- the writes of a transaction on the cached data words
 unfoldable pub writesOn : Sizes → List ℕ → Machine → List Write
 writesOn z f m = run z.words f (dataOf z m.cache)
@@ -131,6 +131,7 @@ logStepBy r z L f m =
     (record { answer = NoWrites; machine = drained z L m })
     (record { answer = Logged (record { count = length ws; stamp = m.state .clock + 2 }); machine = logged z L ws (drained z L m) }))
 
+-- as it is offered, by the current rule
 abbrev pub logRefusal : Sizes → ℕ → List ℕ → Machine → ℕ
 logRefusal = logRefusalBy current
 
@@ -171,7 +172,7 @@ redoStep z L m =
     (record { answer = Stale; machine = drained z L m })
     (record { answer = Committed (m.state .clock + 2); machine = committed z L (redoPairs L m) (drained z L m) }))
 
--- ---- Validate, by a rule as Log
+-- ---- Validate, by a rule as Log is
 unfoldable pub validateRefusalBy : Rule → Sizes → ℕ → List ℕ → Machine → ℕ
 validateRefusalBy r z L f m = firstCause (badBuffers z m ∷ badRecord z m ∷ badLane z L ∷ badTxn r z f ∷ notLogged L m ∷ clockSpent m ∷ [])
 
@@ -205,6 +206,7 @@ validateStepBy r z L f m =
     (record { answer = Committed (m.state .clock + 2); machine = committed z L (pairsOf (length ws) ws) (drained z L m) })
     (record { answer = Changed; machine = released L (drained z L m) }))
 
+-- as it is offered, by the current rule
 abbrev pub validateRefusal : Sizes → ℕ → List ℕ → Machine → ℕ
 validateRefusal = validateRefusalBy current
 

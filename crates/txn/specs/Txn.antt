@@ -55,10 +55,12 @@ pokeOk W x = eqb x.code 4 && (eqb x.a 0 && ltb x.b W)
 unfoldable pub skipOk : ℕ → ℕ → Instruction → Bool
 skipOk W after x = eqb x.code 5 && (eqb x.a 0 && (ltb x.b W && (leb 1 x.k && (leb x.k maxDistance && leb x.k after))))
 
+-- an instruction of a new transaction, where `after` follow it: a POKE is none
 unfoldable pub instructionOk : (W after : ℕ) → Instruction → Bool
 instructionOk W after x = setOk W x || (copyOk W x || (addOk W x || skipOk W after x))
 
--- A new transaction goes by the current rule. By the former one, under which a lane may have logged what it still holds, it could have POKEs too
+-- the rule that a transaction is checked by: a new one by the current rule; by the former one, under which a lane may have logged what it still holds, a
+-- transaction could have POKEs too
 pub data Rule : Type 0 where
   current : Rule
   former : Rule
@@ -76,11 +78,11 @@ allBy r W (x ∷ xs) = instructionBy r W (length xs) x && allBy r W xs
 unfoldable pub txnBy : Rule → (most W : ℕ) → List ℕ → Bool
 txnBy r most W f = eqb (length f % 4) 0 && (leb 1 (length f / 4) && (leb (length f / 4) most && allBy r W (instructions f)))
 
--- of a new transaction
+-- the check of a new transaction
 abbrev pub txnOk : (most W : ℕ) → List ℕ → Bool
 txnOk = txnBy current
 
--- ---- the run
+-- ---- the run. It knows POKE: a lane may still hold one, and when it is committed the history runs it
 -- the word that an instruction writes, where `ws` are the words so far
 unfoldable pub target : ℕ → Instruction → List ℕ → ℕ
 target W x ws = cond (eqb x.code 4) (getD ws x.b 0 % W) x.a

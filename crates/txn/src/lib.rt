@@ -167,6 +167,7 @@ pub fn run(txn: &[u64], memory: &[u64]) -> Writes
             i += distance(x, k) as usize;
             continue;
         }
+        // a checked transaction has no POKE, which alone would write another word than a
         let word = txn[at + 1] as usize;
         let old = value(&words, &news, &last, memory, word);
         let new = result(code, x, k);

@@ -33,18 +33,20 @@ static int answers(uint64_t a, uint64_t b, uint64_t c, uint64_t d)
 int main(void)
 {
     const uint64_t start[WORDS] = {0, 0};
-    const uint64_t copy[4] = {2, 1, 0, 0}, set[4] = {1, 0, 0, 2}, pass[8] = {5, 0, 0, 1, 1, 0, 0, 9};
+    const uint64_t copy[4] = {2, 1, 0, 0}, set[4] = {1, 0, 0, 2}, pass[8] = {5, 0, 0, 1, 1, 0, 0, 9}, poke[8] = {5, 0, 0, 1, 4, 0, 0, 9};
     size_t i;
 
     EXPECT(vandzulge_format(WORDS, LANES, 33, start, WORDS, BUFFERS, RECORD) == 1);
     EXPECT(vandzulge_format(SIZES, start, WORDS, BUFFERS, RECORD) == 0);
     EXPECT(vandzulge_log(SIZES, BUFFERS, RECORD, ANSWER, 0, pass, 8) == 0 && answers(0, 0, 0, 0));
+    EXPECT(vandzulge_log(SIZES, BUFFERS, RECORD, ANSWER, 0, poke, 8) == 5 && answers(0, 0, 0, 0));
     EXPECT(vandzulge_log(SIZES, BUFFERS, RECORD, ANSWER, 1, copy, 4) == 0 && answers(1, 2, 0, 0));
     EXPECT(vandzulge_log(SIZES, BUFFERS, RECORD, ANSWER, 0, set, 4) == 0 && answers(1, 4, 0, 0));
     EXPECT(vandzulge_log(SIZES, BUFFERS, RECORD, ANSWER, 0, set, 4) == 6 && answers(1, 4, 0, 0));
     EXPECT(vandzulge_redo(SIZES, BUFFERS, RECORD, ANSWER, 0) == 0 && answers(1, 6, 0, 0));
     EXPECT(vandzulge_redo(SIZES, BUFFERS, RECORD, ANSWER, 0) == 7);
     EXPECT(vandzulge_redo(SIZES, BUFFERS, RECORD, ANSWER, 1) == 0 && answers(0, 0, 0, 0));
+    EXPECT(vandzulge_validate(SIZES, BUFFERS, RECORD, ANSWER, 1, poke, 8) == 5);
     EXPECT(vandzulge_validate(SIZES, BUFFERS, RECORD, ANSWER, 1, copy, 4) == 0 && answers(1, 8, 0, 0));
     EXPECT(vandzulge_log(SIZES, BUFFERS, RECORD, ANSWER, 1, copy, 4) == 0 && answers(1, 10, 0, 0));
     EXPECT(cache[1] == 2 && cache[2] == 2);

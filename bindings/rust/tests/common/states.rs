@@ -11,7 +11,7 @@ fn sizes(random: &mut Random) -> Sizes {
     Sizes { words, lanes, slots }
 }
 
-/// A well-formed transaction of up to 16 instructions.
+/// A transaction of up to 16 instructions, well formed but for a POKE now and then, which is withdrawn.
 fn txn(random: &mut Random, words: usize) -> Vec<u64> {
     let longest = if random.one_in(3) { 16 } else { 4 };
     let length = 1 + random.below(longest);
@@ -20,12 +20,11 @@ fn txn(random: &mut Random, words: usize) -> Vec<u64> {
     for following in (0..length).rev() {
         let (a, b) = (random.below(words), random.below(words));
         let k = if random.one_in(2) { random.below(4) } else { random.word() };
-        txn.extend(match random.below(6) {
-            0 | 1 => [1, a, 0, k],
-            2 => [2, a, b, 0],
-            3 => [3, a, b, k],
-            4 => [4, 0, b, k],
-            _ if following > 0 => [5, 0, b, 1 + random.below(following)],
+        txn.extend(match random.below(40) {
+            0 => [4, 0, b, k],
+            1..=8 => [2, a, b, 0],
+            9..=16 => [3, a, b, k],
+            17..=24 if following > 0 => [5, 0, b, 1 + random.below(following)],
             _ => [1, a, 0, k],
         });
     }

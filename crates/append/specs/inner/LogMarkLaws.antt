@@ -126,7 +126,8 @@ module _ (z : Sizes) (L : ℕ) (f : List ℕ) (m : Machine) where
   log-unless : (logChecks z L f m ≡ 0 → ⊥) → logRefusal z L f m ≡ logChecks z L f m
   unfolding logRefusalBy logChecks
   log-unless h =
-      first-more (badBuffers z m ∷ badRecord z m ∷ badLane z L ∷ badTxn current z f ∷ record { number = 6; holds = isLogged (laneAt (m .state) L .phase) } ∷ []) _ h
+      first-more
+      (badBuffers z m ∷ badRecord z m ∷ badLane z L ∷ badTxn current z f ∷ record { number = 6; holds = isLogged (laneAt (m .state) L .phase) } ∷ []) _ h
 
   pub log-refused : (number : ℕ) → number ≡ logChecks z L f m → (number ≡ 0 → ⊥) → number ≡ logRefusal z L f m
   log-refused number e h = e ∙ sym (log-unless (λ d. h (e ∙ d)))

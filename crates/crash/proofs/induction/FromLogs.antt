@@ -52,15 +52,18 @@ pub record LogLaws (z : Sizes) (G : ℕ → Machine → History → Type 0) : Ty
   pub writes : (base : ℕ) (m : Machine) (h : History) (i : ℕ) → Book z base h m → G base m h → i < imageLength z
       → G base (record { state = m .state; cache = m .cache; nvm = writtenBack i (m .cache) (m .nvm); flags = m .flags }) h
   pub drains : (base : ℕ) (m : Machine) (h : History) (L : ℕ) → Book z base h m → G base m h → Known z m L → G base (drained z L m) (settled L h)
-  pub appends : (base : ℕ) (m : Machine) (h : History) (L : ℕ) (f : List ℕ) → Book z base h m → G base m h → Known z m L → txnBy former maxWrites z.words f ≡ true
+  pub appends : (base : ℕ) (m : Machine) (h : History) (L : ℕ) (f : List ℕ) → Book z base h m → G base m h → Known z m L
+      → txnBy former maxWrites z.words f ≡ true
       → isLogged (laneAt (m .state) L .phase) ≡ false → 0 < length (writesOn z f m) → Room z m L (length (writesOn z f m) + 1)
       → G base (logged z L (writesOn z f m) (drained z L m)) (stamped L (some f) [] (settled L h))
   pub redoes : (base : ℕ) (m : Machine) (h : History) (L : ℕ) → Book z base h m → G base m h → Known z m L → Ready m L → isStale L m ≡ false
       → G base (committed z L (redoPairs L m) (drained z L m)) (stamped L none (heldBy (pageAt h L .held)) (settled L h))
-  pub validates : (base : ℕ) (m : Machine) (h : History) (L : ℕ) (f : List ℕ) → Book z base h m → G base m h → Known z m L → txnBy former maxWrites z.words f ≡ true
+  pub validates : (base : ℕ) (m : Machine) (h : History) (L : ℕ) (f : List ℕ) → Book z base h m → G base m h → Known z m L
+      → txnBy former maxWrites z.words f ≡ true
       → Ready m L → matches z L (writesOn z f m) m ≡ true
       → G base (committed z L (pairsOf (length (writesOn z f m)) (writesOn z f m)) (drained z L m)) (stamped L none (f ∷ []) (settled L h))
-  pub gives-up : (base : ℕ) (m : Machine) (h : History) (L : ℕ) (f : List ℕ) → Book z base h m → G base m h → Known z m L → txnBy former maxWrites z.words f ≡ true
+  pub gives-up : (base : ℕ) (m : Machine) (h : History) (L : ℕ) (f : List ℕ) → Book z base h m → G base m h → Known z m L
+      → txnBy former maxWrites z.words f ≡ true
       → Ready m L → matches z L (writesOn z f m) m ≡ false
       → G base (calls.released L (drained z L m)) (released L (settled L h))
   pub marks : (base : ℕ) (m : Machine) (h : History) (L : ℕ) → Book z base h m → G base m h → Known z m L → Room z m L 1

@@ -47,11 +47,11 @@ refusalOf z (validateBy r L f) m = validateRefusalBy r z L f m
 refusalOf z (mark L) m = markRefusal z L m
 refusalOf z (drain L) m = drainRefusal z L m
 
--- ---- the moves
+-- ---- the moves. A transaction that either rule takes is well formed by the former one, and the laws ask for no more
 -- the calls that only drain: a Log that writes nothing, a Redo that is stale, a Drain
 pub data Drains (z : Sizes) (m : Machine) : Call → Answer → Type 0 where
-  quiet : (r : Rule) (L : ℕ) (f : List ℕ) → txnBy former maxWrites z.words f ≡ true → isLogged (laneAt (m .state) L .phase) ≡ false → length (writesOn z f m) ≡ 0
-      → Drains z m (logBy r L f) NoWrites
+  quiet : (r : Rule) (L : ℕ) (f : List ℕ) → txnBy former maxWrites z.words f ≡ true → isLogged (laneAt (m .state) L .phase) ≡ false
+      → length (writesOn z f m) ≡ 0 → Drains z m (logBy r L f) NoWrites
   late : (L : ℕ) → Ready m L → isStale L m ≡ true → Drains z m (redo L) Stale
   plain : (L : ℕ) → Drains z m (drain L) Done
 

@@ -267,6 +267,19 @@ poke-dropped : replies small (begunWith (3 ∷ 0 ∷ [])) (call (logBy former 0 
 unfolding everything replies
 poke-dropped = refl
 
+-- one that is stale can no longer be committed: its lane goes on with a Mark
+poke-stale : replies small (begunWith (3 ∷ 0 ∷ []))
+    (call (logBy former 0 poke) ∷ call (log 1 (set0 5)) ∷ call (redo 1) ∷ call (redo 0) ∷ call (validate 0 poke) ∷ call (mark 0) ∷ [])
+    ≡ answered (Logged (record { count = 1; stamp = 2 }))
+    ∷ answered (Logged (record { count = 1; stamp = 4 }))
+    ∷ answered (Committed 6)
+    ∷ answered Stale
+    ∷ answered (Refused 5)
+    ∷ answered (Marked (record { stamp = 8; dropped = true }))
+    ∷ []
+unfolding everything replies
+poke-stale = refl
+
 -- a cut with one committed at 4: all is written back, the boundary is 4, and it is undone; or it is marked at 6 and drained, the boundary is 6, and it stays
 abbrev redoneCut : System
 redoneCut = afterAll small (begunWith (3 ∷ 0 ∷ [])) (redone ++ (writeBacks 0 139 ++ (fails junk ∷ [])))
@@ -284,7 +297,7 @@ poke-kept-words : wordsIn small (afterAll small (begunWith (3 ∷ 0 ∷ [])) (re
 unfolding everything afterAll wordsIn
 poke-kept-words = refl
 
--- one that was validated under the former rule, after a commit of lane 1, is a commit as any other
+-- under the former rule one could be validated too: stale after a commit of lane 1, it writes word 5 mod 2, which is word 1 still
 poke-validated : replies small (begunWith (3 ∷ 0 ∷ []))
     (call (logBy former 0 poke) ∷ call (log 1 (set0 5)) ∷ call (redo 1) ∷ call (redo 0) ∷ call (validateBy former 0 poke) ∷ [])
     ≡ answered (Logged (record { count = 1; stamp = 2 }))

@@ -4,7 +4,7 @@ use Prim.Native.Nat.{ℕ, zero, suc, _+_, _*_}
 use mathlib.Core.Path.{refl}
 use mathlib.Core.Bool.{Bool, false, cond, _&&_, _||_}
 use mathlib.Core.List.{List, [], _∷_, _++_}
-use lib.Dec.{eqb, leb}
+use lib.Dec.{eqb, leb, ltb}
 use lib.ListN.{length, getD, set, take, drop}
 use Rattle.txn.specs.Txn.{Instruction, instructions, Rule, former, emit, passed, applied}
 use Rattle.image.specs.Image.{dataOf, logStart, baseOf}
@@ -14,7 +14,7 @@ use Rattle.log.specs.Log.{Old, Complete}
 use Rattle.log.specs.Append.{circular}
 use Rattle.log.specs.declared.Timestamp.{Timestamp}
 use Rattle.log.specs.declared.Timestamp.the-variants.{None, At}
-use Rattle.record.specs.Record.{noPair, laneAt, loggedIn, withLane}
+use Rattle.record.specs.Record.{noPair, laneAt, isLogged, loggedIn, withLane}
 use Rattle.record.specs.declared.Lane.{Lane}
 use Rattle.store.specs.Machine.{Machine, Step, said}
 use Rattle.store.specs.Calls.{started, drained, writesOn, logged, formatStep, writeBackStep, logRefusalBy, logStepBy, redoStep, validateStepBy, markStep}
@@ -417,7 +417,7 @@ torn-left =
     wrong-count tornLeft small (0 ∷ 0 ∷ []) (call (log 0 (set0 2)) ∷ writeBack 3 ∷ fails junk ∷ []) 1000 junk (0 ∷ 0 ∷ []) (0 ∷ 1 ∷ []) refl
 
 -- ---- the withdrawn POKE
--- 21. Log refuses a POKE only where its run comes to it, and takes one that is passed over
+-- 21. Log refuses a POKE only where its run comes to it, and takes one that is passed over, as by the former rule
 unfoldable pokes : (W n : ℕ) → List Instruction → List ℕ → Bool
 pokes W n [] ws = false
 pokes W n (x ∷ xs) ws = (eqb n 0 && eqb (x .code) 4) || pokes W (passed n x ws) xs (applied (emit W n x ws) ws)
@@ -426,7 +426,7 @@ unfoldable pokePassedOver : Design
 pokePassedOver =
     calling
     (logging
-    (λ r z L f m. cond (pokes z.words 0 (instructions f) (dataOf z (m .cache))) (record { answer = Refused 5; machine = m }) (logStepBy former z L f m))
+    (λ r z L f m. cond (pokes z.words 0 (instructions f) (dataOf z (m .cache))) (logStepBy r z L f m) (logStepBy former z L f m))
     callStep)
 
 poke-passed-over : CrashTheorem pokePassedOver → ⊥
@@ -441,11 +441,15 @@ validates-poke : CrashTheorem validatesPoke → ⊥
 unfolding made validatesPoke
 validates-poke = wrong-answer validatesPoke small (3 ∷ 0 ∷ []) (call (logBy former 0 poke) ∷ []) (validate 0 poke) (0 ∷ 4 ∷ []) (5 ∷ []) refl
 
--- 23. Redo refuses a transaction that has a POKE. What a lane holds does not tell, so this store notes a transaction's first code in the lane's last pair
+-- 23. Redo refuses a transaction whose first instruction is a POKE. What a lane holds does not tell, so this store notes the first code of a transaction of
+-- fewer than 16 writes in the lane's last pair, which those leave free
+unfoldable isNoted : Lane → Bool
+isNoted l = isLogged (l .phase) && ltb (loggedIn (l .phase) .count) 16
+
 unfoldable noted : ℕ → (code : ℕ) → Step → Step
 noted L code s =
     let l = laneIn L s in
-    let redo = set (l .redo) 15 (record { word = 0; value = code }) in
+    let redo = cond (isNoted l) (set (l .redo) 15 (record { word = 0; value = code })) (l .redo) in
     cond (said (s .answer) .refused) s (withLaneOf L (record { phase = l .phase; next = l .next; wrap = l .wrap; floor = l .floor; redo = redo }) s)
 
 unfoldable redoRefuses : Design
@@ -453,9 +457,11 @@ redoRefuses =
     calling
     (logging (λ r z L f m. noted L (getD f 0 0) (logStepBy r z L f m))
     (redoing
-    (λ z L m. cond (eqb (getD (laneAt (m .state) L .redo) 15 noPair .value) 4) (record { answer = Refused 5; machine = m }) (redoStep z L m))
+    (λ z L m.
+    let l = laneAt (m .state) L in
+    cond (isNoted l && eqb (getD (l .redo) 15 noPair .value) 4) (record { answer = Refused 5; machine = m }) (redoStep z L m))
     callStep))
 
 redo-refuses : CrashTheorem redoRefuses → ⊥
-unfolding made redoRefuses noted
+unfolding made redoRefuses noted isNoted
 redo-refuses = wrong-answer redoRefuses small (3 ∷ 0 ∷ []) (call (logBy former 0 poke) ∷ []) (redo 0) (5 ∷ []) (0 ∷ 4 ∷ []) refl

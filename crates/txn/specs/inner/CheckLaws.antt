@@ -3,14 +3,15 @@
 use Prim.Native.Nat.{ℕ, zero, suc, _+_, _-_, _/_, _%_, _≤_, _<_}
 use mathlib.Core.Path.{_≡_, refl, sym, ap, _∙_}
 use mathlib.Core.Logic.{⊎-elim}
-use mathlib.Core.Bool.{Bool, true, false, _&&_, and-true, or-false}
+use mathlib.Core.Bool.{Bool, true, false, _&&_, or-false}
 use mathlib.Core.List.{List, [], _∷_}
 use native.Mathlib.Numerals.{add-one}
+use native.Mathlib.Nat.{le-of-suc-le-suc}
 use native.Mathlib.Omega.{arith}
 use lib.Dec.{leb, ltb, eqb}
 use lib.ListN.{length}
 use borrow.Author.Tests.{eqb-true, ltb-true, leb-true, eq-eqb, ne-eqb, lt-ltb, le-leb}
-use Rattle.laws.specs.inner.Tests.{split, and-left, and-right, and-both, or-cases}
+use Rattle.laws.specs.inner.Tests.{split, clash, and-left, and-right, and-both, or-cases}
 use Rattle.txn.specs.Txn.{maxDistance, Instruction, instructionAt, instructionsFrom, instructions}
 use Rattle.txn.specs.Txn.{setOk, copyOk, addOk, pokeOk, skipOk, instructionOk, Rule, current, former, instructionBy, allBy, txnBy, txnOk}
 
@@ -35,9 +36,10 @@ module _ (r : Rule) (most W : ℕ) (f : List ℕ) (ok : txnBy r most W f ≡ tru
   ok-all = and-right (leb (length f / 4) most) _ (and-right (leb 1 (length f / 4)) _ counted)
 
 module _ (W : ℕ) (x : Instruction) where
-  -- POKE is withdrawn: no instruction of its code is ok, whatever its fields, and however many follow it
+  -- POKE is withdrawn: no instruction of its code is ok, whatever its fields, and however many follow it. All of the check is opened, the former rule's
+  -- too: what is refused here is a check that takes a POKE somewhere
   pub poke-refused : (n : ℕ) → x .code ≡ 4 → instructionOk W n x ≡ false
-  unfolding instructionOk setOk copyOk addOk skipOk
+  unfolding instructionOk setOk copyOk addOk pokeOk skipOk
   poke-refused n e = rw e
 
   -- a and b of an instruction that is ok are words' numbers, unused ones too
@@ -96,7 +98,7 @@ module _ (W : ℕ) (x : Instruction) where
   ok-low former n h = ⊎-elim (low-current n) low-poke (or-cases (instructionOk W n x) _ h)
 
   -- what is ok by either rule is so by the former one
-  pub ok-former : (r : Rule) (n : ℕ) → instructionBy r W n x ≡ true → instructionBy former W n x ≡ true
+  ok-former : (r : Rule) (n : ℕ) → instructionBy r W n x ≡ true → instructionBy former W n x ≡ true
   unfolding instructionBy
   ok-former current n h = rw h
   ok-former former n h = h
@@ -109,6 +111,7 @@ module _ (W : ℕ) (x : Instruction) where
       let h₂ = and-right (leb 1 (x .k)) _ (and-right (ltb (x .b) W) _ h₁) in
       leb-true (x .k) n (and-right (leb (x .k) maxDistance) _ h₂)
 
+-- .. and so are all instructions, and the transaction
 all-former : (r : Rule) (W : ℕ) (xs : List Instruction) → allBy r W xs ≡ true → allBy former W xs ≡ true
 unfolding allBy
 all-former r W [] h = h
@@ -122,6 +125,31 @@ txn-former r most W f ok =
     let b = le-leb 1 (length f / 4) (ok-some r most W f ok) in
     let c = le-leb (length f / 4) most (ok-few r most W f ok) in
     rw (and-left (eqb (length f % 4) 0) _ ok, b, c) (all-former r W (instructions f) a)
+
+-- ---- a POKE refuses its transaction, wherever it stands: also where a run would pass over it
+all-at : (W : ℕ) (f : List ℕ) (j n i : ℕ) → i < n → allBy current W (instructionsFrom f j n) ≡ true
+    → instructionOk W (n - i - 1) (instructionAt f (j + i)) ≡ true
+unfolding allBy instructionBy instructionsFrom
+all-at W f j zero i l h = absurd (omega arith)
+all-at W f j (suc n) zero l h =
+    let e : suc n - 0 - 1 ≡ n = omega arith in
+    let z : j + 0 ≡ j = omega arith in
+    let a : instructionOk W (length (instructionsFrom f (suc j) n)) (instructionAt f j) ≡ true = and-left _ _ h in
+    rw (e, z) (rw (length-from f (suc j) n) at a)
+all-at W f j (suc n) (suc i) l h =
+    let e : suc n - suc i - 1 ≡ n - i - 1 = omega arith in
+    let z : j + suc i ≡ suc j + i = omega arith in
+    rw (e, z) (all-at W f (suc j) n i (le-of-suc-le-suc l) (and-right (instructionOk W (length (instructionsFrom f (suc j) n)) (instructionAt f j)) _ h))
+
+pub poke-in : (most W : ℕ) (f : List ℕ) (i : ℕ) → i < length f / 4 → instructionAt f i .code ≡ 4 → txnOk most W f ≡ false
+unfolding instructions
+poke-in most W f i l e =
+    let z : 0 + i ≡ i = omega arith in
+    let n = length f / 4 - i - 1 in
+    split (txnOk most W f)
+    (λ ok. clash (instructionOk W n (instructionAt f i)) (rw z at (all-at W f 0 (length f / 4) i l (ok-all current most W f ok)))
+    (poke-refused W (instructionAt f i) n e))
+    (λ no. no)
 
 -- ---- one instruction's check, by its code
 module _ (W n code a b k : ℕ) where
@@ -184,7 +212,8 @@ from-next f n i h = let e : n - i ≡ suc (n - (i + 1)) = omega arith in rw (e, 
 
 module _ (W : ℕ) (f : List ℕ) (n i : ℕ) where
   pub all-next : i < n
-      → allBy current W (instructionsFrom f i (n - i)) ≡ (instructionOk W (n - i - 1) (instructionAt f i) && allBy current W (instructionsFrom f (i + 1) (n - (i + 1))))
+      → allBy current W (instructionsFrom f i (n - i))
+      ≡ (instructionOk W (n - i - 1) (instructionAt f i) && allBy current W (instructionsFrom f (i + 1) (n - (i + 1))))
   unfolding allBy instructionBy
   all-next h = let e : n - (i + 1) ≡ n - i - 1 = omega arith in rw (from-next f n i h, length-from, e)
 

@@ -57,7 +57,8 @@ module _ (W : ℕ) (f : List ℕ) where
   all-over (suc k) i (suc m) h a =
       let e : i + suc k ≡ suc i + k = omega arith in
       let z : suc m - suc k ≡ m - k = omega arith in
-      rw (e, z) (all-over k (suc i) m (le-of-suc-le-suc h) (and-right (instructionBy current W (length (instructionsFrom f (suc i) m)) (instructionAt f i)) _ a))
+      rw (e, z)
+      (all-over k (suc i) m (le-of-suc-le-suc h) (and-right (instructionBy current W (length (instructionsFrom f (suc i) m)) (instructionAt f i)) _ a))
 
 -- no instruction that is ok is a POKE: it writes word a
 ok-target : (W : ℕ) (x : Instruction) (n : ℕ) (ws : List ℕ) → instructionOk W n x ≡ true → target W x ws ≡ x .a

@@ -1,6 +1,6 @@
 -- Inner: how the code goes, need not be believed. Laws of a transaction's run: at most one write an instruction, every write to a word below W, each old
 -- value the running one, and the old values stored in reverse order restore the words. Assumes nothing.
-use Prim.Native.Nat.{ℕ, _/_, _≤_, _<_}
+use Prim.Native.Nat.{ℕ, _/_, _%_, _≤_, _<_}
 use mathlib.Core.Path.{_≡_, refl, ap, _∙_}
 use mathlib.Core.Bool.{true, _||_}
 use mathlib.Core.List.{List, [], _∷_, _++_}
@@ -13,7 +13,7 @@ use Rattle.laws.specs.inner.Tests.{split, and-left, and-right}
 use Rattle.laws.specs.inner.Lists.{All, none, more, All-append}
 use Rattle.txn.specs.declared.Write.{Write}
 use Rattle.txn.specs.Txn.{Instruction, instructionsFrom, instructions, Rule, instructionBy, allBy, txnBy}
-use Rattle.txn.specs.Txn.{target, emit, passed, applied, runFrom, run, after}
+use Rattle.txn.specs.Txn.{target, result, emit, passed, applied, runFrom, run, after}
 use Rattle.txn.specs.inner.CheckLaws.{length-from, ok-few, ok-all, ok-low}
 
 -- ---- the words after a list of writes
@@ -48,10 +48,16 @@ length-run W f ws = omega (arith, length-runFrom W 0 (instructionsFrom f 0 (leng
 pub few-writes : (r : Rule) (most W : ℕ) (f ws : List ℕ) → txnBy r most W f ≡ true → length (run W f ws) ≤ most
 few-writes r most W f ws ok = omega (arith, length-run W f ws, ok-few r most W f ok)
 
+-- ---- POKE, which a lane may still hold, writes the word whose number is word b modulo W
+pub poke-writes : (W : ℕ) (x : Instruction) (ws : List ℕ) → x .code ≡ 4
+    → emit W 0 x ws ≡ record { word = getD ws (x .b) 0 % W; old = getD ws (getD ws (x .b) 0 % W) 0; new = x .k } ∷ []
+unfolding emit target result
+poke-writes W x ws e = rw e
+
 -- ---- every word written is below W
 target-low : (W : ℕ) (x : Instruction) (ws : List ℕ) → x .a < W → target W x ws < W
 unfolding target
-target-low W x ws h = split (eqb (x .code) 4) (λ e. rw e (mod-lt (getD ws (x .b) 0) (omega arith))) (λ e. rw e h)
+target-low W x ws h = split (eqb (x .code) 4) (λ e. rw e (mod-lt _ (omega arith))) (λ e. rw e h)
 
 emit-low : (W n : ℕ) (x : Instruction) (ws : List ℕ) → x .a < W → All (λ w. w .word < W) (emit W n x ws)
 unfolding emit
