@@ -4,8 +4,9 @@
  * The library has no heap, no threads and no global state; it uses less than 32 KB of stack, and calls nothing but memcpy and memset, to which only Format hands a part of nvm.
  *
  * What each call is lent, with W = words (1 to 1,024), T = lanes (1 to 8), N = slots a lane (34 to 256):
- *   cache, nvm   the cached image and the non-volatile memory, VANDZULGE_IMAGE_WORDS(W, T, N) words each: base word, data words, each lane's log
- *   flags        one byte for each image word; bit L: lane L has flushed this word
+ *   cache, nvm   the cached image and the non-volatile memory, VANDZULGE_IMAGE_WORDS(W, T, N) words each: base word, data words, each lane's log, and the trailer,
+ *                four last words that tell W, T, N and how many words stand before these four; or VANDZULGE_FORMER_WORDS(W, T, N) words each, without a trailer
+ *   flags        one byte for each image word, the trailer's too; bit L: lane L has flushed this word
  *   record       VANDZULGE_RECORD_WORDS words that Format or a finished recovery makes and the calls keep: clock, last commit, then 40 words a lane:
  *                phase (0 idle), first slot, count, timestamp, next slot, wrap bit, floor (0 none), floor's value, 16 pairs of word number and value.
  *                A taken call writes them all: a phase or floor word that is set becomes 1, words that say nothing 0, in lanes not in use too
@@ -15,22 +16,35 @@
  *                4 was POKE, word [b] mod W := k, and is withdrawn: Log and Validate refuse it with 5 wherever it stands, also where SKIP would pass over it.
  *                A lane that holds one, logged by an earlier library: Redo commits it unless it is stale, Mark drops it, and Validate with it is refused
  *
+ * Lengths: cache, nvm and flags of a call have the same one, else it is refused with 1. Format takes the new length, VANDZULGE_IMAGE_WORDS, and recovery with sizes given the
+ * former one, VANDZULGE_FORMER_WORDS. Recovery without sizes takes any, and refuses with 14 what has no trailer that agrees. Every other call takes either.
+ * Format writes the trailer; after that only a write-back of one of its words stores to it, and stores what is there. So a formatted store is recovered from its nvm and the
+ * length of that alone, by vandzulge_recover_read.
+ *
+ * Images of the former length come from libraries that knew no trailer. They are taken over as they are: recover one with vandzulge_recover, its sizes given, and go on with
+ * buffers of the former length for as long as you like; each later start gives the sizes again. To move it to the new form, once: after a finished recovery copy its W data words
+ * (words 1 to W), and Format buffers of the new length with them as start words; timestamps begin again. Format is not safe against power cuts: keep the old image until the
+ * new one is complete, of which a trailer is no sign.
+ * Nothing in an image says which form it has; the call used decides, so the caller must know. The last four words of an image of the former length can happen to look like a
+ * trailer, of other sizes: vandzulge_recover_read then takes them for one, and destroys that image.
+ *
  * What the caller owes: no null pointer, also where a length is 0; each pointer has its length in elements, aligned; a buffer that is written overlaps no
  * other one; nobody else touches them during a call, nor writes them between calls. All else is checked: any words are taken as a record, transaction or image.
  *
  * What is left to the platform: an aligned 64-bit store to nvm is whole, also where power fails (the memory has the old word or the new one), and such stores reach the
  * memory in the code's order; the library has no fences and flushes no processor cache. Every store to nvm but Format's is one aligned 64-bit store. The order: a step stores
  * the words that its lane has flushed before it changes the cache; recovery stores the entries undone, then the base word, then the log words in rising order, each only
- * where it is not 0 yet, and then changes the cache.
+ * where it is not 0 yet, and then changes the cache. It stores to no trailer.
  *
- * Refusals, the lowest number wins:
+ * Refusals, the lowest number wins, but 14 comes before 10:
  *    1 a size out of range, or a slice of another length      6 Log on a lane that holds a transaction
  *    2 a record field out of range                            7 Redo or Validate on an idle lane
  *    3 lane not below T                                       8 the clock is spent
  *    4 word not in the image                                  9 the append would overwrite a sequence that recovery may need
  *    5 transaction not as above                              10 recovery finds an odd base word
+ *   14 recovery without sizes: fewer than four words, a size in the trailer out of range, or a fourth word or a length of nvm that does not agree with these sizes
  *
- * Costs are given in passes: over the flags or the image (1 + W + 2TN), over one lane's log (N slots). Calls with a record read and write it whole.
+ * Costs are given in passes: over the flags or the image (its whole length), over one lane's log (N slots). Calls with a record read and write it whole.
  */
 #ifndef VANDZULGE_H
 #define VANDZULGE_H
@@ -45,19 +59,22 @@
 #define VANDZULGE_LANES_MAX 8
 #define VANDZULGE_SLOTS_MIN 34
 #define VANDZULGE_SLOTS_MAX 256
-#define VANDZULGE_IMAGE_WORDS(words, lanes, slots) (1 + (words) + 2 * (lanes) * (slots))
-#define VANDZULGE_IMAGE_WORDS_MAX 5121
+#define VANDZULGE_FORMER_WORDS(words, lanes, slots) (1 + (words) + 2 * (lanes) * (slots))
+#define VANDZULGE_FORMER_WORDS_MAX 5121
+#define VANDZULGE_TRAILER_WORDS 4
+#define VANDZULGE_IMAGE_WORDS(words, lanes, slots) (VANDZULGE_FORMER_WORDS(words, lanes, slots) + VANDZULGE_TRAILER_WORDS)
+#define VANDZULGE_IMAGE_WORDS_MAX 5125
 #define VANDZULGE_NO_LIMIT SIZE_MAX
 
 #ifdef __cplusplus
 extern "C" {
 #endif
 
-/* Format: a new store of W start words; the record's old words are not read. Refusal 1. Every word of cache, nvm and flags is written once. */
+/* Format: a new store of W start words, of the new length; the record's old words are not read. Refusal 1. Every word of cache, nvm and flags is written once. */
 uint64_t vandzulge_format(size_t words, size_t lanes, size_t slots, const uint64_t *start, size_t start_len,
     uint64_t *cache, size_t cache_len, uint64_t *nvm, size_t nvm_len, uint8_t *flags, size_t flags_len, uint64_t *record, size_t record_len);
 
-/* Write-back: copies one image word from cache to nvm. Refusals 1, 4. One word. Not between a power cut and the end of recovery. */
+/* Write-back: copies one image word, of the trailer too, from cache to nvm. Refusals 1, 4. One word. Not between a power cut and the end of recovery. */
 uint64_t vandzulge_write_back(size_t words, size_t lanes, size_t slots,
     const uint64_t *cache, size_t cache_len, uint64_t *nvm, size_t nvm_len, const uint8_t *flags, size_t flags_len, size_t word);
 
@@ -91,7 +108,8 @@ uint64_t vandzulge_mark(size_t words, size_t lanes, size_t slots,
     uint64_t *cache, size_t cache_len, uint64_t *nvm, size_t nvm_len, uint8_t *flags, size_t flags_len,
     uint64_t *record, size_t record_len, uint64_t *answer, size_t answer_len, size_t lane);
 
-/* Recovery, after a power cut: from nvm alone, with at most `limit` stores to it, the words at one boundary; the record's old words are not read.
+/* Recovery with sizes given, after a power cut, of an image of the former length: from nvm alone, with at most `limit` stores to it, the words at one boundary; the record's old
+ * words are not read.
  * Answer: 0, 0, 0, 0 where stores remain (cut; the record is untouched and lost: recover again, or format); 1, 0, undone, torn where there was no boundary;
  * 2, boundary, undone, torn. undone: how many log entries were undone. torn: how many of the TN log slots were torn in nvm as this call found it: they held something,
  * but no whole entry or timestamp. A cut leaves a torn slot where one of its two words had not reached the memory, and so does a recovery cut short between two words
@@ -100,6 +118,12 @@ uint64_t vandzulge_mark(size_t words, size_t lanes, size_t slots,
  * worst images. */
 uint64_t vandzulge_recover(size_t words, size_t lanes, size_t slots,
     uint64_t *cache, size_t cache_len, uint64_t *nvm, size_t nvm_len, uint8_t *flags, size_t flags_len,
+    uint64_t *record, size_t record_len, uint64_t *answer, size_t answer_len, size_t limit);
+
+/* Recovery without sizes, of an image with a trailer: the same with the sizes that the last four words of nvm tell. Those are read and never stored to; where recovery finished,
+ * cache equals nvm, the trailer too, and all flags are 0. The sizes for the calls that follow are nvm[nvm_len - 4], nvm[nvm_len - 3] and nvm[nvm_len - 2].
+ * Refusals 1 (cache or flags of another length than nvm, record or answer of a wrong one), 14, 10, the first of them in this order. Answers and costs as above. */
+uint64_t vandzulge_recover_read(uint64_t *cache, size_t cache_len, uint64_t *nvm, size_t nvm_len, uint8_t *flags, size_t flags_len,
     uint64_t *record, size_t record_len, uint64_t *answer, size_t answer_len, size_t limit);
 
 #ifdef __cplusplus

@@ -1,6 +1,6 @@
 //! Images for recovery, the worst and the best, for tests and timing: words of non-volatile memory with given logs.
 
-use crate::{image_words, Sizes};
+use crate::{former_words, Sizes};
 
 /// What the logs of an image hold. All slots have wrap bit 1.
 #[derive(Debug, Clone, Copy, PartialEq, Eq)]
@@ -28,7 +28,19 @@ pub const ALL: [Logs; 8] =
 
 /// The image with base 0 and data words 1, 2, 3 and so on.
 pub fn image(sizes: Sizes, logs: Logs) -> Vec<u64> {
-    let mut image = vec![0; image_words(sizes)];
+    let mut image = former_image(sizes, logs);
+    image.extend(trailer(sizes));
+    image
+}
+
+/// The last four words of an image of these sizes.
+pub fn trailer(sizes: Sizes) -> [u64; 4] {
+    [sizes.words, sizes.lanes, sizes.slots, former_words(sizes)].map(|number| number as u64)
+}
+
+/// The same image in the former length, without the trailer.
+pub fn former_image(sizes: Sizes, logs: Logs) -> Vec<u64> {
+    let mut image = vec![0; former_words(sizes)];
     for (word, data) in image[1..=sizes.words].iter_mut().enumerate() {
         *data = word as u64 + 1;
     }
@@ -44,30 +56,30 @@ pub fn image(sizes: Sizes, logs: Logs) -> Vec<u64> {
 fn slot_words(sizes: Sizes, logs: Logs, lane: usize, slot: usize) -> [u64; 2] {
     match logs {
         Logs::Empty => [0, 0],
-        Logs::EqualMarks => trailer(0, 2),
-        Logs::MixedMarks => trailer(0, mixed(sizes, lane, slot)),
+        Logs::EqualMarks => closing(0, 2),
+        Logs::MixedMarks => closing(0, mixed(sizes, lane, slot)),
         Logs::Singles => in_sequence(sizes, 1, slot, mixed(sizes, lane, slot)),
         Logs::EqualSequences => in_sequence(sizes, 16, slot, 2),
         Logs::MixedSequences => in_sequence(sizes, 16, slot, mixed(sizes, lane, slot)),
-        Logs::Incomplete => trailer(1, mixed(sizes, lane, slot)),
+        Logs::Incomplete => closing(1, mixed(sizes, lane, slot)),
         Logs::Torn => [8 * (slot as u64 % sizes.words as u64 + 1) + 1, 2 * slot as u64],
     }
 }
 
-/// A slot of a log full of sequences of so many entries and their trailers.
+/// A slot of a log full of sequences of so many entries and the timestamps that close them.
 fn in_sequence(sizes: Sizes, entries: usize, slot: usize, stamp: u64) -> [u64; 2] {
     let length = entries + 1;
     if slot / length == sizes.slots / length {
         // behind the last whole sequence
         [0, 0]
     } else if slot % length == entries {
-        trailer(entries as u64, stamp)
+        closing(entries as u64, stamp)
     } else {
         [8 * (slot as u64 % sizes.words as u64 + 1) + 1, 2 * slot as u64 + 1]
     }
 }
 
-fn trailer(count: u64, stamp: u64) -> [u64; 2] {
+fn closing(count: u64, stamp: u64) -> [u64; 2] {
     [8 * (4096 + count) + 1, stamp + 1]
 }
 

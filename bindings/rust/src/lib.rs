@@ -5,6 +5,11 @@
 //!
 //! The library calls nothing but `memcpy` and `memset`, to which only Format hands a part of `nvm`; every other store to `nvm` is one aligned 64-bit word. What is left to the
 //! platform: such a store is whole, also where power fails, and the stores reach the memory in the code's order. The library has no fences.
+//!
+//! An image has [`image_words`] words: the last four, its *trailer*, tell its sizes and how many words stand before them, and [`Store::recover_read`] goes by it. Images of earlier
+//! libraries have no trailer, and [`former_words`] words. Those are recovered with their sizes given, by [`Store::recover`], and can be used on: every other call but Format takes both.
+//! Nothing in an image says which form it has: the last four words of one without a trailer may look like one, and `recover_read` then destroys it. `include/vandzulge.h` says how
+//! an image is moved to the new form.
 
 pub mod images;
 pub mod plain;
@@ -20,8 +25,12 @@ pub const MIN_SLOTS: usize = 34;
 pub const MAX_SLOTS: usize = 256;
 /// Words of the longest transaction: 16 instructions of four.
 pub const MAX_TXN_WORDS: usize = 64;
+/// Words of the trailer, the last ones of an image: W, T, N, and how many words stand before these four.
+pub const TRAILER_WORDS: usize = 4;
 /// Words of the greatest image.
 pub const MAX_IMAGE_WORDS: usize = image_words(Sizes { words: MAX_WORDS, lanes: MAX_LANES, slots: MAX_SLOTS });
+/// Words of the greatest image of the former length.
+pub const MAX_FORMER_WORDS: usize = former_words(Sizes { words: MAX_WORDS, lanes: MAX_LANES, slots: MAX_SLOTS });
 
 /// Data words (1 to 1,024), lanes (1 to 8) and log slots a lane (34 to 256).
 #[derive(Debug, Clone, Copy, PartialEq, Eq)]
@@ -33,13 +42,18 @@ pub struct Sizes {
 
 /// The length of the cached image, of the non-volatile memory and of the flags, for sizes in range.
 pub const fn image_words(sizes: Sizes) -> usize {
+    former_words(sizes) + TRAILER_WORDS
+}
+
+/// The same for an image of the former length, which has no trailer.
+pub const fn former_words(sizes: Sizes) -> usize {
     1 + sizes.words + 2 * sizes.lanes * sizes.slots
 }
 
 /// Why a call was refused. Nothing was touched.
 #[derive(Debug, Clone, Copy, PartialEq, Eq)]
 pub enum Refusal {
-    /// 1: a size outside its range, or a slice of another length
+    /// 1: a size outside its range, or a slice of a length that the call does not take
     Size,
     /// 2: a record field outside its range
     Record,
@@ -59,12 +73,14 @@ pub enum Refusal {
     Overwrite,
     /// 10: recovery finds an odd base word
     OddBase,
+    /// 14: recovery without sizes finds no trailer that agrees with the length and the ranges
+    Trailer,
     /// a number that the library never returns
     Unknown(u64),
 }
 
 impl Refusal {
-    const NUMBERED: [Refusal; 10] = [
+    const KNOWN: [Refusal; 11] = [
         Refusal::Size,
         Refusal::Record,
         Refusal::Lane,
@@ -75,19 +91,29 @@ impl Refusal {
         Refusal::Spent,
         Refusal::Overwrite,
         Refusal::OddBase,
+        Refusal::Trailer,
     ];
 
     /// The specification's number.
     pub fn number(self) -> u64 {
         match self {
             Refusal::Unknown(number) => number,
-            known => 1 + Refusal::NUMBERED.iter().position(|&refusal| refusal == known).unwrap_or(0) as u64,
+            Refusal::Size => 1,
+            Refusal::Record => 2,
+            Refusal::Lane => 3,
+            Refusal::Word => 4,
+            Refusal::Txn => 5,
+            Refusal::Logged => 6,
+            Refusal::Idle => 7,
+            Refusal::Spent => 8,
+            Refusal::Overwrite => 9,
+            Refusal::OddBase => 10,
+            Refusal::Trailer => 14,
         }
     }
 
     fn of(number: u64) -> Refusal {
-        let known = number.checked_sub(1).and_then(|index| Refusal::NUMBERED.get(usize::try_from(index).ok()?));
-        known.copied().unwrap_or(Refusal::Unknown(number))
+        Refusal::KNOWN.into_iter().find(|refusal| refusal.number() == number).unwrap_or(Refusal::Unknown(number))
     }
 }
 
@@ -123,7 +149,7 @@ pub struct Mark {
 /// What recovery answers.
 #[derive(Debug, Clone, Copy, PartialEq, Eq)]
 pub enum Recovery {
-    /// Stores remain. The record is lost: only `recover` and `format` may follow.
+    /// Stores remain. The record is lost: only the same recovery or `format` may follow.
     Cut,
     /// The boundary, how many entries were undone, and how many log slots were torn in the non-volatile memory that this call found.
     Finished { boundary: Option<u64>, undone: u64, torn: u64 },
@@ -132,8 +158,9 @@ pub enum Recovery {
 /// What every call is lent. Nobody else may write it between two calls, but for write-backs.
 #[derive(Debug)]
 pub struct Store<'a> {
+    /// Those that the calls are given; `recover_read` sets them.
     pub sizes: Sizes,
-    /// The cached image: the base word, the data words, then each lane's log.
+    /// The cached image: the base word, the data words, each lane's log, then the trailer, unless all three buffers are of the former length.
     pub cache: &'a mut [u64],
     /// The non-volatile memory behind it.
     pub nvm: &'a mut [u64],
@@ -153,13 +180,13 @@ fn taken(number: u64) -> Result<(), Refusal> {
 }
 
 impl Store<'_> {
-    /// Makes a new store of the given data words.
+    /// Makes a new store of the given data words, in buffers of [`image_words`].
     pub fn format(&mut self, start: &[u64]) -> Result<(), Refusal> {
         let Sizes { words, lanes, slots } = self.sizes;
         taken(raw::format(words, lanes, slots, start, self.cache, self.nvm, self.flags, self.record))
     }
 
-    /// Copies one cached word to its cell.
+    /// Copies one cached word to its cell, also one of the trailer.
     pub fn write_back(&mut self, word: usize) -> Result<(), Refusal> {
         let Sizes { words, lanes, slots } = self.sizes;
         taken(raw::write_back(words, lanes, slots, self.cache, self.nvm, self.flags, word))
@@ -212,15 +239,30 @@ impl Store<'_> {
         Ok(Mark { stamp: answer[1], dropped: answer[0] != 0 })
     }
 
-    /// Makes the store whole from non-volatile memory alone, with at most `limit` stores to it; `usize::MAX` is no limit.
+    /// Makes a store of the former length whole from non-volatile memory alone, with at most `limit` stores to it; `usize::MAX` is no limit. The sizes must be those of the image.
     pub fn recover(&mut self, limit: usize) -> Result<Recovery, Refusal> {
         let Sizes { words, lanes, slots } = self.sizes;
         let mut answer: Answer = [0; ANSWER_WORDS];
         taken(raw::recover(words, lanes, slots, self.cache, self.nvm, self.flags, self.record, &mut answer, limit))?;
-        Ok(match answer {
-            [0, ..] => Recovery::Cut,
-            [1, _, undone, torn] => Recovery::Finished { boundary: None, undone, torn },
-            [_, boundary, undone, torn] => Recovery::Finished { boundary: Some(boundary), undone, torn },
-        })
+        Ok(recovery(answer))
+    }
+
+    /// The same of a store with a trailer, from which the sizes are read. Unless it is refused, they become the store's, whatever those were before.
+    pub fn recover_read(&mut self, limit: usize) -> Result<Recovery, Refusal> {
+        let mut answer: Answer = [0; ANSWER_WORDS];
+        taken(raw::recover_read(self.cache, self.nvm, self.flags, self.record, &mut answer, limit))?;
+        // the library found them in range, and recovery does not store to them
+        if let Some(&[words, lanes, slots, _]) = self.nvm.last_chunk::<TRAILER_WORDS>() {
+            self.sizes = Sizes { words: words as usize, lanes: lanes as usize, slots: slots as usize };
+        }
+        Ok(recovery(answer))
+    }
+}
+
+fn recovery(answer: Answer) -> Recovery {
+    match answer {
+        [0, ..] => Recovery::Cut,
+        [1, _, undone, torn] => Recovery::Finished { boundary: None, undone, torn },
+        [_, boundary, undone, torn] => Recovery::Finished { boundary: Some(boundary), undone, torn },
     }
 }

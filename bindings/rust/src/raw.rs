@@ -128,10 +128,23 @@ mod ffi {
             answer_len: usize,
             limit: usize,
         ) -> u64;
+        pub fn vandzulge_recover_read(
+            cache: *mut u64,
+            cache_len: usize,
+            nvm: *mut u64,
+            nvm_len: usize,
+            flags: *mut u8,
+            flags_len: usize,
+            record: *mut u64,
+            record_len: usize,
+            answer: *mut u64,
+            answer_len: usize,
+            limit: usize,
+        ) -> u64;
     }
 }
 
-/// Format: every word as in a new store with the given start words; `record` becomes its record.
+/// Format: every word as in a new store with the given start words; `record` becomes its record. Buffers of the new length only.
 pub fn format(words: usize, lanes: usize, slots: usize, start: &[u64], cache: &mut [u64], nvm: &mut [u64], flags: &mut [u8], record: &mut [u64]) -> u64 {
     // SAFETY: each pointer and length is that of a slice, and no slice that is written overlaps another.
     unsafe {
@@ -153,7 +166,7 @@ pub fn format(words: usize, lanes: usize, slots: usize, start: &[u64], cache: &m
     }
 }
 
-/// Write-back of one word of the image.
+/// Write-back of one word of the image, of its trailer too.
 pub fn write_back(words: usize, lanes: usize, slots: usize, cache: &[u64], nvm: &mut [u64], flags: &[u8], word: usize) -> u64 {
     // SAFETY: each pointer and length is that of a slice, and no slice that is written overlaps another.
     unsafe { ffi::vandzulge_write_back(words, lanes, slots, cache.as_ptr(), cache.len(), nvm.as_mut_ptr(), nvm.len(), flags.as_ptr(), flags.len(), word) }
@@ -318,7 +331,7 @@ pub fn mark(
     }
 }
 
-/// Recovery of at most `limit` stores. Answer: all 0 where it was cut; 1, 0, undone, torn; 2, boundary, undone, torn.
+/// Recovery of at most `limit` stores with the sizes given, of an image of the former length. Answer: all 0 where it was cut; 1, 0, undone, torn; 2, boundary, undone, torn.
 pub fn recover(
     words: usize,
     lanes: usize,
@@ -336,6 +349,26 @@ pub fn recover(
             words,
             lanes,
             slots,
+            cache.as_mut_ptr(),
+            cache.len(),
+            nvm.as_mut_ptr(),
+            nvm.len(),
+            flags.as_mut_ptr(),
+            flags.len(),
+            record.as_mut_ptr(),
+            record.len(),
+            answer.as_mut_ptr(),
+            answer.len(),
+            limit,
+        )
+    }
+}
+
+/// Recovery of at most `limit` stores without sizes, which it reads from the trailer of `nvm`. Answer as that of [`recover`].
+pub fn recover_read(cache: &mut [u64], nvm: &mut [u64], flags: &mut [u8], record: &mut [u64], answer: &mut [u64], limit: usize) -> u64 {
+    // SAFETY: each pointer and length is that of a slice, and no slice that is written overlaps another.
+    unsafe {
+        ffi::vandzulge_recover_read(
             cache.as_mut_ptr(),
             cache.len(),
             nvm.as_mut_ptr(),

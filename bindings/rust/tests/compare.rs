@@ -4,7 +4,7 @@
 mod common;
 
 use common::states::every_outcome;
-use common::{Call, World, LIBRARY, PLAIN};
+use common::{trailers, Call, Random, World, LIBRARY, PLAIN};
 use vandzulge::images;
 use vandzulge::Sizes;
 
@@ -32,20 +32,184 @@ fn same_on_pseudo_random_calls() {
     every_outcome(300, 5, both);
 }
 
+/// A store after a power cut, with this non-volatile memory: anything in cache, flags and record.
+fn cut(sizes: Sizes, nvm: Vec<u64>) -> World {
+    let mut world = World::of_length(sizes.words, sizes.lanes, sizes.slots, nvm.len());
+    world.nvm = nvm;
+    world.cache.fill(3);
+    world.flags.fill(0xff);
+    world.record.fill(5);
+    world.answer.fill(7);
+    world
+}
+
+const RECOVERED: [Sizes; 7] = [
+    Sizes { words: 1, lanes: 1, slots: 34 },
+    Sizes { words: 16, lanes: 1, slots: 34 },
+    Sizes { words: 16, lanes: 3, slots: 101 },
+    Sizes { words: 256, lanes: 4, slots: 64 },
+    Sizes { words: 1024, lanes: 8, slots: 256 },
+    Sizes { words: 7, lanes: 8, slots: 255 },
+    Sizes { words: 1023, lanes: 2, slots: 35 },
+];
+
 #[test]
 fn same_on_the_recovery_images() {
-    for (words, lanes, slots) in [(1, 1, 34), (16, 1, 34), (16, 3, 101), (256, 4, 64), (1024, 8, 256), (7, 8, 255)] {
+    for sizes in RECOVERED {
         for logs in images::ALL {
-            let image = images::image(Sizes { words, lanes, slots }, logs);
-            let stores = 2 * lanes * slots + 1;
+            let stores = 2 * sizes.lanes * sizes.slots + 1;
             for limit in [0, 1, 5, stores - 1, stores, stores + 100, usize::MAX] {
-                let mut world = World::new(words, lanes, slots);
-                world.nvm.clone_from(&image);
-                world.cache.fill(3);
-                world.flags.fill(0xff);
-                world.answer.fill(7);
-                both(&mut world, &Call::Recover(limit), &format!("{logs:?}"));
+                let place = format!("{logs:?}, limit {limit}");
+                let mut former = cut(sizes, images::former_image(sizes, logs));
+                let mut new = cut(sizes, images::image(sizes, logs));
+                assert_eq!(both(&mut former, &Call::Recover(limit), &place), 0);
+                assert_eq!(both(&mut new, &Call::RecoverRead(limit), &place), 0);
+                // the two recoveries differ in the trailer alone
+                let length = former.nvm.len();
+                assert!(new.nvm[..length] == former.nvm[..] && new.cache[..length] == former.cache[..], "{place}");
+                assert!((&new.answer, &new.record) == (&former.answer, &former.record), "{place}");
             }
+        }
+    }
+}
+
+#[test]
+fn each_recovery_takes_one_length() {
+    for sizes in RECOVERED {
+        for logs in images::ALL {
+            let mut new = cut(sizes, images::image(sizes, logs));
+            assert_eq!(both(&mut new, &Call::Recover(usize::MAX), "sizes given, new length"), 1);
+            let mut former = cut(sizes, images::former_image(sizes, logs));
+            assert_eq!(both(&mut former, &Call::RecoverRead(usize::MAX), "sizes not given, former length"), 14);
+        }
+    }
+}
+
+/// At every limit the trailer stays in the cells; the cache has it when recovery finished, and is as it was before that.
+#[test]
+fn no_recovery_touches_the_trailer() {
+    for (sizes, step) in [(RECOVERED[0], 1), (RECOVERED[1], 1), (RECOVERED[2], 7), (RECOVERED[4], 1_001)] {
+        let length = 1 + sizes.words + 2 * sizes.lanes * sizes.slots;
+        let trailer = [sizes.words as u64, sizes.lanes as u64, sizes.slots as u64, length as u64];
+        for logs in images::ALL {
+            let cells = images::image(sizes, logs);
+            assert_eq!(cells[length..], trailer);
+            // at most an entry a slot, the base word, two words a slot
+            let most = 3 * sizes.lanes * sizes.slots + 1;
+            for limit in (0..most).step_by(step).chain([most, usize::MAX]) {
+                let mut world = cut(sizes, cells.clone());
+                assert_eq!(both(&mut world, &Call::RecoverRead(limit), "limit"), 0);
+                assert_eq!(world.nvm[length..], trailer, "{logs:?}, limit {limit}");
+                if world.answer[0] == 0 {
+                    assert!(world.cache.iter().all(|&word| word == 3) && world.flags.iter().all(|&flag| flag == 0xff), "{logs:?}, limit {limit}");
+                } else {
+                    assert!(world.cache == world.nvm && world.flags.iter().all(|&flag| flag == 0), "{logs:?}, limit {limit}");
+                }
+            }
+        }
+    }
+}
+
+/// Every kind of bad trailer is refused with 14, and with nothing touched: behind refusal 1, before refusal 10.
+#[test]
+fn bad_trailers_are_refused() {
+    for sizes in RECOVERED {
+        for logs in [images::Logs::Empty, images::Logs::MixedSequences] {
+            let image = images::image(sizes, logs);
+            let before = image.len() - 4;
+            for trailer in trailers::bad(sizes) {
+                let place = format!("trailer {trailer:?}");
+                let mut world = cut(sizes, [&image[..before], &trailer[..]].concat());
+                assert_eq!(both(&mut world, &Call::RecoverRead(usize::MAX), &place), 14, "{place}");
+                world.nvm[0] = 1;
+                assert_eq!(both(&mut world, &Call::RecoverRead(0), &place), 14, "{place}, odd base");
+                world.flags.push(0);
+                assert_eq!(both(&mut world, &Call::RecoverRead(usize::MAX), &place), 1, "{place}, flags too long");
+            }
+            // the right one behind too few words, or too many
+            for words in [0, 1, before - 4, before - 1, before + 1, before + 4] {
+                let mut world = cut(sizes, [&vec![0; words][..], &image[before..]].concat());
+                assert_eq!(both(&mut world, &Call::RecoverRead(usize::MAX), "length"), 14, "{words} words before the trailer");
+            }
+            let mut odd = cut(sizes, image);
+            odd.nvm[0] = u64::MAX;
+            assert_eq!(both(&mut odd, &Call::RecoverRead(usize::MAX), "odd base"), 10);
+        }
+    }
+    for length in 0..4 {
+        for word in [0, 1, 34, u64::MAX] {
+            let mut world = cut(RECOVERED[0], vec![word; length]);
+            assert_eq!(both(&mut world, &Call::RecoverRead(usize::MAX), "short"), 14, "{length} words");
+        }
+    }
+}
+
+/// Cells, cache and flags of one length each, new or former, in every combination: Format takes three new ones, recovery with sizes three former ones, a step either three.
+#[test]
+fn mixed_lengths_are_refused() {
+    let sizes = Sizes { words: 5, lanes: 2, slots: 40 };
+    let calls = [
+        Call::Format(vec![1; 5]),
+        Call::WriteBack(3),
+        Call::Drain(0),
+        Call::Log(0, vec![1, 0, 0, 7]),
+        Call::Redo(1),
+        Call::Validate(1, vec![1, 1, 0, 7]),
+        Call::Mark(0),
+        Call::Recover(usize::MAX),
+        Call::RecoverRead(usize::MAX),
+    ];
+    let mut start = World::new(sizes.words, sizes.lanes, sizes.slots);
+    assert_eq!(both(&mut start, &Call::Format(vec![1; 5]), "start"), 0);
+    assert_eq!(both(&mut start, &Call::Log(1, vec![1, 1, 0, 7]), "start"), 0);
+    let (new, former) = (start.nvm.len(), start.nvm.len() - 4);
+    for which in 0..8 {
+        let [nvm, cache, flags] = [1, 2, 4].map(|bit| if which & bit == 0 { new } else { former });
+        for call in &calls {
+            let mut world = start.clone();
+            world.nvm.truncate(nvm);
+            world.cache.truncate(cache);
+            world.flags.truncate(flags);
+            let expected = match (which, call) {
+                (0, Call::Recover(_)) | (7, Call::Format(_)) => 1,
+                (7, Call::RecoverRead(_)) => 14,
+                (0 | 7, _) => 0,
+                _ => 1,
+            };
+            assert_eq!(both(&mut world, call, "lengths"), expected, "{call:?}, cells {nvm}, cache {cache}, flags {flags}");
+        }
+    }
+}
+
+/// The last word of an image can be written back, and no word behind it.
+#[test]
+fn write_back_goes_by_the_length() {
+    for (mut world, length) in [(World::new(16, 3, 101), 627), (World::former(16, 3, 101), 623)] {
+        world.cache.fill(9);
+        for word in length - 5..length {
+            assert_eq!(both(&mut world, &Call::WriteBack(word), "in the image"), 0);
+            assert_eq!(world.nvm[word], 9);
+        }
+        assert_eq!(both(&mut world, &Call::WriteBack(length), "behind the image"), 4);
+    }
+}
+
+/// An image of the former length whose last four words look like a trailer is read with the sizes that they tell.
+#[test]
+fn the_call_decides_which_form_an_image_has() {
+    let random = &mut Random::new(8);
+    for sizes in RECOVERED {
+        for logs in images::ALL {
+            let mut image = images::former_image(sizes, logs);
+            let length = image.len();
+            let Some(trailer) = trailers::fitting(random, length) else { continue };
+            image[length - 4..].copy_from_slice(&trailer);
+            let mut read = cut(sizes, image.clone());
+            assert_eq!(both(&mut read, &Call::RecoverRead(usize::MAX), "as one of the new length"), 0);
+            assert_eq!(read.nvm[length - 4..], trailer);
+            let mut given = cut(sizes, image);
+            assert_eq!(both(&mut given, &Call::Recover(usize::MAX), "as one of the former length"), 0);
+            assert_eq!(given.nvm[length - 4..], [0; 4]);
         }
     }
 }

@@ -4,9 +4,11 @@ mod common;
 
 use common::{Call, Calls, World, LIBRARY, PLAIN};
 use std::fmt::{Display, Write};
-use vandzulge::{ANSWER_WORDS, MAX_IMAGE_WORDS, RECORD_WORDS};
+use vandzulge::{ANSWER_WORDS, RECORD_WORDS};
 
 const MAX_INPUT_WORDS: usize = 131_072;
+/// Words of each buffer.
+const LENT_WORDS: usize = 5_125;
 
 /// The words of the input that are left.
 struct Input<'a>(&'a [u64]);
@@ -38,6 +40,8 @@ impl<'a> Input<'a> {
 struct Replay<'a> {
     calls: &'a Calls,
     sizes: [usize; 3],
+    /// whether calls get images of the former length
+    former: bool,
     cache: Vec<u64>,
     nvm: Vec<u64>,
     flags: Vec<u8>,
@@ -52,31 +56,36 @@ impl Replay<'_> {
 
     fn length(&self) -> usize {
         let [words, lanes, slots] = self.sizes;
-        if self.in_range() {
-            1 + words + 2 * lanes * slots
-        } else {
-            0
+        match (self.in_range(), self.former) {
+            (false, _) => 0,
+            (true, true) => 1 + words + 2 * lanes * slots,
+            (true, false) => 1 + words + 2 * lanes * slots + 4,
         }
     }
 
     /// Makes a call; the number, and the answer's words where it was taken.
     fn call(&mut self, call: Call) -> (u64, [u64; ANSWER_WORDS]) {
         let length = self.length();
+        self.call_on(call, length, length, length)
+    }
+
+    /// The same with so many words of cells, cached image and flags.
+    fn call_on(&mut self, call: Call, cells: usize, cached: usize, flags: usize) -> (u64, [u64; ANSWER_WORDS]) {
         let [words, lanes, slots] = self.sizes;
         let mut world = World {
             words,
             lanes,
             slots,
-            cache: self.cache[..length].to_vec(),
-            nvm: self.nvm[..length].to_vec(),
-            flags: self.flags[..length].to_vec(),
+            cache: self.cache[..cached].to_vec(),
+            nvm: self.nvm[..cells].to_vec(),
+            flags: self.flags[..flags].to_vec(),
             record: self.record.clone(),
             answer: vec![7; ANSWER_WORDS],
         };
         let number = world.call(self.calls, &call);
-        self.cache[..length].copy_from_slice(&world.cache);
-        self.nvm[..length].copy_from_slice(&world.nvm);
-        self.flags[..length].copy_from_slice(&world.flags);
+        self.cache[..cached].copy_from_slice(&world.cache);
+        self.nvm[..cells].copy_from_slice(&world.nvm);
+        self.flags[..flags].copy_from_slice(&world.flags);
         self.record = world.record;
         (number, world.answer.try_into().unwrap())
     }
@@ -159,12 +168,7 @@ impl Replay<'_> {
             }
             7 => {
                 let limit = input.word()? as usize;
-                match self.call(Call::Recover(limit)) {
-                    (0, [0, ..]) => line(out, "recover cut"),
-                    (0, [1, _, undone, torn]) => line(out, format_args!("recover none {undone} {torn}")),
-                    (0, [_, boundary, undone, torn]) => line(out, format_args!("recover {boundary} {undone} {torn}")),
-                    (number, _) => line(out, format_args!("recover refused {number}")),
-                }
+                recovery_line(out, self.call(Call::Recover(limit)));
             }
             8 => {
                 let start = input.words(if self.in_range() { self.sizes[0] } else { 0 })?.to_vec();
@@ -202,6 +206,12 @@ impl Replay<'_> {
                 }
                 out.push('\n');
             }
+            15 => self.former = input.word()? == 0,
+            16 => {
+                let limit = input.word()? as usize;
+                let [cells, cached, flags] = sizes(input)?.map(|length| length.min(LENT_WORDS));
+                recovery_line(out, self.call_on(Call::RecoverRead(limit), cells, cached, flags));
+            }
             _ => return None,
         }
         Some(true)
@@ -210,6 +220,15 @@ impl Replay<'_> {
 
 fn line(out: &mut String, text: impl Display) {
     writeln!(out, "{text}").unwrap();
+}
+
+fn recovery_line(out: &mut String, answered: (u64, [u64; ANSWER_WORDS])) {
+    match answered {
+        (0, [0, ..]) => line(out, "recover cut"),
+        (0, [1, _, undone, torn]) => line(out, format_args!("recover none {undone} {torn}")),
+        (0, [_, boundary, undone, torn]) => line(out, format_args!("recover {boundary} {undone} {torn}")),
+        (number, _) => line(out, format_args!("recover refused {number}")),
+    }
 }
 
 fn sizes(input: &mut Input) -> Option<[usize; 3]> {
@@ -238,9 +257,10 @@ fn traces(calls: &Calls, mut input: Input, out: &mut String) -> Option<()> {
         let mut replay = Replay {
             calls,
             sizes: sizes(&mut input)?,
-            cache: vec![0; MAX_IMAGE_WORDS],
-            nvm: vec![0; MAX_IMAGE_WORDS],
-            flags: vec![0; MAX_IMAGE_WORDS],
+            former: false,
+            cache: vec![0; LENT_WORDS],
+            nvm: vec![0; LENT_WORDS],
+            flags: vec![0; LENT_WORDS],
             record: vec![0; RECORD_WORDS],
         };
         while replay.op(&mut input, out)? {}

@@ -1,5 +1,5 @@
 //! The compiled library's stores, one by one, in the order that the crash theorem assumes: to non-volatile memory only aligned words, in a step only those that its lane
-//! has flushed and before any change of the cache, in recovery the entries undone, then the base, then the logs, and then the cache. x86-64 Linux.
+//! has flushed and before any change of the cache, in recovery the entries undone, then the base, then the logs, never the trailer, and then the cache. x86-64 Linux.
 #![cfg(all(target_arch = "x86_64", target_os = "linux"))]
 
 mod common;
@@ -27,7 +27,7 @@ fn ordered(before: &World, call: &Call, number: u64, stores: &[Store]) -> Result
     }
     let may_cache = match call {
         Call::WriteBack(_) | Call::Drain(_) => false,
-        Call::Recover(limit) => *limit >= recovery_stores(before).len(),
+        Call::Recover(limit) | Call::RecoverRead(limit) => *limit >= recovery_stores(before, call).len(),
         _ => true,
     };
     match to_cache.first() {
@@ -40,10 +40,14 @@ fn ordered(before: &World, call: &Call, number: u64, stores: &[Store]) -> Result
 fn expected(before: &World, call: &Call, made: &[(usize, u64)]) -> Vec<(usize, u64)> {
     match call {
         Call::WriteBack(word) => vec![(*word, before.cache[*word])],
-        Call::Recover(limit) => {
+        Call::Recover(limit) | Call::RecoverRead(limit) => {
+            let data_words = match call {
+                Call::Recover(_) => before.words,
+                _ => before.nvm[before.nvm.len() - 4] as usize,
+            };
             // a log word that is 0 already takes no store
-            let zero_already = |&(word, _): &(usize, u64)| word > before.words && before.nvm[word] == 0;
-            recovery_stores(before).into_iter().take(*limit).filter(|store| !zero_already(store)).collect()
+            let zero_already = |&(word, _): &(usize, u64)| word > data_words && before.nvm[word] == 0;
+            recovery_stores(before, call).into_iter().take(*limit).filter(|store| !zero_already(store)).collect()
         }
         Call::Drain(lane) | Call::Log(lane, _) | Call::Redo(lane) | Call::Validate(lane, _) | Call::Mark(lane) => {
             let place = |word| made.iter().position(|store| store.0 == word).unwrap_or(made.len());
@@ -55,8 +59,12 @@ fn expected(before: &World, call: &Call, made: &[(usize, u64)]) -> Vec<(usize, u
     }
 }
 
-fn recovery_stores(world: &World) -> Vec<(usize, u64)> {
-    plain::recovery_stores(world.words, world.lanes, world.slots, &world.nvm)
+/// All stores of a recovery where no limit cuts it.
+fn recovery_stores(world: &World, call: &Call) -> Vec<(usize, u64)> {
+    match call {
+        Call::Recover(_) => plain::recovery_stores(world.words, world.lanes, world.slots, &world.nvm),
+        _ => plain::recovery_read_stores(&world.nvm),
+    }
 }
 
 /// Makes the library's call, and asserts that its stores keep to the order.
@@ -84,12 +92,19 @@ fn every_call_stores_in_order() {
 fn recovery_stores_in_order_up_to_any_limit() {
     for (words, lanes, slots) in [(1, 1, 34), (16, 1, 34), (16, 3, 101), (256, 4, 64), (1024, 8, 256)] {
         for logs in images::ALL {
+            let sizes = Sizes { words, lanes, slots };
+            let mut former = World::former(words, lanes, slots);
+            former.nvm = images::former_image(sizes, logs);
             let mut world = World::new(words, lanes, slots);
-            world.nvm = images::image(Sizes { words, lanes, slots }, logs);
-            let stores = recovery_stores(&world).len();
+            world.nvm = images::image(sizes, logs);
+            let stores = recovery_stores(&world, &Call::RecoverRead(0)).len();
             // all limits of small images, and some of the others
             for limit in (0..=stores).step_by(if stores <= 110 { 1 } else { stores / 3 }).chain([stores - 1, stores, usize::MAX]) {
-                assert_eq!(library(&mut world.clone(), &Call::Recover(limit), &format!("{logs:?}")), 0);
+                assert_eq!(library(&mut world.clone(), &Call::RecoverRead(limit), &format!("{logs:?}")), 0);
+                // with the sizes given, fewer limits
+                if limit % 4 == 0 || limit >= stores - 1 {
+                    assert_eq!(library(&mut former.clone(), &Call::Recover(limit), &format!("{logs:?}")), 0);
+                }
             }
         }
     }
@@ -135,12 +150,10 @@ fn steps_out_of_order_are_seen() {
     assert_fault(stand_in(&world, &mark, 9, &[(Cache, 2, 52)]), "to the cache");
 }
 
-#[test]
-fn recoveries_out_of_order_are_seen() {
-    let mut world = World::new(2, 1, 34);
-    world.nvm[1..7].copy_from_slice(&[9, 0, 11, 7, 32_777, 3]);
+/// Faults in the order of a recovery's stores, by either call.
+fn recoveries_out_of_order(world: &World, call: fn(usize) -> Call) {
     let all: Vec<_> = [(1, 7), (0, 2), (3, 0), (4, 0), (5, 0), (6, 0)].map(|(word, value)| (Image::Nvm, word, value)).to_vec();
-    let recovery = |limit: usize, stores: &[(Image, usize, u64)]| stand_in(&world, &Call::Recover(limit), 0, stores);
+    let recovery = |limit: usize, stores: &[(Image, usize, u64)]| stand_in(world, &call(limit), 0, stores);
     let swapped = |a: usize, b: usize| {
         let mut stores = all.clone();
         stores.swap(a, b);
@@ -157,11 +170,27 @@ fn recoveries_out_of_order_are_seen() {
     assert_fault(recovery(usize::MAX, &all[..5]), "store 5 of 5 to nvm is None");
     assert_fault(recovery(4, &[&all[..4], &cached].concat()), "to the cache");
     assert_fault(recovery(usize::MAX, &[&cached, &all[..]].concat()), "to nvm after the first store to the cache");
+    // the last word, even with the value that it has
+    let last = world.nvm.len() - 1;
+    assert_fault(recovery(usize::MAX, &[&all[..], &[(Image::Nvm, last, world.nvm[last])]].concat()), "store 6 of 7");
+}
+
+#[test]
+fn recoveries_out_of_order_are_seen() {
+    let mut former = World::former(2, 1, 34);
+    former.nvm[1..7].copy_from_slice(&[9, 0, 11, 7, 32_777, 3]);
+    recoveries_out_of_order(&former, Call::Recover);
+    // the sizes are those at the end, not those of the world
+    let mut world = World::new(2, 1, 34);
+    world.nvm[..71].copy_from_slice(&former.nvm);
+    world.nvm[71..].copy_from_slice(&[2, 1, 34, 71]);
+    (world.words, world.lanes, world.slots) = (40, 2, 50);
+    recoveries_out_of_order(&world, Call::RecoverRead);
 }
 
 #[test]
 fn stores_of_other_widths_are_seen() {
-    let mut world = World::new(2, 1, 34);
+    let mut world = World::former(2, 1, 34);
     world.nvm[3] = u64::MAX;
     let recovery = |clear: fn(*mut u64)| {
         let ((), stores) = traced(&mut world.cache.clone(), &mut world.nvm.clone(), |_, nvm| clear(&mut nvm[3]));

@@ -95,14 +95,18 @@ fn no_call_but_format() {
 fn no_recovery_with_any_limit() {
     for (words, lanes, slots) in [(1, 1, 34), (16, 1, 34), (16, 3, 101), (256, 4, 64), (1024, 8, 256)] {
         for logs in images::ALL {
-            let image = images::image(Sizes { words, lanes, slots }, logs);
-            let stores = plain::recovery_stores(words, lanes, slots, &image).len();
+            let sizes = Sizes { words, lanes, slots };
+            let (image, former) = (images::image(sizes, logs), images::former_image(sizes, logs));
+            let stores = plain::recovery_read_stores(&image).len();
             // all limits of small images, and every so many of the others
             for limit in (0..=stores).step_by(1 + stores / 200).chain([stores - 1, stores, usize::MAX]) {
-                let mut world = World::new(words, lanes, slots);
-                world.nvm.clone_from(&image);
-                assert_eq!(clean(&mut world, &Call::Recover(limit), &format!("{logs:?}")), 0);
-                assert_eq!(world.answer[0] == 0, limit < stores, "{logs:?}, limit {limit} of {stores}");
+                let recovery = |mut world: World, image: &Vec<u64>, call: Call| {
+                    world.nvm.clone_from(image);
+                    assert_eq!(clean(&mut world, &call, &format!("{logs:?}")), 0);
+                    assert_eq!(world.answer[0] == 0, limit < stores, "{logs:?}, limit {limit} of {stores}");
+                };
+                recovery(World::new(words, lanes, slots), &image, Call::RecoverRead(limit));
+                recovery(World::former(words, lanes, slots), &former, Call::Recover(limit));
             }
         }
     }
@@ -125,14 +129,14 @@ fn torn_slot() -> World {
 #[test]
 fn a_cut_after_any_store() {
     let cut = torn_slot();
-    let stores = plain::recovery_stores(1, 1, 34, &cut.nvm).len();
+    let stores = plain::recovery_read_stores(&cut.nvm).len();
     let mut whole = cut.clone();
-    assert_eq!(clean(&mut whole, &Call::Recover(usize::MAX), "torn slot"), 0);
+    assert_eq!(clean(&mut whole, &Call::RecoverRead(usize::MAX), "torn slot"), 0);
     assert_eq!((whole.nvm[0], whole.record[0], whole.nvm[1]), (134, 134, u64::MAX));
     for limit in 0..=stores {
         let mut world = cut.clone();
-        assert_eq!(clean(&mut world, &Call::Recover(limit), "cut"), 0);
-        assert_eq!(clean(&mut world, &Call::Recover(usize::MAX), "after a cut"), 0);
+        assert_eq!(clean(&mut world, &Call::RecoverRead(limit), "cut"), 0);
+        assert_eq!(clean(&mut world, &Call::RecoverRead(usize::MAX), "after a cut"), 0);
         assert!((&world.cache, &world.nvm, &world.record) == (&whole.cache, &whole.nvm, &whole.record), "after {limit} of {stores} stores");
     }
 }
@@ -141,10 +145,10 @@ fn a_cut_after_any_store() {
 #[test]
 fn a_cut_inside_a_word_would_spend_the_clock() {
     let mut world = torn_slot();
-    let before_the_logs = plain::recovery_stores(1, 1, 34, &world.nvm).len() - 68;
-    assert_eq!(world.call(&LIBRARY, &Call::Recover(before_the_logs)), 0);
+    let before_the_logs = plain::recovery_read_stores(&world.nvm).len() - 68;
+    assert_eq!(world.call(&LIBRARY, &Call::RecoverRead(before_the_logs)), 0);
     world.nvm[2] &= !0xff;
-    assert_eq!(world.call(&LIBRARY, &Call::Recover(usize::MAX)), 0);
+    assert_eq!(world.call(&LIBRARY, &Call::RecoverRead(usize::MAX)), 0);
     assert_eq!(world.record[0], u64::MAX - 1);
     assert_eq!(world.call(&LIBRARY, &Call::Mark(0)), 8);
 }
@@ -162,9 +166,14 @@ fn what_is_handed_over_is_noticed() {
         nvm.copy_from_slice(cache);
         0
     }
-    let faulty = Calls { recover: clears, drain: copies, ..LIBRARY };
+    fn reads(cache: &mut [u64], nvm: &mut [u64], _: &mut [u8], _: &mut [u64], _: &mut [u64], _: usize) -> u64 {
+        cache.copy_from_slice(nvm);
+        0
+    }
+    let faulty = Calls { recover: clears, recover_read: reads, drain: copies, ..LIBRARY };
     let mut world = World::new(16, 1, 34);
     assert_ne!(watched(&mut world, &LIBRARY, &Call::Format(vec![5; 16])).1, 0, "Format clears logs with memset");
     assert_ne!(watched(&mut world, &faulty, &Call::Recover(usize::MAX)).1, 0);
+    assert_ne!(watched(&mut world, &faulty, &Call::RecoverRead(usize::MAX)).1, 0);
     assert_ne!(watched(&mut world, &faulty, &Call::Drain(0)).1, 0);
 }

@@ -127,6 +127,7 @@ fn refusal(arena: &Arena, cache: &[u64], nvm: &[u64], flags: &[u8], words: &[u64
         second::LOG | second::VALIDATE => txn_refusal(arena, cache, nvm, flags, words),
         second::WRITE_BACK => store::write_back_refusal(sizes, cache, nvm, flags, number(arena)),
         second::RECOVER => recovery::recover_refusal(sizes, cache, nvm, flags),
+        second::RECOVER_READ => recovery::recover_read_refusal(cache, nvm, flags),
         second::FORMAT => store::format_refusal(sizes, words, cache, nvm, flags),
         _ => lane_refusal(arena, cache, nvm, flags),
     }
@@ -189,12 +190,20 @@ fn recover(arena: &mut Arena, cache: &mut [u64], nvm: &mut [u64], flags: &mut [u
     put_restart(arena, restart);
 }
 
+// It is given no sizes.
+fn recover_read(arena: &mut Arena, cache: &mut [u64], nvm: &mut [u64], flags: &mut [u8]) {
+    let restart = recovery::recover_read(cache, nvm, flags, number(arena));
+    put_restart(arena, restart);
+}
+
 fn act(arena: &mut Arena, cache: &mut [u64], nvm: &mut [u64], flags: &mut [u8], words: &[u64]) {
-    if get(arena, STATE, CODE) == second::RECOVER {
-        recover(arena, cache, nvm, flags);
-    } else {
-        let outcome = step(arena, cache, nvm, flags, words);
-        put_outcome(arena, outcome);
+    match get(arena, STATE, CODE) {
+        second::RECOVER => recover(arena, cache, nvm, flags),
+        second::RECOVER_READ => recover_read(arena, cache, nvm, flags),
+        _ => {
+            let outcome = step(arena, cache, nvm, flags, words);
+            put_outcome(arena, outcome);
+        }
     }
 }
 

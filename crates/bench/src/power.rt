@@ -5,7 +5,6 @@ use crate::generator::draw;
 use crate::generator::once_in;
 use crate::generator::value;
 use crate::session;
-use second::restart;
 use second::words::Arena;
 use second::words::CACHE;
 use second::words::FLAGS;
@@ -21,7 +20,7 @@ const LAST_LANE: u64 = MAX_LANES - 1;
 
 // Some of the words that a lane has flushed reach non-volatile memory.
 fn part_of_drain(arena: &mut Arena, lane: u64) {
-    for i in 0..restart::length(arena) {
+    for i in 0..session::length(arena) {
         if second::is_flushed(get(arena, FLAGS, i), lane) {
             if once_in(arena, 2) {
                 move_word(arena, CACHE, NVM, i);
@@ -32,7 +31,7 @@ fn part_of_drain(arena: &mut Arena, lane: u64) {
 
 // Anything in cache and flags.
 pub fn scramble(arena: &mut Arena) {
-    for i in 0..restart::length(arena) {
+    for i in 0..session::length(arena) {
         let word = value(arena);
         put(arena, CACHE, i, word);
         let byte = draw(arena) % 256;
@@ -40,13 +39,19 @@ pub fn scramble(arena: &mut Arena) {
     }
 }
 
+// The recovery that the image is for.
+pub fn recover_within(arena: &mut Arena, limit: u64) {
+    let code = session::recovery(arena);
+    session::call(arena, code, limit, 0);
+}
+
 // A recovery that may be cut, and if it is, that is another failure.
 fn recover_once(arena: &mut Arena) {
-    let mut limit = below(arena, plus(restart::length(arena), 60));
+    let mut limit = below(arena, plus(session::length(arena), 60));
     if once_in(arena, 3) {
         limit = u64::MAX;
     }
-    session::call(arena, second::RECOVER, limit, 0);
+    recover_within(arena, limit);
     if session::kind(arena) == second::CUT {
         scramble(arena);
     }
@@ -60,7 +65,7 @@ pub fn recover(arena: &mut Arena) {
             return;
         }
     }
-    session::call(arena, second::RECOVER, u64::MAX, 0);
+    recover_within(arena, u64::MAX);
 }
 
 // Power fails, perhaps inside a drain of a lane, and recovery follows.

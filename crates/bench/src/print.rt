@@ -1,5 +1,6 @@
 // Lines of output. The answers are the store's.
 use crate::regions::STORED;
+use crate::regions::STORED_NVM;
 use crate::regions::TALLY;
 use crate::session;
 use libc::STDOUT_FILENO;
@@ -8,8 +9,10 @@ use second::words::CODE;
 use second::words::LANES;
 use second::words::SLOTS;
 use second::words::STATE;
+use second::words::TRAILER;
 use second::words::WORDS;
 use second::words::get;
+use second::words::minus;
 use second::words::plus;
 
 fn text(bytes: &[u8]) {
@@ -82,6 +85,8 @@ fn call(code: u64) {
         second::MARK => text(b"Mark"),
         second::DRAIN => text(b"Drain"),
         second::WRITE_BACK => text(b"write-back"),
+        second::RECOVER => text(b"recovery with sizes"),
+        second::RECOVER_READ => text(b"recovery without sizes"),
         _ => text(b"Format"),
     }
 }
@@ -99,6 +104,23 @@ pub fn sizes(arena: &Arena) {
     counted(b"Format, W ", get(arena, STATE, WORDS));
     counted(b", T ", get(arena, STATE, LANES));
     counted(b", N ", get(arena, STATE, SLOTS));
+    text(b": ");
+    answer(arena);
+}
+
+// Word k of the trailer in non-volatile memory.
+fn trailer_word(arena: &Arena, name: &[u8], k: u64) {
+    let start = minus(session::length(arena), TRAILER);
+    counted(name, get(arena, STORED_NVM, plus(start, k)));
+}
+
+// The trailer that a recovery found, and left, and its answer.
+pub fn trailer(arena: &Arena) {
+    trailer_word(arena, b"trailer ", 0);
+    trailer_word(arena, b" ", 1);
+    trailer_word(arena, b" ", 2);
+    trailer_word(arena, b" ", 3);
+    counted(b", image of ", session::length(arena));
     text(b": ");
     answer(arena);
 }
@@ -147,13 +169,18 @@ fn more_kinds(arena: &Arena) {
     counted(b", torn found ", get(arena, TALLY, session::FOUND_TORN));
 }
 
+fn refusal(arena: &Arena, n: u64) {
+    counted(b", ", n);
+    counted(b": ", get(arena, TALLY, plus(session::BY_NUMBER, n)));
+}
+
 // How often there was each refusal.
 fn refusals(arena: &Arena) {
     text(b"\n  refused");
     for n in 1..11 {
-        counted(b", ", n);
-        counted(b": ", get(arena, TALLY, plus(session::BY_NUMBER, n)));
+        refusal(arena, n);
     }
+    refusal(arena, 14);
     text(b"\n");
 }
 

@@ -6,6 +6,7 @@ use crate::regions::TALLY;
 use second::fields;
 use second::restart;
 use second::words::Arena;
+use second::words::NVM_LENGTH;
 use second::words::RECORD;
 use second::words::STATE;
 use second::words::copy;
@@ -14,19 +15,19 @@ use second::words::plus;
 use second::words::put;
 use second::words::set_row;
 ghost use mathlib.Core.Path.{_≡_};
-ghost use Rattle.bench.specs.inner.Run.{kindIn, refusalIn};
+ghost use Rattle.bench.specs.inner.Run.{kindIn, refusalIn, lentIn, recoveryIn};
 
-// The tally of a group: how many calls, how many of them differed, from `BY_KIND` and `BY_NUMBER` on how many had which
-// kind of answer and which refusal, and how many recoveries found torn slots.
+// The tally of a group: how many calls, how many of them differed, from `BY_KIND` on how many had which kind of answer,
+// how many recoveries found torn slots, from `BY_NUMBER` on how many calls had which refusal.
 pub(crate) const CALLS: u64 = 0;
 
 pub(crate) const DIFFER: u64 = 1;
 
 pub(crate) const BY_KIND: u64 = 2;
 
-pub(crate) const BY_NUMBER: u64 = 16;
+pub(crate) const FOUND_TORN: u64 = 13;
 
-pub(crate) const FOUND_TORN: u64 = 30;
+pub(crate) const BY_NUMBER: u64 = 16;
 
 fn add(arena: &mut Arena, at: u64, is: bool) {
     if is {
@@ -68,22 +69,45 @@ pub fn expect(arena: &mut Arena, holds: bool) {
 }
 
 pub fn set_sizes(arena: &mut Arena, words: u64, lanes: u64, slots: u64) {
-    set_row(arena, STATE, 2, words, lanes, slots, 0);
+    restart::set_sizes(arena, words, lanes, slots);
 }
 
 pub fn set_lengths(arena: &mut Arena, cache: u64, nvm: u64, flags: u64) {
     set_row(arena, STATE, 3, cache, nvm, flags, 0);
 }
 
-// Buffers as long as the image.
+// Buffers as long as an image with its trailer.
 pub fn fit(arena: &mut Arena) {
     let all = restart::length(arena);
     set_lengths(arena, all, all, all);
 }
 
+// The same without a trailer.
+pub fn fit_former(arena: &mut Arena) {
+    let all = restart::former(arena);
+    set_lengths(arena, all, all, all);
+}
+
+// How long they are: the words of non-volatile memory.
+pub fn length(arena: &Arena) -> u64
+    ensures { λ r. ⌜ r ≡ lentIn (now (arena .entry)) ⌝ }
+{
+    get(arena, STATE, NVM_LENGTH)
+}
+
+// The recovery that an image so long is for: by sizes given where it has no trailer.
+pub fn recovery(arena: &Arena) -> u64
+    ensures { λ r. ⌜ r ≡ recoveryIn (now (arena .entry)) ⌝ }
+{
+    if length(arena) == restart::former(arena) {
+        return second::RECOVER;
+    }
+    second::RECOVER_READ
+}
+
 // A call, with buffers of the lengths that are set: `number` is the lane, the word or the limit, and the first `used`
 // words of TXN are the transaction or the start words. A refusal or a cut leaves the record as it was.
-pub fn call_with(arena: &mut Arena, code: u64, number: u64, used: u64) {
+pub fn call(arena: &mut Arena, code: u64, number: u64, used: u64) {
     set_row(arena, STATE, 1, code, number, used, 0);
     copy(arena, RECORD, SAVED, 0, fields::LENGTH);
     let same = both::run(arena);
@@ -91,9 +115,4 @@ pub fn call_with(arena: &mut Arena, code: u64, number: u64, used: u64) {
     if kind(arena) == second::REFUSED || kind(arena) == second::CUT {
         copy(arena, SAVED, RECORD, 0, fields::LENGTH);
     }
-}
-
-pub fn call(arena: &mut Arena, code: u64, number: u64, used: u64) {
-    fit(arena);
-    call_with(arena, code, number, used);
 }

@@ -1,5 +1,5 @@
-// Arbitrary states: images whose logs mostly decode, and records mostly in range, as no Format leads to them. Every
-// call is tried on them.
+// Arbitrary states: images whose logs mostly decode and whose trailers mostly agree, and records mostly in range, as no
+// Format leads to them. Every call is tried on them.
 use crate::lists;
 use bench::generator::below;
 use bench::generator::draw;
@@ -23,6 +23,7 @@ use second::words::NVM;
 use second::words::RECORD;
 use second::words::SLOTS;
 use second::words::STATE;
+use second::words::TRAILER;
 use second::words::WORDS;
 use second::words::clear;
 use second::words::get;
@@ -32,6 +33,7 @@ use second::words::only;
 use second::words::plus;
 use second::words::put;
 use second::words::set_row;
+use second::words::times;
 
 // A number below n, now and then n itself: slightly out of range.
 fn about(arena: &mut Arena, n: u64) -> u64 {
@@ -147,11 +149,61 @@ fn fill_data(arena: &mut Arena, image: u64) {
     }
 }
 
+// A word of a trailer as it should not be.
+fn wrong(arena: &mut Arena, word: u64) -> u64 {
+    match below(arena, 5) {
+        0 => plus(word, 1),
+        1 => minus(word, 1),
+        2 => 0,
+        3 => word ^ 4294967296,
+        _ => draw(arena),
+    }
+}
+
+fn spoil_trailer(arena: &mut Arena, image: u64) {
+    let i = plus(restart::former(arena), below(arena, TRAILER));
+    let word = get(arena, image, i);
+    let other = wrong(arena, word);
+    put(arena, image, i, other);
+}
+
+// One lane with the slots of all: this agrees with the length, and with the range of N where there are few slots.
+fn join_lanes(arena: &mut Arena, image: u64) {
+    let at = restart::former(arena);
+    let slots = times(get(arena, STATE, LANES), get(arena, STATE, SLOTS));
+    put(arena, image, plus(at, 1), 1);
+    put(arena, image, plus(at, 2), slots);
+}
+
+// The last words of the log as a trailer, which an image of the former length then seems to have. The last lane's other
+// words are data words by it, and where that lane is the only one no lane is left.
+fn look_alike(arena: &mut Arena, image: u64) {
+    let slots = get(arena, STATE, SLOTS);
+    let lanes = minus(get(arena, STATE, LANES), 1);
+    let words = minus(plus(get(arena, STATE, WORDS), slots << 1), TRAILER);
+    let at = minus(restart::former(arena), TRAILER);
+    put(arena, image, at, words);
+    put(arena, image, plus(at, 1), lanes);
+    put(arena, image, plus(at, 2), slots);
+    put(arena, image, plus(at, 3), at);
+}
+
+fn fill_trailer(arena: &mut Arena, image: u64) {
+    restart::put_trailer(arena, image);
+    match below(arena, 10) {
+        0 | 1 => spoil_trailer(arena, image),
+        2 => join_lanes(arena, image),
+        3 => look_alike(arena, image),
+        _ => {}
+    }
+}
+
 fn fill_image(arena: &mut Arena, image: u64) {
     fill_data(arena, image);
     for lane in 0..get(arena, STATE, LANES) {
         fill_log(arena, image, lane);
     }
+    fill_trailer(arena, image);
     let base = about_stamp(arena) % 16;
     put(arena, image, 0, base);
 }
@@ -235,19 +287,41 @@ fn fill_record(arena: &mut Arena) {
     }
 }
 
-// The image length, now and then one word off.
-fn about_length(arena: &mut Arena) -> u64 {
-    let length = restart::length(arena);
-    if once_in(arena, 150) {
-        return minus(plus(length, below(arena, 3)), 1);
+// A length, now and then one word off, or the other one of the two.
+fn about_length(arena: &mut Arena, length: u64) -> u64 {
+    match below(arena, 300) {
+        0..=1 => minus(plus(length, below(arena, 3)), 1),
+        2 => restart::former(arena),
+        3 => restart::length(arena),
+        _ => length,
     }
-    length
 }
 
-fn about_lengths(arena: &mut Arena) {
-    let cache = about_length(arena);
-    let nvm = about_length(arena);
-    let flags = about_length(arena);
+// With a trailer or without.
+fn either_length(arena: &mut Arena) -> u64 {
+    if once_in(arena, 2) {
+        return restart::former(arena);
+    }
+    restart::length(arena)
+}
+
+// The length that a call takes, one of the two where it takes either, and now and then all the same.
+fn length_for(arena: &mut Arena, code: u64) -> u64 {
+    if once_in(arena, 8) {
+        return either_length(arena);
+    }
+    match code {
+        second::RECOVER => restart::former(arena),
+        second::FORMAT | second::RECOVER_READ => restart::length(arena),
+        _ => either_length(arena),
+    }
+}
+
+fn about_lengths(arena: &mut Arena, code: u64) {
+    let length = length_for(arena, code);
+    let cache = about_length(arena, length);
+    let nvm = about_length(arena, length);
+    let flags = about_length(arena, length);
     session::set_lengths(arena, cache, nvm, flags);
 }
 
@@ -260,22 +334,22 @@ fn any_limit(arena: &mut Arena) -> u64 {
 
 fn any_number(arena: &mut Arena, code: u64) -> u64 {
     match code {
-        second::WRITE_BACK => about(arena, restart::length(arena)),
-        second::RECOVER => any_limit(arena),
+        second::WRITE_BACK => about(arena, session::length(arena)),
+        second::RECOVER | second::RECOVER_READ => any_limit(arena),
         _ => about_size(arena, LANES),
     }
 }
 
 // Any call.
 fn any_call(arena: &mut Arena) {
-    about_lengths(arena);
-    let code = plus(1, below(arena, 8));
+    let code = plus(1, below(arena, 9));
+    about_lengths(arena, code);
     let number = any_number(arena, code);
     let mut used = lists::make_txn(arena);
     if code == second::FORMAT {
         used = get(arena, STATE, WORDS);
     }
-    session::call_with(arena, code, number, used);
+    session::call(arena, code, number, used);
 }
 
 fn fill_buffers(arena: &mut Arena) {

@@ -1,5 +1,6 @@
 // Pseudo-random lists of calls, from a Format on: transactions, some of them damaged, commits, marks, drains,
-// write-backs, power failures and recoveries.
+// write-backs, power failures and recoveries. Now and then an image loses its trailer, and is one of the former length
+// from then on.
 use bench::generator::below;
 use bench::generator::once_in;
 use bench::generator::value;
@@ -7,6 +8,7 @@ use bench::power;
 use bench::regions::KEPT;
 use bench::regions::SEED;
 use bench::regions::START;
+use bench::regions::STORED_NVM;
 use bench::session;
 use second::restart;
 use second::words::Arena;
@@ -16,6 +18,7 @@ use second::words::MAX_SLOTS;
 use second::words::MAX_WORDS;
 use second::words::MAX_WRITES;
 use second::words::MIN_SLOTS;
+use second::words::SLOTS;
 use second::words::STATE;
 use second::words::TXN;
 use second::words::WORDS;
@@ -145,32 +148,55 @@ fn validate(arena: &mut Arena, lane: u64) {
     session::call(arena, second::VALIDATE, lane, used);
 }
 
-// Format, with any start words.
+// Format, with any start words, of an image with a trailer.
 fn format(arena: &mut Arena) {
     for i in 0..MAX_WORDS {
         let word = value(arena);
         put(arena, TXN, i, word);
     }
+    session::fit(arena);
     let words = get(arena, STATE, WORDS);
     session::call(arena, second::FORMAT, 0, words);
 }
 
 // Recovery without a failure before it; if it is cut, that is one.
 fn recover(arena: &mut Arena) {
-    let limit = below(arena, restart::length(arena) << 1);
-    session::call(arena, second::RECOVER, limit, 0);
+    let limit = below(arena, session::length(arena) << 1);
+    power::recover_within(arena, limit);
     if session::kind(arena) == second::CUT {
         power::recover(arena);
     }
 }
 
-// A start in the middle of a list: by a failure, by recovery, or by Format.
+// The recovery that the image is not for.
+fn recover_wrongly(arena: &mut Arena) {
+    let mut code = second::RECOVER;
+    if session::recovery(arena) == second::RECOVER {
+        code = second::RECOVER_READ;
+    }
+    session::call(arena, code, u64::MAX, 0);
+    session::expect(arena, session::kind(arena) == second::REFUSED);
+}
+
+// A start in the middle of a list, by a failure, by recovery, or by Format; or the trailer is lost.
 fn start(arena: &mut Arena, lane: u64) {
-    match below(arena, 6) {
+    match below(arena, 9) {
         0 => format(arena),
         1 => recover(arena),
+        2 => recover_wrongly(arena),
+        3 => session::fit_former(arena),
         _ => power::cut(arena, lane),
     }
+}
+
+// The trailer in non-volatile memory is the one that Format wrote, while there is one.
+fn trailer_stands(arena: &Arena) -> bool {
+    let at = restart::former(arena);
+    session::length(arena) == at
+        || (get(arena, STORED_NVM, at) == get(arena, STATE, WORDS)
+            && get(arena, STORED_NVM, plus(at, 1)) == get(arena, STATE, LANES)
+            && get(arena, STORED_NVM, plus(at, 2)) == get(arena, STATE, SLOTS)
+            && get(arena, STORED_NVM, plus(at, 3)) == at)
 }
 
 // Which call is made how often.
@@ -198,12 +224,13 @@ fn step(arena: &mut Arena, lane: u64, word: u64) {
 // One event of a list: once in `calm` times a start.
 fn event(arena: &mut Arena, calm: u64) {
     let lane = pick_lane(arena);
-    let word = below(arena, plus(restart::length(arena), 1));
+    let word = below(arena, plus(session::length(arena), 1));
     if once_in(arena, calm) {
         start(arena, lane);
     } else {
         step(arena, lane, word);
     }
+    session::expect(arena, trailer_stands(arena));
 }
 
 // A list of 1,000 events.

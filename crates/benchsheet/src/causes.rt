@@ -1,5 +1,5 @@
-// Refusals together: for each call every set of causes that it knows, of which the lowest number wins; and refusal 9 at
-// each slot.
+// Refusals together: for each call every set of causes that it knows, of which the one that comes first wins; and
+// refusal 9 at each slot.
 use crate::edges;
 use bench::session;
 use second::fields;
@@ -17,12 +17,14 @@ use second::words::plus;
 use second::words::put;
 use second::words::set_row;
 
-// A set of causes is a number: cause n is bit n.
+// A set of causes is a number. Its bits are the causes in the order in which they win: 1, 14, and 2 to 10.
 fn has(set: u64, cause: u64) -> bool {
     set & cause != 0
 }
 
-const LENGTHS: u64 = 2;
+const LENGTHS: u64 = 1;
+
+const TRAILERS: u64 = 2;
 
 const RECORDS: u64 = 4;
 
@@ -42,40 +44,51 @@ const OVERWRITES: u64 = 512;
 
 const ODD: u64 = 1024;
 
-// The sets of ten causes.
-const SETS: u64 = 1024;
+// The sets of eleven causes.
+const SETS: u64 = 2048;
 
-// Each set with each of the eight calls.
-pub(crate) const CASES: u64 = 8 * SETS;
+// Each set with each of the nine calls.
+pub(crate) const CASES: u64 = 9 * SETS;
 
 // The causes that a call knows. SPECIFICATION, "Calls".
 fn known(code: u64) -> u64 {
     match code {
         // 1 2 3 5 6 8 9
-        second::LOG => 878,
+        second::LOG => 877,
         // 1 2 3 7 8
-        second::REDO => 398,
+        second::REDO => 397,
         // 1 2 3 5 7 8
-        second::VALIDATE => 430,
+        second::VALIDATE => 429,
         // 1 2 3 8 9
-        second::MARK => 782,
+        second::MARK => 781,
         // 1 2 3
-        second::DRAIN => 14,
+        second::DRAIN => 13,
         // 1 4
-        second::WRITE_BACK => 18,
+        second::WRITE_BACK => 17,
         // 1 10
-        second::RECOVER => 1026,
+        second::RECOVER => 1025,
+        // 1 14 10
+        second::RECOVER_READ => 1027,
         // 1
-        _ => 2,
+        _ => 1,
     }
 }
 
-// The lowest number of a set, or 0.
-fn lowest(set: u64) -> u64 {
+// The number of the cause that a bit is.
+fn number_of(bit: u64) -> u64 {
+    match bit {
+        0 => 1,
+        1 => 14,
+        _ => bit,
+    }
+}
+
+// The number that wins of a set, or 0.
+fn first(set: u64) -> u64 {
     let mut rest = set;
-    for n in 0..11 {
+    for bit in 0..11 {
         if rest % 2 == 1 {
-            return n;
+            return number_of(bit);
         }
         rest = rest / 2;
     }
@@ -84,7 +97,7 @@ fn lowest(set: u64) -> u64 {
 
 // The lane, word or limit.
 fn number_for(code: u64, set: u64) -> u64 {
-    if code == second::RECOVER {
+    if edges::recovers(code) {
         return u64::MAX;
     }
     if has(set, NO_WORD) {
@@ -99,7 +112,8 @@ fn number_for(code: u64, set: u64) -> u64 {
 // Puts the causes 1, 2 and 5 into lengths, record and transaction.
 fn spoil_arguments(arena: &mut Arena, set: u64) {
     if has(set, LENGTHS) {
-        put(arena, STATE, CACHE_LENGTH, edges::LENGTH - 1);
+        let length = session::length(arena);
+        put(arena, STATE, CACHE_LENGTH, minus(length, 1));
     }
     if has(set, RECORDS) {
         set_field(arena, 1, fields::PRESENT, 2);
@@ -109,9 +123,12 @@ fn spoil_arguments(arena: &mut Arena, set: u64) {
     }
 }
 
-// Puts the causes 8, 9 and 10 into record and image. For 9 the lane's log has a timestamp, 6 over no entries, in the
-// slot that the next append would write.
+// Puts the causes 14, 8, 9 and 10 into record and image. For 14 the trailer's last word is one too great; for 9 the
+// lane's log has a timestamp, 6 over no entries, in the slot that the next append would write.
 fn spoil_state(arena: &mut Arena, set: u64, lane: u64) {
+    if has(set, TRAILERS) {
+        put(arena, CACHE, edges::LENGTH - 1, edges::FORMER + 1);
+    }
     if has(set, SPENT) {
         put(arena, RECORD, fields::CLOCK, MAX_STAMP);
     }
@@ -132,6 +149,7 @@ fn held(code: u64, set: u64) -> bool {
 fn call_with(arena: &mut Arena, code: u64, set: u64) {
     let number = number_for(code, set);
     edges::start(arena);
+    edges::fit_for(arena, code);
     edges::prepare(arena, number, held(code, set));
     spoil_arguments(arena, set);
     spoil_state(arena, set, number);
@@ -140,13 +158,13 @@ fn call_with(arena: &mut Arena, code: u64, set: u64) {
         used = 2;
     }
     edges::probe(arena, code, number, used);
-    edges::expect(arena, lowest(set));
+    edges::expect(arena, first(set));
 }
 
 // Each call with each set of which it knows all causes.
 pub(crate) fn every_set(arena: &mut Arena, i: u64) {
     let code = i / SETS + 1;
-    let set = i % SETS * 2;
+    let set = i % SETS;
     if set & known(code) == set {
         call_with(arena, code, set);
     }

@@ -18,7 +18,7 @@ fn set_spoiled(arena: &mut Arena, region: u64, word: u64) {
     set_row(arena, STATE, SPOILED_ROW, region, word, 0, 0);
 }
 
-// The word of case i: each of the record and the answer, then each of the three buffers, of 139 words.
+// The word of case i: each of the record and the answer, then each of the three buffers, of 143 words.
 fn spoil_any(arena: &mut Arena, i: u64) {
     if i < second::LENGTH {
         set_spoiled(arena, STORED, i);
@@ -39,17 +39,18 @@ fn small(arena: &mut Arena, i: u64) {
     edges::probe(arena, second::REDO, 1, 4);
 }
 
-// A Format with the greatest sizes: every 160th word of each buffer, of which the last is one.
+// A Format with the greatest sizes: every 122nd word of each buffer, of which the last is one.
 fn full(arena: &mut Arena, i: u64) {
     session::set_sizes(arena, MAX_WORDS, MAX_LANES, MAX_SLOTS);
-    set_spoiled(arena, plus(STORED_CACHE, i / 33), i % 33 * 160);
+    session::fit(arena);
+    set_spoiled(arena, plus(STORED_CACHE, i / 43), i % 43 * 122);
     session::call(arena, second::FORMAT, 0, MAX_WORDS);
 }
 
-// A word of the record and the answer or of three small buffers, then 3 times 33.
+// A word of the record and the answer or of three small buffers, then 3 times 43.
 const SMALL: u64 = second::LENGTH + 3 * edges::LENGTH;
 
-pub(crate) const CASES: u64 = SMALL + 99;
+pub(crate) const CASES: u64 = SMALL + 129;
 
 pub(crate) fn spoiled(arena: &mut Arena, i: u64) {
     if i < SMALL {

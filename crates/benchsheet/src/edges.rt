@@ -29,18 +29,36 @@ use second::words::plus;
 use second::words::put;
 use second::words::set_row;
 
-// The words of an image of the small store: W 2, T 2, N 34.
-pub(crate) const LENGTH: u64 = 139;
+// The words of an image of the small store, W 2, T 2, N 34: with its trailer, and without.
+pub(crate) const LENGTH: u64 = 143;
 
-// An empty small store, and a transaction that sets word 0 to 3.
-pub(crate) fn start(arena: &mut Arena) {
-    session::set_sizes(arena, 2, 2, MIN_SLOTS);
+pub(crate) const FORMER: u64 = 139;
+
+// The calls.
+const CALLS: u64 = 9;
+
+// An empty store of these sizes, and a transaction that sets word 0 to 3.
+fn start_with(arena: &mut Arena, words: u64, lanes: u64, slots: u64) {
+    session::set_sizes(arena, words, lanes, slots);
     session::fit(arena);
     clear(arena, CACHE, ROOM);
     clear(arena, FLAGS, ROOM);
     clear(arena, TXN, START);
+    restart::put_trailer(arena, CACHE);
     fields::set_start(arena, 0);
     set_row(arena, TXN, 0, 1, 0, 0, 3);
+}
+
+// The small one.
+pub(crate) fn start(arena: &mut Arena) {
+    start_with(arena, 2, 2, MIN_SLOTS);
+}
+
+// Recovery by given sizes wants an image without a trailer.
+pub(crate) fn fit_for(arena: &mut Arena, code: u64) {
+    if code == second::RECOVER {
+        session::fit_former(arena);
+    }
 }
 
 // A call. Non-volatile memory lags behind the cache by data word 0, which every lane has flushed.
@@ -48,7 +66,7 @@ pub(crate) fn probe(arena: &mut Arena, code: u64, number: u64, used: u64) {
     copy(arena, CACHE, NVM, 0, ROOM);
     put(arena, NVM, 1, 9);
     put(arena, FLAGS, 1, 255);
-    session::call_with(arena, code, number, used);
+    session::call(arena, code, number, used);
 }
 
 // Counts a difference unless the call was refused with this number, or not at all where it is 0.
@@ -136,27 +154,36 @@ fn slots_case(i: u64) -> u64 {
     }
 }
 
-fn set_size_case(arena: &mut Arena, i: u64) {
-    session::set_sizes(arena, words_case(i), lanes_case(i), slots_case(i));
-    session::fit(arena);
+pub(crate) fn recovers(code: u64) -> bool {
+    code == second::RECOVER || code == second::RECOVER_READ
 }
 
 // Lane 0, word 0, or no limit; as many words as Format wants, or a transaction of four.
-fn probe_empty(arena: &mut Arena, code: u64) {
+pub(crate) fn probe_empty(arena: &mut Arena, code: u64) {
     let mut used = 4;
     if code == second::FORMAT {
         used = get(arena, STATE, WORDS);
     }
-    probe(arena, code, only(code == second::RECOVER, u64::MAX), used);
+    probe(arena, code, only(recovers(code), u64::MAX), used);
+}
+
+// The refusal for sizes out of range: recovery without sizes finds them in the trailer.
+fn size_refusal(code: u64) -> u64 {
+    if code == second::RECOVER_READ {
+        return 14;
+    }
+    1
 }
 
 // Each size case with each call.
 pub(crate) fn sizes(arena: &mut Arena, i: u64) {
-    let code = i % 8 + 1;
-    start(arena);
-    set_size_case(arena, i / 8);
+    let code = i % CALLS + 1;
+    let case = i / CALLS;
+    start_with(arena, words_case(case), lanes_case(case), slots_case(case));
+    fit_for(arena, code);
     probe_empty(arena, code);
-    session::expect(arena, (session::refusal(arena) == 1) == (56 <= i));
+    let refused = session::refusal(arena) == size_refusal(code);
+    session::expect(arena, refused == (7 <= case));
     if code == second::FORMAT {
         print::sizes(arena);
     }
@@ -164,7 +191,7 @@ pub(crate) fn sizes(arena: &mut Arena, i: u64) {
 
 // ---- buffers. One of them is a word too short or too long; with each call. Then Format with 1, 2 and 3 start words.
 fn wrong_length(arena: &mut Arena, i: u64) {
-    let all = restart::length(arena);
+    let all = session::length(arena);
     let wrong = minus(plus(all, i % 2 * 2), 1);
     match i / 2 {
         0 => session::set_lengths(arena, wrong, all, all),
@@ -175,29 +202,33 @@ fn wrong_length(arena: &mut Arena, i: u64) {
 
 pub(crate) fn buffers(arena: &mut Arena, i: u64) {
     start(arena);
-    if i < 48 {
-        wrong_length(arena, i / 8);
-        probe_empty(arena, i % 8 + 1);
+    if i < 54 {
+        let code = i % CALLS + 1;
+        fit_for(arena, code);
+        wrong_length(arena, i / CALLS);
+        probe_empty(arena, code);
         expect(arena, 1);
     } else {
-        probe(arena, second::FORMAT, 0, i - 47);
-        expect(arena, only(i != 49, 1));
+        probe(arena, second::FORMAT, 0, i - 53);
+        expect(arena, only(i != 55, 1));
     }
 }
 
 // ---- words and lanes
-fn word_case(i: u64) -> u64 {
+fn word_case(i: u64, length: u64) -> u64 {
     match i {
         0 => 0,
-        1 => LENGTH - 1,
-        2 => LENGTH,
+        1 => minus(length, 1),
+        2 => length,
         _ => u64::MAX,
     }
 }
 
-pub(crate) fn words(arena: &mut Arena, i: u64) {
+// Of an image with a trailer, or without.
+pub(crate) fn words(arena: &mut Arena, i: u64, length: u64) {
     start_for(arena, second::WRITE_BACK, 0);
-    let word = word_case(i);
+    session::set_lengths(arena, length, length, length);
+    let word = word_case(i, length);
     probe_at(
         arena,
         second::WRITE_BACK,

@@ -1,11 +1,13 @@
-// The bench sheet's half that is run on fixed lists of calls: both sides of the ends of each range, the withdrawn POKE,
-// sets of causes of a refusal, the two-lane scenario with recovery cut after each store. The control, which spoils what
-// the store left, is here too. Prints what it ran, what the store answered, and how many calls differed from the second
-// implementation.
+// The bench sheet's half that is run on fixed lists of calls: both sides of the ends of each range, trailers and the
+// lengths that each call takes, the withdrawn POKE, sets of causes of a refusal, the two-lane scenario with recovery
+// cut after each store. The control, which spoils what the store left, is here too. Prints what it ran, what the store
+// answered, and how many calls differed from the second implementation.
 mod causes;
 mod control;
 mod edges;
+mod lengths;
 mod scenario;
+mod trailers;
 mod withdrawn;
 
 use bench::print;
@@ -22,32 +24,55 @@ const BUFFERS: u64 = 1;
 
 const WORDS: u64 = 2;
 
-const LANES: u64 = 3;
+const FORMER_WORDS: u64 = 3;
 
-const TXNS: u64 = 4;
+const LANES: u64 = 4;
 
-const WITHDRAWN: u64 = 5;
+const TXNS: u64 = 5;
 
-const CLOCKS: u64 = 6;
+const WITHDRAWN: u64 = 6;
 
-const RECORDS: u64 = 7;
+const CLOCKS: u64 = 7;
 
-const SPOILED: u64 = 8;
+const RECORDS: u64 = 8;
 
-const SETS: u64 = 9;
+const LENGTHS: u64 = 9;
 
-const OVERWRITING: u64 = 10;
+const AGREEING: u64 = 10;
 
-const TWO_LANES: u64 = 11;
+const OFF_BY_ONE: u64 = 11;
 
-const CUTS: u64 = 12;
+const OUT_OF_RANGE: u64 = 12;
+
+const WRAPPING: u64 = 13;
+
+const OTHER_LENGTHS: u64 = 14;
+
+const ORDER: u64 = 15;
+
+const CACHED: u64 = 16;
+
+const TRAILER_CUTS: u64 = 17;
+
+const SPOILED: u64 = 18;
+
+const SETS: u64 = 19;
+
+const OVERWRITING: u64 = 20;
+
+const TWO_LANES: u64 = 21;
+
+const CUTS: u64 = 22;
+
+const FORMER_CUTS: u64 = 23;
 
 // Case i of an edge.
 fn edge(arena: &mut Arena, group: u64, i: u64) {
     match group {
         SIZES => edges::sizes(arena, i),
         BUFFERS => edges::buffers(arena, i),
-        WORDS => edges::words(arena, i),
+        WORDS => edges::words(arena, i, edges::LENGTH),
+        FORMER_WORDS => edges::words(arena, i, edges::FORMER),
         LANES => edges::lanes(arena, i),
         TXNS => edges::txns(arena, i),
         WITHDRAWN => withdrawn::cases(arena, i),
@@ -56,14 +81,30 @@ fn edge(arena: &mut Arena, group: u64, i: u64) {
     }
 }
 
-// Case i of a group.
+// Case i of lengths and trailers.
+fn trailer(arena: &mut Arena, group: u64, i: u64) {
+    match group {
+        LENGTHS => lengths::cases(arena, i),
+        AGREEING => trailers::agreeing(arena, i),
+        OFF_BY_ONE => trailers::off_by_one(arena, i),
+        OUT_OF_RANGE => trailers::out_of_range(arena, i),
+        WRAPPING => trailers::wrapping(arena, i),
+        OTHER_LENGTHS => trailers::other_lengths(arena, i),
+        ORDER => trailers::order(arena, i),
+        CACHED => trailers::cached(arena, i),
+        _ => trailers::cut(arena, i),
+    }
+}
+
+// Case i of any other group.
 fn case(arena: &mut Arena, group: u64, i: u64) {
     match group {
         SPOILED => control::spoiled(arena, i),
         SETS => causes::every_set(arena, i),
         OVERWRITING => causes::overwriting(arena, i),
         TWO_LANES => scenario::run(arena),
-        _ => scenario::run_cut(arena, i),
+        CUTS => scenario::run_cut(arena, i),
+        _ => scenario::run_former(arena, i),
     }
 }
 
@@ -73,6 +114,8 @@ fn cases(arena: &mut Arena, group: u64, count: u64) {
     for i in 0..count {
         if group <= RECORDS {
             edge(arena, group, i);
+        } else if group <= TRAILER_CUTS {
+            trailer(arena, group, i);
         } else {
             case(arena, group, i);
         }
@@ -87,9 +130,10 @@ fn run(arena: &mut Arena, group: u64, count: u64, name: &[u8]) {
 
 // Both sides of the ends of each range.
 fn first_edges(arena: &mut Arena) {
-    run(arena, SIZES, 128, b"sizes");
-    run(arena, BUFFERS, 51, b"buffers");
-    run(arena, WORDS, 4, b"words, image of 139");
+    run(arena, SIZES, 144, b"sizes");
+    run(arena, BUFFERS, 57, b"buffers");
+    run(arena, WORDS, 4, b"words, image of 143");
+    run(arena, FORMER_WORDS, 4, b"words, image of 139");
     run(arena, LANES, 15, b"lanes, T 2");
 }
 
@@ -98,6 +142,21 @@ fn more_edges(arena: &mut Arena) {
     run(arena, WITHDRAWN, 7, b"POKE withdrawn");
     run(arena, CLOCKS, 9, b"clocks");
     run(arena, RECORDS, 200, b"records");
+}
+
+fn lengths_and_trailers(arena: &mut Arena) {
+    run(arena, LENGTHS, lengths::CASES, b"lengths");
+    run(arena, AGREEING, 6, b"trailers that agree");
+    run(arena, OFF_BY_ONE, 11, b"trailers, words off by one");
+    run(arena, OUT_OF_RANGE, 6, b"trailers, sizes out of range");
+    run(arena, WRAPPING, 12, b"trailers, sums that wrap");
+}
+
+fn more_trailers(arena: &mut Arena) {
+    run(arena, OTHER_LENGTHS, 7, b"trailers, other lengths");
+    run(arena, ORDER, 5, b"trailers, order of refusals");
+    run(arena, CACHED, 10, b"trailers in the cache");
+    run(arena, TRAILER_CUTS, 7, b"trailers, recovery cut");
 }
 
 // The comparison sees a spoiled word, wherever it is: all of these differ.
@@ -110,9 +169,12 @@ fn spoiled_results(arena: &mut Arena) {
     );
 }
 
-fn refusals_and_scenario(arena: &mut Arena) {
+fn refusals(arena: &mut Arena) {
     run(arena, SETS, causes::CASES, b"sets of causes");
     run(arena, OVERWRITING, 544, b"overwriting");
+}
+
+fn two_lanes(arena: &mut Arena) {
     run(arena, TWO_LANES, 1, b"two lanes");
     run(
         arena,
@@ -120,12 +182,21 @@ fn refusals_and_scenario(arena: &mut Arena) {
         142,
         b"two lanes, recovery cut after each store",
     );
+    run(
+        arena,
+        FORMER_CUTS,
+        142,
+        b"two lanes, the same without a trailer",
+    );
 }
 
 fn main() {
     let mut arena = [0u64; ALL];
     first_edges(&mut arena);
     more_edges(&mut arena);
+    lengths_and_trailers(&mut arena);
+    more_trailers(&mut arena);
     spoiled_results(&mut arena);
-    refusals_and_scenario(&mut arena);
+    refusals(&mut arena);
+    two_lanes(&mut arena);
 }

@@ -1,5 +1,7 @@
-// The bench sheet's two-lane scenario, and the same with recovery cut after each of its stores.
+// The bench sheet's two-lane scenario, and the same with recovery cut after each of its stores, of images with a
+// trailer and without.
 use crate::edges;
+use crate::trailers;
 use bench::power;
 use bench::print;
 use bench::regions::IMAGE;
@@ -7,7 +9,6 @@ use bench::regions::SEED;
 use bench::regions::STORED;
 use bench::regions::STORED_NVM;
 use bench::session;
-use second::restart;
 use second::words::Arena;
 use second::words::NVM;
 use second::words::STATE;
@@ -58,7 +59,7 @@ fn play(arena: &mut Arena) {
 }
 
 fn write_all_back(arena: &mut Arena) {
-    for i in 0..restart::length(arena) {
+    for i in 0..session::length(arena) {
         session::call(arena, second::WRITE_BACK, i, 0);
     }
 }
@@ -67,7 +68,7 @@ fn write_all_back(arena: &mut Arena) {
 fn recover(arena: &mut Arena, limit: u64) {
     put(arena, STATE, SEED, 7);
     power::scramble(arena);
-    session::call(arena, second::RECOVER, limit, 0);
+    power::recover_within(arena, limit);
 }
 
 pub(crate) fn run(arena: &mut Arena) {
@@ -94,7 +95,7 @@ fn half_cleared(limit: u64) -> u64 {
 
 // Recovery cut after `limit` stores, and done again: both words are 0, and a slot that was half cleared is found torn.
 // There are 140 stores: three entries, the base timestamp, and 136 log words.
-pub(crate) fn run_cut(arena: &mut Arena, limit: u64) {
+fn recover_twice(arena: &mut Arena, limit: u64) {
     copy(arena, IMAGE, NVM, 0, edges::LENGTH);
     recover(arena, limit);
     recover(arena, u64::MAX);
@@ -106,4 +107,17 @@ pub(crate) fn run_cut(arena: &mut Arena, limit: u64) {
         arena,
         get(arena, STORED, second::TORN) == half_cleared(limit),
     );
+}
+
+// The trailer stands as Format wrote it.
+pub(crate) fn run_cut(arena: &mut Arena, limit: u64) {
+    session::fit(arena);
+    recover_twice(arena, limit);
+    session::expect(arena, trailers::stands(arena, STORED_NVM));
+}
+
+// The image without its trailer is one of the former length.
+pub(crate) fn run_former(arena: &mut Arena, limit: u64) {
+    session::fit_former(arena);
+    recover_twice(arena, limit);
 }

@@ -1,11 +1,11 @@
--- The crash theorem, from the invariant that ties logs, data words and history together. Assumes nothing.
+-- The crash theorem and the former theorem, from the invariant that ties logs, data words and history together. Assumes nothing.
 use mathlib.Core.Path.{_≡_}
 use mathlib.Core.Bool.{true}
 use Rattle.image.specs.Image.{sizesOk}
 use Rattle.image.specs.declared.Sizes.{Sizes}
 use Rattle.crash.specs.Events.{vandzulge}
-use Rattle.crash.specs.Theorem.{CrashTheorem}
-use Rattle.crash.proofs.induction.FromLogs.{LogLaws, crash-theorem-by-logs}
+use Rattle.crash.specs.Theorem.{CrashTheorem, FormerTheorem}
+use Rattle.crash.proofs.induction.FromLogs.{LogLaws, crash-theorem-by-logs, former-theorem-by-logs}
 use Rattle.crash.proofs.ties.Ties.{Ties}
 use Rattle.crash.proofs.ties.Logs.{ties-logs}
 use Rattle.crash.proofs.ties.Start.{ties-starts, ties-writes}
@@ -19,6 +19,7 @@ ties-laws z ok =
     record {
       logs = ties-logs z;
       cuts = λ base m h b t. ties-cut z base m h b t;
+      tails = λ base m h b t. t .running .shape .tail;
       starts = ties-starts z ok;
       writes = ties-writes z;
       drains = ties-drains z;
@@ -31,3 +32,6 @@ ties-laws z ok =
 
 pub crash-theorem : CrashTheorem vandzulge
 crash-theorem = crash-theorem-by-logs Ties ties-laws
+
+pub former-theorem : FormerTheorem vandzulge
+former-theorem = former-theorem-by-logs Ties ties-laws

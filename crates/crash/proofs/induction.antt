@@ -1,5 +1,6 @@
 -- The calls as moves, and the theorem from an invariant by induction over the events.
 pub mod Moves
 pub mod Fed
+pub mod Trailer
 pub mod Skeleton
 pub mod FromLogs

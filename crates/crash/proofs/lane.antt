@@ -8,6 +8,7 @@ pub mod Regions
 pub mod Seqs
 pub mod Append
 pub mod Memory
+pub mod Ends
 pub mod Restamp
 pub mod View
 pub mod Shown

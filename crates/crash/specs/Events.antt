@@ -4,16 +4,17 @@ use Prim.Native.Nat.{ℕ}
 use mathlib.Core.Bool.{Bool, false, cond, not}
 use mathlib.Core.List.{List, [], _∷_, _++_}
 use mathlib.Core.Option.{Option, none, some}
-use lib.ListN.{getD, take, replicate}
+use lib.Dec.{eqb}
+use lib.ListN.{length, getD, take, replicate}
 use Rattle.txn.specs.Txn.{Rule, current}
-use Rattle.image.specs.Image.{imageLength}
+use Rattle.image.specs.Image.{formerLength, sizesAtEnd}
 use Rattle.image.specs.Flush.{flushed, writtenBack, drainedNvm}
 use Rattle.image.specs.declared.Sizes.{Sizes}
 use Rattle.record.specs.Record.{startRecord}
 use Rattle.store.specs.Machine.{Machine, Step, said}
 use Rattle.store.specs.Calls.{formatStep, writeBackStep, drainStep, logStepBy, redoStep, validateStepBy, markStep}
 use Rattle.store.specs.declared.Answer.{Answer}
-use Rattle.recovery.specs.Recovery.{Restarted, recoverStep, recoveredNvm}
+use Rattle.recovery.specs.Recovery.{Restarted, recoverStep, recoverReadStep, recoveredNvm}
 use Rattle.recovery.specs.declared.Recovered.{Recovered}
 use Rattle.recovery.specs.declared.Recovered.the-variants.{Refused, Cut, Finished}
 
@@ -42,7 +43,7 @@ pub data Event : Type 0 where
   format : (start : List ℕ) → Event
   writeBack : (word : ℕ) → Event
   call : Call → Event
-  -- a recovery with a limit; the junk is what is left where it answers Cut
+  -- a recovery with a limit, by the call that fits the image; the junk is what is left where it answers Cut
   recover : (limit : ℕ) → Junk → Event
   -- power fails between two calls
   fails : Junk → Event
@@ -94,29 +95,50 @@ callStep z (mark L) m = markStep z L m
 callStep z (drain L) m = drainStep z L m
 
 -- ---- stores
--- a store, as the theorem sees it: its calls, its recovery, and the cells after so many stores of a recovery that power cuts short
+-- a store, as the theorem sees it: its calls, its recoveries with sizes given and without, and the cells after so many stores of a recovery by these
+-- sizes that power cuts short
 pub record Design : Type 0 where
   pub format : Sizes → (start : List ℕ) → Machine → Step
   pub writeBack : Sizes → (word : ℕ) → Machine → Step
   pub call : Sizes → Call → Machine → Step
   pub recover : Sizes → (limit : ℕ) → Machine → Restarted
+  pub recoverRead : (limit : ℕ) → Machine → Restarted
   pub cutShort : Sizes → (stores : ℕ) → (nvm : List ℕ) → List ℕ
 
 -- this one: the definitions that the contracts of its code cite, Log's and Validate's at the current rule; of the former rule there is no code any more
 unfoldable pub vandzulge : Design
-vandzulge = record { format = formatStep; writeBack = writeBackStep; call = callStep; recover = recoverStep; cutShort = recoveredNvm }
+vandzulge =
+    record {
+      format = formatStep;
+      writeBack = writeBackStep;
+      call = callStep;
+      recover = recoverStep;
+      recoverRead = recoverReadStep;
+      cutShort = recoveredNvm;
+    }
 
 -- a refused call drains nothing
 unfoldable pub isTaken : Design → Sizes → Call → Machine → Bool
 isTaken d z c m = not (said (d .call z c m .answer) .refused)
+
+-- ---- recovery, as it is called: an image of the former length with its sizes given, any other by the sizes at its end
+unfoldable pub isFormer : Sizes → (nvm : List ℕ) → Bool
+isFormer z nvm = eqb (length nvm) (formerLength z)
+
+unfoldable pub recoveryOf : Design → Sizes → (limit : ℕ) → Machine → Restarted
+recoveryOf d z limit m = cond (isFormer z m.nvm) (d .recover z limit m) (d .recoverRead limit m)
+
+unfoldable pub cutShortOf : Design → Sizes → (stores : ℕ) → (nvm : List ℕ) → List ℕ
+cutShortOf d z n nvm = d .cutShort (cond (isFormer z nvm) z (sizesAtEnd nvm)) n nvm
 
 -- ---- failures
 -- the first n of these numbers, with 0s where there are fewer: every list of n numbers is one
 unfoldable pub fitted : ℕ → List ℕ → List ℕ
 fitted n l = take n (l ++ replicate n 0)
 
-unfoldable pub fit : Sizes → Junk → Junk
-fit z j = record { cache = fitted (imageLength z) j.cache; flags = fitted (imageLength z) j.flags }
+-- as long as the cells
+unfoldable pub fit : (nvm : List ℕ) → Junk → Junk
+fit nvm j = record { cache = fitted (length nvm) j.cache; flags = fitted (length nvm) j.flags }
 
 -- non-volatile memory after some stores of a drain of lane L
 unfoldable pub partlyDrained : ℕ → (words flags cache nvm : List ℕ) → List ℕ
@@ -157,19 +179,19 @@ unfoldable pub happens : Design → Sizes → System → Event → Happened
 happens d z (live m) (format start) = afterFormat (live m) (d .format z start m)
 happens d z (live m) (writeBack i) = afterStep (d .writeBack z i m)
 happens d z (live m) (call c) = afterStep (d .call z c m)
-happens d z (live m) (recover limit j) = afterRecovery (live m) (fit z j) (m .nvm) (d .recover z limit m)
-happens d z (live m) (fails j) = afterFailure false (m .nvm) (fit z j) none
+happens d z (live m) (recover limit j) = afterRecovery (live m) (fit (m .nvm) j) (m .nvm) (recoveryOf d z limit m)
+happens d z (live m) (fails j) = afterFailure false (m .nvm) (fit (m .nvm) j) none
 happens d z (live m) (failsInDrain c is j) =
-    afterFailure false (cond (isTaken d z c m) (partlyDrained (laneOf c) is (m .flags) (m .cache) (m .nvm)) (m .nvm)) (fit z j) none
+    afterFailure false (cond (isTaken d z c m) (partlyDrained (laneOf c) is (m .flags) (m .cache) (m .nvm)) (m .nvm)) (fit (m .nvm) j) none
 happens d z (live m) (failsAfterDrain c j) =
-    afterFailure (isTaken d z c m) (cond (isTaken d z c m) (drainedNvm (laneOf c) (m .flags) (m .cache) (m .nvm)) (m .nvm)) (fit z j) none
-happens d z (live m) (failsInRecovery n j) = afterFailure false (d .cutShort z n (m .nvm)) (fit z j) (some (m .nvm))
+    afterFailure (isTaken d z c m) (cond (isTaken d z c m) (drainedNvm (laneOf c) (m .flags) (m .cache) (m .nvm)) (m .nvm)) (fit (m .nvm) j) none
+happens d z (live m) (failsInRecovery n j) = afterFailure false (cutShortOf d z n (m .nvm)) (fit (m .nvm) j) (some (m .nvm))
 happens d z (down nvm j found) (format start) = afterFormat (down nvm j found) (d .format z start (bare nvm j))
 happens d z (down nvm j found) (writeBack i) = notOffered (down nvm j found)
 happens d z (down nvm j found) (call c) = notOffered (down nvm j found)
 happens d z (down nvm j found) (recover limit k) =
-    afterRecovery (down nvm j found) (fit z k) (foundOr nvm found) (d .recover z limit (bare nvm j))
-happens d z (down nvm j found) (fails k) = afterFailure false nvm (fit z k) found
+    afterRecovery (down nvm j found) (fit nvm k) (foundOr nvm found) (recoveryOf d z limit (bare nvm j))
+happens d z (down nvm j found) (fails k) = afterFailure false nvm (fit nvm k) found
 happens d z (down nvm j found) (failsInDrain c is k) = notOffered (down nvm j found)
 happens d z (down nvm j found) (failsAfterDrain c k) = notOffered (down nvm j found)
-happens d z (down nvm j found) (failsInRecovery n k) = afterFailure false (d .cutShort z n nvm) (fit z k) (some (foundOr nvm found))
+happens d z (down nvm j found) (failsInRecovery n k) = afterFailure false (cutShortOf d z n nvm) (fit nvm k) (some (foundOr nvm found))

@@ -1,11 +1,12 @@
--- The crash theorem: what holds after every event of every list of events from a Format on. SPECIFICATION, "Crash theorem". Assumes nothing.
-use Prim.Native.Nat.{ℕ, _≤_, _<_}
-use mathlib.Core.Bool.{Bool, true, cond}
+-- The crash theorem: what holds after every event of every list of events from a Format on, or from a recovery of an image of the former length on.
+-- SPECIFICATION, "Crash theorem". Assumes nothing.
+use Prim.Native.Nat.{ℕ, _+_, _≤_, _<_}
+use mathlib.Core.Bool.{Bool, true, false, cond, _&&_}
 use mathlib.Core.List.{List, [], _∷_, _++_}
 use mathlib.Core.Path.{_≡_}
 use lib.Dec.{leb, eqb}
-use lib.ListN.{length}
-use Rattle.image.specs.Image.{imageLength, dataOf}
+use lib.ListN.{length, drop, replicate}
+use Rattle.image.specs.Image.{formerLength, trailer, dataOf}
 use Rattle.image.specs.declared.Sizes.{Sizes}
 use Rattle.log.specs.Log.{completeIn, hits}
 use Rattle.log.specs.declared.Timestamp.{Timestamp}
@@ -15,13 +16,13 @@ use Rattle.store.specs.Machine.{Machine, firstCause}
 use Rattle.store.specs.Calls.{formatRefusal}
 use Rattle.store.specs.declared.Answer.{Answer}
 use Rattle.store.specs.declared.Answer.the-variants as answer
-use Rattle.recovery.specs.Recovery.{boundary, undoStores, tornIn, allMade}
+use Rattle.recovery.specs.Recovery.{boundary, undoStores, newBase, tornIn, allMade, recoverRefusal}
 use Rattle.recovery.specs.declared.Recovered.{Recovered}
 use Rattle.recovery.specs.declared.Recovered.the-variants.{Refused, Cut, Finished}
 use Rattle.crash.specs.Events.{Call, laneOf, System, live, down, nvmOf, Design, happens}
 use Rattle.crash.specs.Events.{Event, format, writeBack, call, recover, fails, failsInDrain, failsAfterDrain, failsInRecovery}
 use Rattle.crash.specs.Events.{Reply, answered, recovered, failed, ignored}
-use Rattle.crash.specs.History.{History, fed, pageAt, present, wordsBelow, leastFloorOf, settled, isSome, causesBy, slotsBy, takenAnswer}
+use Rattle.crash.specs.History.{History, opened, fed, pageAt, present, wordsBelow, leastFloorOf, settled, isSome, causesBy, slotsBy, takenAnswer}
 
 -- ---- a running store
 pub record Live (z : Sizes) (h : History) (m : Machine) : Type 0 where
@@ -33,10 +34,20 @@ pub record Live (z : Sizes) (h : History) (m : Machine) : Type 0 where
   pub floors : (L : ℕ) → L < z .lanes → laneAt (m .state) L .floor ≡ pageAt h L .floor
   pub held : (L : ℕ) → L < z .lanes → isLogged (laneAt (m .state) L .phase) ≡ isSome (pageAt h L .held)
 
--- a store without a record: nothing is claimed until recovery has finished
-abbrev pub InStep : Sizes → History → System → Type 0
-InStep z h (live m) = Live z h m
-InStep z h (down nvm j found) = Unit {0}
+-- ---- the end of an image: what stands past the former length, its trailer or nothing
+unfoldable pub endOf : Sizes → List ℕ → List ℕ
+endOf z image = drop (formerLength z) image
+
+-- of a running store: the same in non-volatile memory and in the cache, and flushed by no lane, so that no drain stores to it
+pub record Ends (z : Sizes) (end : List ℕ) (m : Machine) : Type 0 where
+  pub nvm : endOf z (m .nvm) ≡ end
+  pub cache : endOf z (m .cache) ≡ end
+  pub unflushed : endOf z (m .flags) ≡ replicate (length end) 0
+
+-- ---- a store: of one without a record nothing but its end is claimed until recovery has finished
+abbrev pub InStep : Sizes → (end : List ℕ) → History → System → Type 0
+InStep z end h (live m) = Live z h m × Ends z end m
+InStep z end h (down nvm j found) = endOf z nvm ≡ end
 
 -- ---- answers
 -- would the append of a call write a slot of a sequence that is not below the least floor, floors as after its lane's drain: cause 9, the one that
@@ -64,12 +75,12 @@ abbrev pub CallReply : Sizes → History → System → Call → Answer → Type
 CallReply z h (live m) c a = Answers z h m c a
 CallReply z h (down nvm j found) c a = ⊥
 
--- a refused Format, and a write-back of no word of the image
-abbrev pub formatAnswer : Sizes → List ℕ → Answer
-formatAnswer z start = cond (eqb (length start) (z .words)) answer.Done (answer.Refused 1)
+-- a Format of an image without a trailer or with too few or many start words is refused, and a write-back of no word of the image
+abbrev pub formatAnswer : Sizes → (end start : List ℕ) → Answer
+formatAnswer z end start = cond (eqb (length end) 4 && eqb (length start) (z .words)) answer.Done (answer.Refused 1)
 
-abbrev pub writeBackAnswer : Sizes → ℕ → Answer
-writeBackAnswer z i = cond (leb (imageLength z) i) (answer.Refused 4) answer.Done
+abbrev pub writeBackAnswer : Sizes → (end : List ℕ) → ℕ → Answer
+writeBackAnswer z end i = cond (leb (formerLength z + length end) i) (answer.Refused 4) answer.Done
 
 -- ---- recovery
 -- the answer of a recovery with this limit that finds these cells: cut exactly where stores remain past the limit, else their boundary,
@@ -106,39 +117,67 @@ pub record RecoveryReply (z : Sizes) (h : History) (limit : ℕ) (cells found : 
   pub leaves : Finishes z h found y r
 
 -- ---- one event: what is replied, of the history and the store before it
-abbrev pub Replied : Sizes → History → Event → (was : System) → (found : List ℕ) → (is : System) → Reply → Type 0
-Replied z h (format start) was found is (answered a) = a ≡ formatAnswer z start
-Replied z h (writeBack i) was found is (answered a) = a ≡ writeBackAnswer z i
-Replied z h (call c) was found is (answered a) = CallReply z h was c a
-Replied z h (recover limit j) was found is (answered a) = ⊥
-Replied z h (fails j) was found is (answered a) = ⊥
-Replied z h (failsInDrain c ws j) was found is (answered a) = ⊥
-Replied z h (failsAfterDrain c j) was found is (answered a) = ⊥
-Replied z h (failsInRecovery n j) was found is (answered a) = ⊥
-Replied z h (format start) was found is (recovered r) = ⊥
-Replied z h (writeBack i) was found is (recovered r) = ⊥
-Replied z h (call c) was found is (recovered r) = ⊥
-Replied z h (recover limit j) was found is (recovered r) = RecoveryReply z h limit (nvmOf was) found is r
-Replied z h (fails j) was found is (recovered r) = ⊥
-Replied z h (failsInDrain c ws j) was found is (recovered r) = ⊥
-Replied z h (failsAfterDrain c j) was found is (recovered r) = ⊥
-Replied z h (failsInRecovery n j) was found is (recovered r) = ⊥
-Replied z h e was found is (failed d) = Unit {0}
-Replied z h e was found is ignored = Unit {0}
+abbrev pub Replied : Sizes → (end : List ℕ) → History → Event → (was : System) → (found : List ℕ) → (is : System) → Reply → Type 0
+Replied z end h (format start) was found is (answered a) = a ≡ formatAnswer z end start
+Replied z end h (writeBack i) was found is (answered a) = a ≡ writeBackAnswer z end i
+Replied z end h (call c) was found is (answered a) = CallReply z h was c a
+Replied z end h (recover limit j) was found is (answered a) = ⊥
+Replied z end h (fails j) was found is (answered a) = ⊥
+Replied z end h (failsInDrain c ws j) was found is (answered a) = ⊥
+Replied z end h (failsAfterDrain c j) was found is (answered a) = ⊥
+Replied z end h (failsInRecovery n j) was found is (answered a) = ⊥
+Replied z end h (format start) was found is (recovered r) = ⊥
+Replied z end h (writeBack i) was found is (recovered r) = ⊥
+Replied z end h (call c) was found is (recovered r) = ⊥
+Replied z end h (recover limit j) was found is (recovered r) = RecoveryReply z h limit (nvmOf was) found is r
+Replied z end h (fails j) was found is (recovered r) = ⊥
+Replied z end h (failsInDrain c ws j) was found is (recovered r) = ⊥
+Replied z end h (failsAfterDrain c j) was found is (recovered r) = ⊥
+Replied z end h (failsInRecovery n j) was found is (recovered r) = ⊥
+Replied z end h e was found is (failed d) = Unit {0}
+Replied z end h e was found is ignored = Unit {0}
 
-pub record Agrees (d : Design) (z : Sizes) (h : History) (e : Event) (was : System) : Type 0 where
-  pub reply : Replied z h e was (happens d z was e .found) (happens d z was e .system) (happens d z was e .reply)
-  pub store : InStep z (fed z e (happens d z was e .reply) (happens d z was e .found) h) (happens d z was e .system)
+pub record Agrees (d : Design) (z : Sizes) (end : List ℕ) (h : History) (e : Event) (was : System) : Type 0 where
+  pub reply : Replied z end h e was (happens d z was e .found) (happens d z was e .system) (happens d z was e .reply)
+  pub store : InStep z end (fed z e (happens d z was e .reply) (happens d z was e .found) h) (happens d z was e .system)
 
 -- ---- every event of a list
-abbrev pub Holds : Design → Sizes → System → History → List Event → Type 0
-Holds d z y h [] = Unit {0}
-Holds d z y h (e ∷ es) =
-    Agrees d z h e y × Holds d z (happens d z y e .system) (fed z e (happens d z y e .reply) (happens d z y e .found) h) es
+abbrev pub Holds : Design → Sizes → (end : List ℕ) → System → History → List Event → Type 0
+Holds d z end y h [] = Unit {0}
+Holds d z end y h (e ∷ es) =
+    Agrees d z end h e y × Holds d z end (happens d z y e .system) (fed z e (happens d z y e .reply) (happens d z y e .found) h) es
 
 -- the theorem about a store: for all sizes, buffers and start words that Format is not to refuse, and all lists of events that begin with it;
 -- the history before it does not matter. It holds of ours (`CrashTheorem.crash-theorem`), and of none of the wrong ones in `proofs/worked/WrongStores`
 unfoldable pub CrashTheorem : Design → Type 0
 CrashTheorem d =
     (z : Sizes) (start : List ℕ) (m : Machine) (h : History) → formatRefusal z start m ≡ 0
-    → (es : List Event) → Holds d z (live m) h (format start ∷ es)
+    → (es : List Event) → Holds d z (trailer z) (live m) h (format start ∷ es)
+
+-- the same of a store that was there before images had a trailer: for all sizes, all cells of the former length with an even base, whatever they hold,
+-- and all lists of events after a recovery of them, with the sizes given, that is let finish. The words that it leaves are the start words
+unfoldable pub FormerTheorem : Design → Type 0
+FormerTheorem d =
+    (z : Sizes) (limit : ℕ) (m : Machine) → recoverRefusal z m ≡ 0 → allMade z limit (m .nvm) ≡ true
+    → (es : List Event) → let r = d .recover z limit m in
+    (r .answer ≡ recoveryAnswer z limit (m .nvm))
+    × InStep z [] (opened z (dataOf z (r .machine .nvm)) (newBase z (m .nvm))) (live (r .machine))
+    × Holds d z [] (live (r .machine)) (opened z (dataOf z (r .machine .nvm)) (newBase z (m .nvm))) es
+
+-- ---- who stores to the trailer: Format and write-back
+unfoldable pub mayStore : Event → Bool
+mayStore (format start) = true
+mayStore (writeBack i) = true
+mayStore (call c) = false
+mayStore (recover limit j) = false
+mayStore (fails j) = false
+mayStore (failsInDrain c ws j) = false
+mayStore (failsAfterDrain c j) = false
+mayStore (failsInRecovery n j) = false
+
+-- no other event stores to it: of any store whose cells have it and where no lane has flushed it, whatever the cache holds in its place, it leaves these
+-- cells as they are. By the crash theorem every running store is such a one
+unfoldable pub TrailerTheorem : Design → Type 0
+TrailerTheorem d =
+    (z : Sizes) (m : Machine) (e : Event) → mayStore e ≡ false → endOf z (m .nvm) ≡ trailer z → endOf z (m .flags) ≡ replicate 4 0
+    → endOf z (nvmOf (happens d z (live m) e .system)) ≡ trailer z

@@ -1,13 +1,13 @@
 -- Recovery: the boundary, what is undone and in which order, torn slots, the list of stores, and as many of them as a limit lets through; what its answer
 -- tells. SPECIFICATION, "Recovery". Assumes nothing.
 use Prim.Native.Nat.{ℕ, zero, suc, _+_, _*_, _%_, max}
-use mathlib.Core.Bool.{Bool, true, false, cond, _&&_, _||_}
+use mathlib.Core.Bool.{Bool, true, false, cond, not, _&&_, _||_}
 use mathlib.Core.List.{List, [], _∷_, _++_}
 use lib.Dec.{leb, ltb, eqb}
 use lib.ListN.{length, take}
 use Rattle.slot.specs.declared.Content.{Content}
 use Rattle.slot.specs.declared.Content.the-variants.{Empty, Torn, Entry, Stamp}
-use Rattle.image.specs.Image.{baseOf, logOf}
+use Rattle.image.specs.Image.{baseOf, logOf, allAre, formerOk, sizesAtEnd, trailerOk}
 use Rattle.image.specs.Stores.{Store, stored}
 use Rattle.image.specs.declared.Sizes.{Sizes}
 use Rattle.log.specs.Log.{Old, Complete, slotAt, completeIn, latestIn, contribution}
@@ -15,7 +15,7 @@ use Rattle.log.specs.declared.Timestamp.{Timestamp}
 use Rattle.log.specs.declared.Timestamp.the-variants.{None, At}
 use Rattle.record.specs.Record.{lesser}
 use Rattle.store.specs.Machine.{Machine, Cause, firstCause}
-use Rattle.store.specs.Calls.{badBuffers, started}
+use Rattle.store.specs.Calls.{started}
 use Rattle.recovery.specs.declared.Recovered.{Recovered}
 use Rattle.recovery.specs.declared.Recovered.the-variants.{Refused, Cut, Finished}
 
@@ -123,13 +123,7 @@ recoveryStores z image = undoStores z image ++ (record { at = 0; value = newBase
 unfoldable pub recoveredNvm : Sizes → (limit : ℕ) → List ℕ → List ℕ
 recoveredNvm z limit nvm = stored (take limit (recoveryStores z nvm)) nvm
 
--- ---- the call
-unfoldable pub oddBase : Machine → Cause
-oddBase m = record { number = 10; holds = eqb (baseOf m.nvm % 2) 1 }
-
-unfoldable pub recoverRefusal : Sizes → Machine → ℕ
-recoverRefusal z m = firstCause (badBuffers z m ∷ oddBase m ∷ [])
-
+-- ---- the calls
 -- is every store made
 unfoldable pub allMade : Sizes → (limit : ℕ) → List ℕ → Bool
 allMade z limit nvm = leb (length (recoveryStores z nvm)) limit
@@ -140,20 +134,43 @@ pub record Restarted : Type 0 where
 
 -- a call that is refused alters nothing; one cut short has made its stores, and has no record; a finished one is a start.
 -- Boundary and counts are of the cells that this call found
-unfoldable pub recoverStep : Sizes → (limit : ℕ) → Machine → Restarted
-recoverStep z limit m =
-    let number = recoverRefusal z m in
+unfoldable pub recoveredBy : Sizes → (limit : ℕ) → (number : ℕ) → Machine → Restarted
+recoveredBy z limit number m =
     let nvm = recoveredNvm z limit m.nvm in
     cond (eqb number 0)
     (cond (allMade z limit m.nvm)
     (record {
       answer = Finished (record { boundary = boundary z m.nvm; undone = length (undoStores z m.nvm); torn = tornIn z m.nvm });
-      machine = started z (baseOf nvm) nvm;
+      machine = started (baseOf nvm) nvm;
     })
     (record { answer = Cut; machine = record { state = m.state; cache = m.cache; nvm = nvm; flags = m.flags } }))
     (record { answer = Refused number; machine = m })
 
--- ---- its answer in the specification's words
+unfoldable pub oddBase : Machine → Cause
+oddBase m = record { number = 10; holds = eqb (baseOf m.nvm % 2) 1 }
+
+-- recovery with sizes given, of an image of the former length
+unfoldable pub recoverRefusal : Sizes → Machine → ℕ
+recoverRefusal z m =
+    firstCause (record { number = 1; holds = not (formerOk z (length m.cache) (length m.nvm) (length m.flags)) } ∷ oddBase m ∷ [])
+
+unfoldable pub recoverStep : Sizes → (limit : ℕ) → Machine → Restarted
+recoverStep z limit m = recoveredBy z limit (recoverRefusal z m) m
+
+-- recovery without sizes, which reads them from the end of the cells
+unfoldable pub recoverReadRefusal : Machine → ℕ
+recoverReadRefusal m =
+    let n = length m.nvm in
+    firstCause
+    (record { number = 1; holds = not (allAre n (length m.cache) n (length m.flags)) }
+    ∷ record { number = 14; holds = not (trailerOk m.nvm) }
+    ∷ oddBase m
+    ∷ [])
+
+unfoldable pub recoverReadStep : (limit : ℕ) → Machine → Restarted
+recoverReadStep limit m = recoveredBy (sizesAtEnd m.nvm) limit (recoverReadRefusal m) m
+
+-- ---- their answers in the specification's words
 pub record Told : Type 0 where
   -- was recovery refused, and by which number: 0 where it was not
   pub refused : Bool

@@ -3,10 +3,12 @@
 ghost use mathlib.Core.Path.{_≡_};
 ghost use lib.ListN.{length, replicate};
 ghost use Rattle.image.specs.inner.Facts.{IsImage};
+ghost use Rattle.record.specs.Record.{startRecord};
 ghost use Rattle.store.specs.Interface.{blankOf};
 ghost use Rattle.recovery.specs.Recovery.{boundary as boundaryOf, undoStores, tornIn};
 ghost use Rattle.recovery.specs.Recovery.{recoveryStores, recoveredNvm};
-ghost use Rattle.recovery.specs.Recovery.{recoverRefusal, recoverStep};
+ghost use Rattle.recovery.specs.Recovery.{recoveredBy, recoverRefusal, recoverStep};
+ghost use Rattle.recovery.specs.Recovery.{recoverReadRefusal, recoverReadStep};
 ghost use Rattle.recovery.specs.Interface.{restartedOf};
 ghost use Rattle.recovery.specs.inner.Picking.{LaneRoom};
 use image::Sizes;
@@ -55,12 +57,28 @@ struct Due {
     torn: usize,
 }
 
-// The number of the refusal of recovery, or 0.
+// The number of the refusal of recovery with sizes given, or 0.
 pub fn recover_refusal(sizes: Sizes, cache: &[u64], nvm: &[u64], flags: &[u8]) -> u64
     ensures { λ r. ⌜ r ≡ recoverRefusal sizes (blankOf (now (cache .entry)) (now (nvm .entry)) (now (flags .entry))) ⌝ }
 {
-    if !image::buffers_ok(sizes, cache.len(), nvm.len(), flags.len()) {
+    if !image::former_ok(sizes, cache.len(), nvm.len(), flags.len()) {
         return 1;
+    }
+    if nvm[0] % 2 == 1 {
+        return 10;
+    }
+    0
+}
+
+// The number of the refusal of recovery without sizes, or 0.
+pub fn recover_read_refusal(cache: &[u64], nvm: &[u64], flags: &[u8]) -> u64
+    ensures { λ r. ⌜ r ≡ recoverReadRefusal (blankOf (now (cache .entry)) (now (nvm .entry)) (now (flags .entry))) ⌝ }
+{
+    if !image::all_are(nvm.len(), cache.len(), nvm.len(), flags.len()) {
+        return 1;
+    }
+    if !image::trailer_ok(nvm) {
+        return 14;
     }
     if nvm[0] % 2 == 1 {
         return 10;
@@ -130,7 +148,51 @@ fn refill(cache: &mut [u64], nvm: &[u64], flags: &mut [u8])
     image::bulk::clear_flags(flags);
 }
 
-// Recovers from non-volatile memory alone, making at most `limit` stores to it; cache and flags are not read.
+// A refusal: nothing is altered, and the record is a blank one.
+fn refused(number: u64) -> Restart
+    ensures { λ r. ⌜ r ≡ record { answer = Recovered.Refused number; state = startRecord 0 } ⌝ }
+{
+    Restart {
+        answer: Recovered::Refused(number),
+        state: record::start_record(0),
+    }
+}
+
+// Recovery by these sizes, once it is not refused.
+fn recover_by(
+    sizes: Sizes,
+    cache: &mut [u64],
+    nvm: &mut [u64],
+    flags: &mut [u8],
+    limit: usize,
+) -> Restart
+    requires { ⌜ IsImage sizes (now nvm) ⌝ }
+    requires { ⌜ length (now cache) ≡ length (now nvm) ⌝ }
+    requires { ⌜ length (now flags) ≡ length (now nvm) ⌝ }
+    ensures { λ r. ⌜ restartedOf r (now (cache .exit)) (now (nvm .exit)) (now (flags .exit))
+        ≡ recoveredBy sizes limit 0 (blankOf (now (cache .entry)) (now (nvm .entry)) (now (flags .entry))) ⌝ }
+{
+    let due = recover_nvm(sizes, nvm, limit);
+    if limit < due.all {
+        return Restart {
+            answer: Recovered::Cut,
+            state: record::start_record(0),
+        };
+    }
+    let boundary = due.boundary;
+    refill(cache, nvm, flags);
+    Restart {
+        answer: Recovered::Finished(Finished {
+            boundary,
+            undone: due.undone,
+            torn: due.torn,
+        }),
+        state: record::start_record(nvm[0]),
+    }
+}
+
+// Recovers an image of the former length from non-volatile memory alone, making at most `limit` stores to it; cache and
+// flags are not read.
 // One pass over all slots counts the torn ones and makes an array of timestamps with a winner tree for each lane (up to
 // 23 KB of stack). Each lane's are tried from the greatest down, up to its latest sequence; then all from the boundary
 // on are taken from the greatest down. Each one tried or taken costs the reading of its sequence, a step for each level
@@ -147,29 +209,22 @@ pub fn recover(
     ensures { λ r. ⌜ restartedOf r (now (cache .exit)) (now (nvm .exit)) (now (flags .exit))
         ≡ recoverStep sizes limit (blankOf (now (cache .entry)) (now (nvm .entry)) (now (flags .entry))) ⌝ }
 {
-    let blank = record::start_record(0);
     let number = recover_refusal(sizes, cache, nvm, flags);
     if number != 0 {
-        return Restart {
-            answer: Recovered::Refused(number),
-            state: blank,
-        };
+        return refused(number);
     }
-    let due = recover_nvm(sizes, nvm, limit);
-    if limit < due.all {
-        return Restart {
-            answer: Recovered::Cut,
-            state: blank,
-        };
+    recover_by(sizes, cache, nvm, flags, limit)
+}
+
+// The same of an image whose last four words tell its sizes; they are read, and never stored to.
+pub fn recover_read(cache: &mut [u64], nvm: &mut [u64], flags: &mut [u8], limit: usize) -> Restart
+    ensures { λ r. ⌜ restartedOf r (now (cache .exit)) (now (nvm .exit)) (now (flags .exit))
+        ≡ recoverReadStep limit (blankOf (now (cache .entry)) (now (nvm .entry)) (now (flags .entry))) ⌝ }
+{
+    let number = recover_read_refusal(cache, nvm, flags);
+    if number != 0 {
+        return refused(number);
     }
-    let boundary = due.boundary;
-    refill(cache, nvm, flags);
-    Restart {
-        answer: Recovered::Finished(Finished {
-            boundary,
-            undone: due.undone,
-            torn: due.torn,
-        }),
-        state: record::start_record(nvm[0]),
-    }
+    let sizes = image::sizes_at_end(nvm);
+    recover_by(sizes, cache, nvm, flags, limit)
 }

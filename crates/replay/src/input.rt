@@ -4,9 +4,9 @@ use libc::STDIN_FILENO;
 ghost use mathlib.Core.Path.{_≡_};
 ghost use Prim.Native.Nat.{_+_, _*_, _≤_};
 ghost use lib.ListN.{length};
-ghost use Rattle.image.specs.Image.{maxImage};
+ghost use Rattle.image.specs.Image.{maxFormer};
 ghost use Rattle.replay.specs.inner.Lengths.{chunkWords, chunkBytes, inputWords};
-use image::MAX_IMAGE;
+use image::MAX_FORMER;
 
 // How many words are read at once, how many bytes these have, and how often that is done.
 const CHUNK_WORDS: usize = 8192;
@@ -143,7 +143,7 @@ fn start_words(sizes: Sizes) -> usize {
 // The words of an op that has `fixed` ones, of which the last says how many follow, at most `most`.
 fn counted(op: &[u64], fixed: usize, most: usize) -> Extent
     requires { ⌜ fixed ≤ 3 ⌝ }
-    requires { ⌜ most ≤ maxImage ⌝ }
+    requires { ⌜ most ≤ maxFormer ⌝ }
 {
     let more = number(op, fixed);
     if most < more {
@@ -156,12 +156,13 @@ fn counted(op: &[u64], fixed: usize, most: usize) -> Extent
 fn operands(op: &[u64], sizes: Sizes) -> Extent {
     match word(op, 0) {
         0 | 9 | 14 => Extent::Words(0),
-        2 | 4 | 5 | 6 | 7 => Extent::Words(1),
+        2 | 4 | 5 | 6 | 7 | 15 => Extent::Words(1),
         10 | 12 => Extent::Words(3),
+        16 => Extent::Words(4),
         11 => Extent::Words(codec::RECORD_WORDS),
         8 => Extent::Words(start_words(sizes)),
         1 | 3 => counted(op, 2, MAX_TXN_WORDS),
-        13 => counted(op, 3, MAX_IMAGE),
+        13 => counted(op, 3, MAX_FORMER),
         _ => Extent::Malformed,
     }
 }

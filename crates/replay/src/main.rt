@@ -8,6 +8,7 @@ use image::MAX_IMAGE;
 use image::Sizes;
 use record::Record;
 use recovery::Recovered;
+use recovery::Restart;
 use store::Answer;
 use store::Outcome;
 ghost use mathlib.Core.Path.{_≡_};
@@ -28,17 +29,60 @@ struct Run {
     at: usize,
     status: Status,
     sizes: Sizes,
+    // are images without a trailer
+    former: bool,
     state: Record,
 }
 
-// The words of each buffer that a call is given.
-fn lent(sizes: Sizes) -> usize
+// How many words of each buffer an op is given.
+struct Lengths {
+    cache: usize,
+    nvm: usize,
+    flags: usize,
+}
+
+// The words of an image of these sizes, none where they are out of range.
+fn image_words(sizes: Sizes, former: bool) -> usize
     ensures { λ r. ⌜ r ≤ maxImage ⌝ }
 {
-    if image::sizes_ok(sizes) {
-        return image::image_length(sizes);
+    if !image::sizes_ok(sizes) {
+        return 0;
     }
-    0
+    if former {
+        return image::former_length(sizes);
+    }
+    image::image_length(sizes)
+}
+
+// As many words as asked for, or the whole buffer.
+fn at_most(count: usize) -> usize
+    ensures { λ r. ⌜ r ≤ maxImage ⌝ }
+{
+    if MAX_IMAGE < count {
+        return MAX_IMAGE;
+    }
+    count
+}
+
+// Those of an image, but recovery without sizes says how many it is given.
+fn lent(code: u64, words: &[u64], sizes: Sizes, former: bool) -> Lengths
+    ensures { λ r. ⌜ r .cache ≤ maxImage ⌝ }
+    ensures { λ r. ⌜ r .nvm ≤ maxImage ⌝ }
+    ensures { λ r. ⌜ r .flags ≤ maxImage ⌝ }
+{
+    if code == 16 {
+        return Lengths {
+            cache: at_most(input::number(words, 2)),
+            nvm: at_most(input::number(words, 1)),
+            flags: at_most(input::number(words, 3)),
+        };
+    }
+    let count = image_words(sizes, former);
+    Lengths {
+        cache: count,
+        nvm: count,
+        flags: count,
+    }
 }
 
 // Format, which takes no record; a refused one leaves the record as it was.
@@ -85,7 +129,19 @@ fn call(
     }
 }
 
-// Recovers and prints its line; the record after it, which stays where recovery returns none.
+// Prints the line of a recovery; the record after it, which stays where recovery returns none.
+fn restarted(restart: Restart, state: Record) -> Record {
+    let answer = restart.answer;
+    let after = restart.state;
+    print::recovery_line(answer);
+    match answer {
+        Recovered::Refused(_) => state,
+        Recovered::Cut => state,
+        Recovered::Finished(_) => after,
+    }
+}
+
+// Recovers with sizes given.
 fn recover(
     limit: usize,
     sizes: Sizes,
@@ -95,14 +151,19 @@ fn recover(
     flags: &mut [u8],
 ) -> Record {
     let restart = recovery::recover(sizes, cache, nvm, flags, limit);
-    let answer = restart.answer;
-    let after = restart.state;
-    print::recovery_line(answer);
-    match answer {
-        Recovered::Refused(_) => state,
-        Recovered::Cut => state,
-        Recovered::Finished(_) => after,
-    }
+    restarted(restart, state)
+}
+
+// Recovers without.
+fn recover_read(
+    limit: usize,
+    state: Record,
+    cache: &mut [u64],
+    nvm: &mut [u64],
+    flags: &mut [u8],
+) -> Record {
+    let restart = recovery::recover_read(cache, nvm, flags, limit);
+    restarted(restart, state)
 }
 
 // The record of an op's words, of which `op_length` counts RECORD_WORDS. Its contract does not say so: hence the test,
@@ -159,6 +220,14 @@ fn perform(
             print::digests(state, cache, nvm, flags);
             run
         }
+        15 => Run {
+            former: input::word(words, 0) == 0,
+            ..run
+        },
+        16 => Run {
+            state: recover_read(input::number(words, 0), state, cache, nvm, flags),
+            ..run
+        },
         _ => {
             let outcome = call(code, words, run.sizes, state, cache, nvm, flags);
             let answer = outcome.answer;
@@ -189,17 +258,22 @@ fn step(input: &[u64], run: Run, cache: &mut [u64], nvm: &mut [u64], flags: &mut
             ..run
         };
     }
-    let n = lent(run.sizes);
+    let code = rest[0];
+    let words = &rest[1..end];
+    let given = lent(code, words, run.sizes, run.former);
+    let in_cache = given.cache;
+    let in_nvm = given.nvm;
+    let in_flags = given.flags;
     perform(
-        rest[0],
-        &rest[1..end],
+        code,
+        words,
         Run {
             at: at + end,
             ..run
         },
-        &mut cache[..n],
-        &mut nvm[..n],
-        &mut flags[..n],
+        &mut cache[..in_cache],
+        &mut nvm[..in_nvm],
+        &mut flags[..in_flags],
     )
 }
 
@@ -239,6 +313,7 @@ fn run_trace(input: &[u64], at: usize) -> Run
             at,
             status: Status::Malformed,
             sizes,
+            former: false,
             state,
         };
     }
@@ -246,6 +321,7 @@ fn run_trace(input: &[u64], at: usize) -> Run
         at: at + 3,
         status: Status::Going,
         sizes,
+        former: false,
         state,
     };
     run_ops(input, run, &mut cache, &mut nvm, &mut flags)

@@ -1,18 +1,21 @@
--- What program `recover` prints: words out of bytes, the one refusal of its own, and the lines of a report. SPECIFICATION, "Program `recover`". Assumes
--- nothing.
+-- What programs `recover` and `recover_read` print: words out of bytes, the refusals of an input, and the lines of a report. SPECIFICATION, "Program
+-- `recover`". Assumes nothing.
 use Prim.Native.Nat.{ℕ, zero, suc, _+_, _-_, _*_, _/_, _%_, _^_, _≤_}
 use mathlib.Core.Bool.{Bool, cond, _&&_}
 use mathlib.Core.List.{List, [], _∷_, _++_}
 use mathlib.Core.Path.{_≡_}
 use lib.Dec.{leb, ltb, eqb}
 use lib.ListN.{length, getD, take, drop, replicate}
-use Rattle.image.specs.Image.{maxWords, maxImage, sizesOk, imageLength, dataOf}
+use Rattle.image.specs.Image.{maxWords, maxFormer, maxImage, sizesOk, formerLength, sizesAtEnd, dataOf}
 use Rattle.image.specs.declared.Sizes.{Sizes}
 use Rattle.log.specs.declared.Timestamp.{Timestamp}
 use Rattle.log.specs.declared.Timestamp.the-variants.{None, At}
 use Rattle.store.specs.Interface.{blankOf}
-use Rattle.recovery.specs.Recovery.{Restarted, recoverStep, told}
+use Rattle.store.specs.Machine.{Machine}
+use Rattle.recovery.specs.Recovery.{Restarted, recoverStep, recoverReadStep, told}
 use Rattle.recovery.specs.declared.Recovered.{Recovered}
+use Rattle.report.specs.declared.SizesAt.{SizesAt}
+use Rattle.report.specs.declared.SizesAt.the-variants.{Start, End}
 
 -- ---- reading
 -- the number that bytes spell, the least significant byte first
@@ -24,22 +27,39 @@ littleEndian (b ∷ bs) = b + 256 * littleEndian bs
 unfoldable pub wordAt : List ℕ → (i : ℕ) → ℕ
 wordAt input i = littleEndian (take 8 (drop (8 * i) input))
 
--- W, T and N are the first three words
-unfoldable pub sizesIn : List ℕ → Sizes
-sizesIn input = record { words = wordAt input 0; lanes = wordAt input 1; slots = wordAt input 2 }
+-- the n words from word k on
+unfoldable pub wordsIn : List ℕ → (k n : ℕ) → List ℕ
+wordsIn input k zero = []
+wordsIn input k (suc n) = wordsIn input k n ++ (wordAt input (k + n) ∷ [])
 
--- the n words after them
-unfoldable pub wordsIn : List ℕ → (n : ℕ) → List ℕ
-wordsIn input zero = []
-wordsIn input (suc n) = wordsIn input n ++ (wordAt input (3 + n) ∷ [])
+-- all words
+unfoldable pub allWords : List ℕ → List ℕ
+allWords input = wordsIn input 0 (length input / 8)
 
--- the image
-unfoldable pub imageIn : List ℕ → List ℕ
-imageIn input = wordsIn input (imageLength (sizesIn input))
+-- the sizes: W, T and N are the first three words, or stand in the trailer of an image alone
+unfoldable pub sizesIn : SizesAt → List ℕ → Sizes
+sizesIn Start input = record { words = wordAt input 0; lanes = wordAt input 1; slots = wordAt input 2 }
+sizesIn End input = sizesAtEnd (allWords input)
 
--- are the sizes in range, and is the input as long as they say
+-- the image: of the former length after the three sizes, or all words
+unfoldable pub imageIn : SizesAt → List ℕ → List ℕ
+imageIn Start input = wordsIn input 3 (formerLength (sizesIn Start input))
+imageIn End input = allWords input
+
+-- with the sizes at the start: are they in range, and is the input as long as they say
 unfoldable pub wellFormed : List ℕ → Bool
-wellFormed input = sizesOk (sizesIn input) && eqb (length input) (8 * (3 + imageLength (sizesIn input)))
+wellFormed input = sizesOk (sizesIn Start input) && eqb (length input) (8 * (3 + formerLength (sizesIn Start input)))
+
+-- the bytes of the longest input that is not refused: three sizes and the longest image of the former length, or the longest image alone
+abbrev pub longest : SizesAt → ℕ
+longest Start = 8 * (3 + maxFormer)
+longest End = 8 * maxImage
+
+-- the number that refuses an input before recovery, or 0. Of an image alone the length is tested first: more bytes than the longest has are 14, whether
+-- or not they are whole words, since no sizes agree with that length; then bytes that are no whole words are 1
+unfoldable pub inputRefusal : SizesAt → List ℕ → ℕ
+inputRefusal Start input = cond (wellFormed input) 0 1
+inputRefusal End input = cond (ltb (longest End) (length input)) 14 (cond (eqb (length input % 8) 0) 0 1)
 
 -- ---- printing, in ASCII
 -- the decimal digits of a number, the fewest that hold it and at most k
@@ -100,9 +120,14 @@ noLimit = 2 ^ 64 - 1
 unfoldable pub blank : (n : ℕ) → List ℕ
 blank n = replicate n 0
 
--- recovery of the image of an input, with nothing in cache and flags
-unfoldable pub recoveredFrom : Sizes → (image : List ℕ) → Restarted
-recoveredFrom z image = recoverStep z noLimit (blankOf (blank (imageLength z)) image (blank (imageLength z)))
+-- a machine with an image in non-volatile memory, and nothing in cache and flags
+unfoldable pub nvmOnly : (image : List ℕ) → Machine
+nvmOnly image = blankOf (blank (length image)) image (blank (length image))
+
+-- recovery of the image of an input, with the sizes given or without
+unfoldable pub recoveredFrom : SizesAt → (input : List ℕ) → Restarted
+recoveredFrom Start input = recoverStep (sizesIn Start input) noLimit (nvmOnly (imageIn Start input))
+recoveredFrom End input = recoverReadStep noLimit (nvmOnly (imageIn End input))
 
 -- what is printed of a finished recovery that left this in non-volatile memory: the boundary, then the data words
 unfoldable pub finishedText : Sizes → (nvm : List ℕ) → Timestamp → List ℕ
@@ -117,8 +142,10 @@ unfoldable pub restartText : Sizes → Restarted → List ℕ
 restartText z r = answerText z (r .machine .nvm) (r .answer)
 
 -- the whole report
-unfoldable pub reportOf : (input : List ℕ) → List ℕ
-reportOf input = cond (wellFormed input) (restartText (sizesIn input) (recoveredFrom (sizesIn input) (imageIn input))) (refusedLine 1)
+unfoldable pub reportOf : SizesAt → (input : List ℕ) → List ℕ
+reportOf p input =
+    let number = inputRefusal p input in
+    cond (eqb number 0) (restartText (sizesIn p input) (recoveredFrom p input)) (refusedLine number)
 
 -- ---- where it is printed
 -- the most bytes of a line: `boundary ` or `refused ` and a number, or two numbers and a space, and the newline
@@ -136,16 +163,12 @@ abbrev pub room : ℕ
 room = boundaryRoom + wordRoom * maxWords
 
 -- what is printed into a buffer of a length: nothing where a report might not fit
-unfoldable pub printedOf : (size : ℕ) → (input : List ℕ) → List ℕ
-printedOf size input = cond (leb room size) (reportOf input) []
+unfoldable pub printedOf : SizesAt → (size : ℕ) → (input : List ℕ) → List ℕ
+printedOf p size input = cond (leb room size) (reportOf p input) []
 
 -- ---- from standard input to standard output
--- no well formed input is longer: three sizes, and the longest image
-abbrev pub longest : ℕ
-longest = 8 * (3 + maxImage)
-
 -- r bytes are the report of an input: all that was read, and that is at most one byte more than the longest
-pub record Reported (r : ℕ) : Type 0 where
+pub record Reported (p : SizesAt) (r : ℕ) : Type 0 where
   pub input : List ℕ
-  pub read : length input ≤ longest + 1
-  pub printed : r ≡ length (reportOf input)
+  pub read : length input ≤ longest p + 1
+  pub printed : r ≡ length (reportOf p input)

@@ -1,16 +1,15 @@
-// The report of program `recover`, from bytes to bytes: W, T, N and an image are read, recovery runs on the image, and
-// the boundary and the data words are printed. Reading is in reading.rt, printing in printing.rt. At the end, the same
-// from standard input to standard output.
+// The reports of programs `recover` and `recover_read`, from bytes to bytes: sizes and an image are read, recovery runs
+// on the image, and the boundary and the data words are printed. Reading is in reading.rt, printing in printing.rt. At
+// the end, the same from standard input to standard output.
 ghost use mathlib.Core.Path.{_≡_};
 ghost use Prim.Native.Nat.{_+_, _≤_};
 ghost use lib.ListN.{length, take, drop};
 ghost use Rattle.io.specs.Counts.{Counts};
 ghost use Rattle.image.specs.Image.{maxImage};
 ghost use Rattle.image.specs.inner.Facts.{IsImage};
-ghost use Rattle.report.specs.Report.{blank, finishedText, answerText, reportOf, longest};
-ghost use Rattle.report.specs.inner.ReportFacts.{SizesOf, Blanks};
+ghost use Rattle.report.specs.Report.{inputRefusal, blank, finishedText, answerText, reportOf, longest};
 ghost use Rattle.report.specs.Report.{room, printedOf, Reported};
-ghost use Rattle.report.specs.inner.ReportFacts.{Put};
+ghost use Rattle.report.specs.inner.ReportFacts.{imageWords, Blanks, Put};
 use image::Sizes;
 use libc::STDIN_FILENO;
 use libc::STDOUT_FILENO;
@@ -20,9 +19,16 @@ use recovery::Recovered;
 mod printing;
 mod reading;
 
-// One byte more than the longest input that is not refused, which is three sizes and the longest image: a longer one is
-// then refused, and not cut to one that is well formed.
-const TAKEN: usize = 8 * (3 + image::MAX_IMAGE) + 1;
+// Where an input has its sizes.
+pub enum SizesAt {
+    // W, T and N, and then an image of the former length
+    Start,
+    // an image alone: its trailer tells them
+    End,
+}
+
+// As many bytes as are ever read.
+const TAKEN: usize = 8 * image::MAX_IMAGE + 1;
 
 // No report is longer: a line for the boundary, and one for each data word.
 const ROOM: usize = printing::BOUNDARY_ROOM + printing::WORD_ROOM * image::MAX_WORDS;
@@ -58,24 +64,69 @@ fn put_answer(output: &mut [u8], sizes: Sizes, nvm: &[u64], answer: Recovered) -
     }
 }
 
-// Recovers the image of a well formed input in these buffers, and prints what came of it.
-fn recover_in(
+// Recovers the image after W, T and N in these buffers, and prints what came of it.
+fn recover_given(
     input: &[u8],
-    sizes: Sizes,
     cache: &mut [u64],
     nvm: &mut [u64],
     flags: &mut [u8],
     output: &mut [u8],
 ) -> usize
-    requires { ⌜ SizesOf sizes (now input) ⌝ }
-    requires { ⌜ Blanks sizes (now cache) (now nvm) (now flags) ⌝ }
+    requires { ⌜ inputRefusal SizesAt.Start (now input) ≡ 0 ⌝ }
+    requires { ⌜ Blanks (imageWords SizesAt.Start (now input)) (now cache) (now nvm) (now flags) ⌝ }
     requires { ⌜ room ≤ length (now output) ⌝ }
-    ensures { λ r. ⌜ Put 0 (reportOf (now (input .entry))) (now (output .entry)) r (now (output .exit)) ⌝ }
+    ensures { λ r. ⌜ Put 0 (reportOf SizesAt.Start (now (input .entry))) (now (output .entry)) r
+        (now (output .exit)) ⌝ }
 {
-    reading::decode(input, nvm);
+    let sizes = reading::sizes_in(input);
+    reading::decode(input, 3, nvm);
     let restart = recovery::recover(sizes, cache, nvm, flags, NO_LIMIT);
     let answer = restart.answer;
     put_answer(output, sizes, nvm, answer)
+}
+
+// The same of an image alone. The trailer is tested here, as by recovery itself, so that there are sizes to print by.
+fn recover_told(
+    input: &[u8],
+    cache: &mut [u64],
+    nvm: &mut [u64],
+    flags: &mut [u8],
+    output: &mut [u8],
+) -> usize
+    requires { ⌜ inputRefusal SizesAt.End (now input) ≡ 0 ⌝ }
+    requires { ⌜ Blanks (imageWords SizesAt.End (now input)) (now cache) (now nvm) (now flags) ⌝ }
+    requires { ⌜ room ≤ length (now output) ⌝ }
+    ensures { λ r. ⌜ Put 0 (reportOf SizesAt.End (now (input .entry))) (now (output .entry)) r
+        (now (output .exit)) ⌝ }
+{
+    reading::decode(input, 0, nvm);
+    if !image::trailer_ok(nvm) {
+        return printing::put_refused(output, 14);
+    }
+    let sizes = image::sizes_at_end(nvm);
+    let restart = recovery::recover_read(cache, nvm, flags, NO_LIMIT);
+    let answer = restart.answer;
+    put_answer(output, sizes, nvm, answer)
+}
+
+// Either.
+fn recover_in(
+    place: SizesAt,
+    input: &[u8],
+    cache: &mut [u64],
+    nvm: &mut [u64],
+    flags: &mut [u8],
+    output: &mut [u8],
+) -> usize
+    requires { ⌜ inputRefusal place (now input) ≡ 0 ⌝ }
+    requires { ⌜ Blanks (imageWords place (now input)) (now cache) (now nvm) (now flags) ⌝ }
+    requires { ⌜ room ≤ length (now output) ⌝ }
+    ensures { λ r. ⌜ Put 0 (reportOf place (now (input .entry))) (now (output .entry)) r (now (output .exit)) ⌝ }
+{
+    match place {
+        SizesAt::Start => recover_given(input, cache, nvm, flags, output),
+        SizesAt::End => recover_told(input, cache, nvm, flags, output),
+    }
 }
 
 // Zeros for the longest image.
@@ -93,26 +144,26 @@ fn blank_flags() -> [u8; image::MAX_IMAGE]
 
 // Prints the report of an input at the start of `output`, and answers how many bytes it has. The bytes after it stay as
 // they were. Where `output` is shorter than any report might be, nothing is printed, and the answer is 0.
-pub fn report(input: &[u8], output: &mut [u8]) -> usize
+pub fn report(place: SizesAt, input: &[u8], output: &mut [u8]) -> usize
     ensures counts { λ r. ⌜ Counts r (now (output .exit)) ⌝ }
     ensures printed { λ r. ⌜ take r (now (output .exit))
-        ≡ printedOf (length (now (output .entry))) (now (input .entry)) ⌝ }
+        ≡ printedOf place (length (now (output .entry))) (now (input .entry)) ⌝ }
     ensures kept { λ r. ⌜ drop r (now (output .exit)) ≡ drop r (now (output .entry)) ⌝ }
 {
     if output.len() < ROOM {
         return 0;
     }
-    if !reading::well_formed(input) {
-        return printing::put_refused(output, 1);
+    let number = reading::refusal(place, input);
+    if number != 0 {
+        return printing::put_refused(output, number);
     }
-    let sizes = reading::sizes_in(input);
-    let length = image::image_length(sizes);
+    let length = reading::image_words(place, input);
     let mut cache = blank_words();
     let mut nvm = blank_words();
     let mut flags = blank_flags();
     recover_in(
+        place,
         input,
-        sizes,
         &mut cache[..length],
         &mut nvm[..length],
         &mut flags[..length],
@@ -120,8 +171,16 @@ pub fn report(input: &[u8], output: &mut [u8]) -> usize
     )
 }
 
+// One byte more than the longest input that is not refused: a longer one is then refused, and not cut to one that is
+// not.
+fn taken(place: SizesAt) -> usize
+    ensures { λ r. ⌜ r ≡ longest place + 1 ⌝ }
+{
+    reading::longest(place) + 1
+}
+
 fn input_buffer() -> [u8; TAKEN]
-    ensures { λ r. ⌜ longest + 1 ≡ length r ⌝ }
+    ensures { λ r. ⌜ longest SizesAt.End + 1 ≡ length r ⌝ }
 {
     [0; TAKEN]
 }
@@ -135,13 +194,14 @@ fn output_buffer() -> [u8; ROOM]
 // Reads standard input to its end, but no more than tells whether it is too long, and prints its report on standard
 // output; answers how many bytes the report has. No contract can say which bytes are read and written: this one says
 // that there was an input, and that the report of it is whole.
-pub fn report_input() -> usize
-    ensures { λ r. ⌜ Reported r ⌝ }
+pub fn report_input(place: SizesAt) -> usize
+    ensures { λ r. ⌜ Reported place r ⌝ }
 {
     let mut input = input_buffer();
-    let count = io::read_full(STDIN_FILENO, &mut input);
+    let most = taken(place);
+    let count = io::read_full(STDIN_FILENO, &mut input[..most]);
     let mut output = output_buffer();
-    let length = report(&input[..count], &mut output);
+    let length = report(place, &input[..count], &mut output);
     io::write_all(STDOUT_FILENO, &output[..length]);
     length
 }

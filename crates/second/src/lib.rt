@@ -1,6 +1,6 @@
 // The second implementation of the calls, written from the specification alone and in another way than the store: all
-// numbers in words of one array, every slot decoded, causes of refusal taken all together and the lowest picked. It
-// shares no code with the store.
+// numbers in words of one array, every slot decoded, causes of refusal taken all together and the one that wins picked.
+// It shares no code with the store.
 pub mod fields;
 pub mod reading;
 pub mod restart;
@@ -29,6 +29,7 @@ use crate::words::OWNERS;
 use crate::words::RECORD;
 use crate::words::SLOTS;
 use crate::words::STATE;
+use crate::words::TRAILER;
 use crate::words::TXN;
 use crate::words::USED;
 use crate::words::WORDS;
@@ -65,6 +66,9 @@ pub const WRITE_BACK: u64 = 6;
 pub const RECOVER: u64 = 7;
 
 pub const FORMAT: u64 = 8;
+
+// Recovery without sizes: it reads them from the end of non-volatile memory.
+pub const RECOVER_READ: u64 = 9;
 
 // An answer, behind the record: what was answered, and its numbers. ANSWER is the refusal, the count of writes, whether
 // Mark dropped a transaction, or how many entries recovery undid; STAMP the timestamp or the boundary; REFUSAL the
@@ -126,7 +130,7 @@ fn refuse(arena: &mut Arena, number: u64) {
 }
 
 // Refusal 1: a size, or the length of a buffer.
-fn sizes_ok(words: u64, lanes: u64, slots: u64) -> bool {
+fn in_ranges(words: u64, lanes: u64, slots: u64) -> bool {
     1 <= words
         && words <= MAX_WORDS
         && 1 <= lanes
@@ -135,11 +139,26 @@ fn sizes_ok(words: u64, lanes: u64, slots: u64) -> bool {
         && slots <= MAX_SLOTS
 }
 
+pub(crate) fn sizes_ok(arena: &Arena) -> bool {
+    let words = get(arena, STATE, WORDS);
+    in_ranges(words, get(arena, STATE, LANES), get(arena, STATE, SLOTS))
+}
+
+// Are cache and flags as long as non-volatile memory?
+pub(crate) fn alike(arena: &Arena) -> bool {
+    let length = get(arena, STATE, NVM_LENGTH);
+    get(arena, STATE, CACHE_LENGTH) == length && get(arena, STATE, FLAGS_LENGTH) == length
+}
+
+// Does the call take an image so long, which without its trailer would have `former` words? Only recovery by given
+// sizes wants it without, only Format with it.
+fn length_ok(code: u64, length: u64, former: u64) -> bool {
+    (length == plus(former, TRAILER) && code != RECOVER) || (length == former && code != FORMAT)
+}
+
 fn buffers_ok(arena: &Arena) -> bool {
-    let length = restart::length(arena);
-    get(arena, STATE, CACHE_LENGTH) == length
-        && get(arena, STATE, NVM_LENGTH) == length
-        && get(arena, STATE, FLAGS_LENGTH) == length
+    let length = get(arena, STATE, NVM_LENGTH);
+    alike(arena) && length_ok(get(arena, STATE, CODE), length, restart::former(arena))
 }
 
 // Format has as many start words as data words.
@@ -148,10 +167,7 @@ fn start_ok(arena: &Arena) -> bool {
 }
 
 fn lent_ok(arena: &Arena) -> bool {
-    let words = get(arena, STATE, WORDS);
-    sizes_ok(words, get(arena, STATE, LANES), get(arena, STATE, SLOTS))
-        && buffers_ok(arena)
-        && start_ok(arena)
+    sizes_ok(arena) && buffers_ok(arena) && start_ok(arena)
 }
 
 // What bit `lane` of a flag byte weighs.
@@ -196,7 +212,7 @@ fn drain_word(arena: &mut Arena, i: u64, lane: u64) {
 }
 
 fn drain_words(arena: &mut Arena, lane: u64) {
-    for i in 0..restart::length(arena) {
+    for i in 0..get(arena, STATE, FLAGS_LENGTH) {
         drain_word(arena, i, lane);
     }
 }
@@ -227,12 +243,32 @@ fn overwrites(arena: &Arena, lane: u64, n: u64, count: u64) -> bool {
     false
 }
 
-// The lowest number of those whose cause holds, 0 where none does.
-fn lower(found: u64, number: u64, holds: bool) -> u64 {
-    if !holds {
-        return found;
+// The place of a number in the order in which numbers win: 1, 14, 16, 2, 3, 4, 5, 6, 7, 11, 12, 8, 15, 9, 10. 0, which
+// is no refusal, comes last.
+fn rank(number: u64) -> u64 {
+    match number {
+        1 => 0,
+        14 => 1,
+        16 => 2,
+        2 => 3,
+        3 => 4,
+        4 => 5,
+        5 => 6,
+        6 => 7,
+        7 => 8,
+        11 => 9,
+        12 => 10,
+        8 => 11,
+        15 => 12,
+        9 => 13,
+        10 => 14,
+        _ => 15,
     }
-    if found == 0 || number < found {
+}
+
+// The number that wins of those whose cause holds, 0 where none does; `found` is the one before this cause.
+pub(crate) fn winner(found: u64, number: u64, holds: bool) -> u64 {
+    if holds && rank(number) < rank(found) {
         return number;
     }
     found
@@ -258,16 +294,16 @@ fn spent(arena: &Arena) -> bool {
 
 // Causes 5 to 7.
 fn phase_refusal(code: u64, held: bool, well_formed: bool) -> u64 {
-    let number = lower(0, 7, commits(code) && !held);
-    let number = lower(number, 6, code == LOG && held);
-    lower(number, 5, takes_txn(code) && !well_formed)
+    let number = winner(0, 7, commits(code) && !held);
+    let number = winner(number, 6, code == LOG && held);
+    winner(number, 5, takes_txn(code) && !well_formed)
 }
 
 // Causes 8 and 9.
 fn append_refusal(arena: &Arena, lane: u64, code: u64, n: u64, writes: u64) -> u64 {
     let append = appends(code, writes);
-    let number = lower(0, 9, append && overwrites(arena, lane, n, plus(writes, 1)));
-    lower(number, 8, (append || commits(code)) && spent(arena))
+    let number = winner(0, 9, append && overwrites(arena, lane, n, plus(writes, 1)));
+    winner(number, 8, (append || commits(code)) && spent(arena))
 }
 
 // A slot at the lane's cursor, which moves on; after the last slot the wrap bit flips.
@@ -454,8 +490,8 @@ fn appending(arena: &mut Arena, code: u64, lane: u64) {
 
 // Log, Redo, Validate, Mark and Drain: causes 2 and 3, then 5 to 7.
 fn step(arena: &mut Arena, code: u64, lane: u64) {
-    let number = lower(0, 3, get(arena, STATE, LANES) <= lane);
-    let number = lower(number, 2, !fields::in_range(arena));
+    let number = winner(0, 3, get(arena, STATE, LANES) <= lane);
+    let number = winner(number, 2, !fields::in_range(arena));
     if number != 0 {
         refuse(arena, number);
         return;
@@ -469,8 +505,9 @@ fn step(arena: &mut Arena, code: u64, lane: u64) {
     }
 }
 
+// A word of the trailer too, where the image has one.
 fn write_back(arena: &mut Arena, word: u64) {
-    if restart::length(arena) <= word {
+    if get(arena, STATE, CACHE_LENGTH) <= word {
         refuse(arena, 4);
     } else {
         move_word(arena, CACHE, NVM, word);
@@ -484,6 +521,7 @@ fn format(arena: &mut Arena) {
     clear(arena, CACHE, length);
     clear(arena, FLAGS, length);
     copy(arena, TXN, CACHE, 1, words);
+    restart::put_trailer(arena, CACHE);
     copy(arena, CACHE, NVM, 0, length);
     answer(arena, DONE, 0, 0);
 }
@@ -497,16 +535,30 @@ fn act(arena: &mut Arena, code: u64, number: u64) {
     }
 }
 
-// The call that STATE says. Format and recovery take no record, and beside a refusal leave that of an empty start.
-pub fn call(arena: &mut Arena) {
-    let code = get(arena, STATE, CODE);
+// A call that is given sizes.
+fn call_sized(arena: &mut Arena, code: u64) {
     let number = get(arena, STATE, NUMBER);
-    if code == FORMAT || code == RECOVER {
-        fields::set_start(arena, 0);
-    }
     if lent_ok(arena) {
         act(arena, code, number);
     } else {
         refuse(arena, 1);
+    }
+}
+
+// Does the call make a start? It takes no record.
+fn starts(code: u64) -> bool {
+    code == FORMAT || code == RECOVER || code == RECOVER_READ
+}
+
+// The call that STATE says. Format and recovery beside a refusal leave the record of an empty start.
+pub fn call(arena: &mut Arena) {
+    let code = get(arena, STATE, CODE);
+    if starts(code) {
+        fields::set_start(arena, 0);
+    }
+    if code == RECOVER_READ {
+        restart::recover_read(arena);
+    } else {
+        call_sized(arena, code);
     }
 }

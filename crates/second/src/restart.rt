@@ -1,5 +1,5 @@
-// Recovery in the second implementation: it lists all stores first, and then makes as many as the limit allows.
-// SPECIFICATION, "Recovery".
+// Recovery in the second implementation, and the trailer that it may read its sizes from: it lists all stores first,
+// and then makes as many as the limit allows. SPECIFICATION, "Recovery".
 use super::fields;
 use super::reading;
 use crate::words::Arena;
@@ -12,12 +12,14 @@ use crate::words::MAX_LANES;
 use crate::words::MAX_SLOTS;
 use crate::words::NUMBER;
 use crate::words::NVM;
+use crate::words::NVM_LENGTH;
 use crate::words::OWNERS;
 use crate::words::PLACES;
 use crate::words::RECORD;
 use crate::words::REGION;
 use crate::words::SLOTS;
 use crate::words::STATE;
+use crate::words::TRAILER;
 use crate::words::VALUES;
 use crate::words::WORDS;
 use crate::words::cell;
@@ -25,19 +27,47 @@ use crate::words::clear;
 use crate::words::copy;
 use crate::words::get;
 use crate::words::least;
+use crate::words::minus;
 use crate::words::only;
 use crate::words::plus;
 use crate::words::put;
+use crate::words::set_row;
 use crate::words::times;
 ghost use mathlib.Core.Path.{_≡_};
-ghost use Rattle.second.specs.inner.Words.{lengthIn};
+ghost use Rattle.second.specs.inner.Words.{formerIn, lengthIn};
 
-// The words of an image.
-pub fn length(arena: &Arena) -> u64
-    ensures { λ r. ⌜ r ≡ lengthIn (now (arena .entry)) ⌝ }
+// The row of W, T and N in STATE.
+const SIZES_ROW: u64 = WORDS / 4;
+
+// The words of an image before its trailer, which are all of one that has none.
+pub fn former(arena: &Arena) -> u64
+    ensures { λ r. ⌜ r ≡ formerIn (now (arena .entry)) ⌝ }
 {
     let slots = times(get(arena, STATE, LANES), get(arena, STATE, SLOTS));
     plus(plus(1, get(arena, STATE, WORDS)), slots << 1)
+}
+
+// The words of an image with its trailer.
+pub fn length(arena: &Arena) -> u64
+    ensures { λ r. ⌜ r ≡ lengthIn (now (arena .entry)) ⌝ }
+{
+    plus(former(arena), TRAILER)
+}
+
+pub fn set_sizes(arena: &mut Arena, words: u64, lanes: u64, slots: u64) {
+    set_row(arena, STATE, SIZES_ROW, words, lanes, slots, 0);
+}
+
+// Puts the trailer behind an image: W, T, N, and how many words stand before these four.
+pub fn put_trailer(arena: &mut Arena, image: u64) {
+    let end = former(arena);
+    let words = get(arena, STATE, WORDS);
+    let lanes = get(arena, STATE, LANES);
+    let slots = get(arena, STATE, SLOTS);
+    put(arena, image, end, words);
+    put(arena, image, plus(end, 1), lanes);
+    put(arena, image, plus(end, 2), slots);
+    put(arena, image, plus(end, 3), end);
 }
 
 // The boundary: going down the n sequences, the timestamp at which the last of the lanes that have one turns up.
@@ -126,7 +156,7 @@ fn undo_all(arena: &mut Arena, n: u64, boundary: u64) -> u64 {
 // Lists a store of 0 to each log word.
 fn clear_logs(arena: &mut Arena, listed: u64) -> u64 {
     let mut end = listed;
-    for i in plus(1, get(arena, STATE, WORDS))..length(arena) {
+    for i in plus(1, get(arena, STATE, WORDS))..former(arena) {
         end = list(arena, end, i, 0);
     }
     end
@@ -140,8 +170,9 @@ fn make_stores(arena: &mut Arena, count: u64) {
     }
 }
 
+// The trailer too, where there is one.
 fn refill(arena: &mut Arena) {
-    let all = length(arena);
+    let all = get(arena, STATE, NVM_LENGTH);
     copy(arena, NVM, CACHE, 0, all);
     clear(arena, FLAGS, all);
 }
@@ -184,11 +215,63 @@ fn recover_whole(arena: &mut Arena) {
     }
 }
 
-// Recovery. Beside a refusal or a cut the record is that of an empty start.
-pub(crate) fn recover(arena: &mut Arena) {
-    if get(arena, NVM, 0) % 2 == 1 {
-        super::refuse(arena, 10);
+// Unless it is refused with this number. Beside a refusal or a cut the record is that of an empty start.
+fn recover_unless(arena: &mut Arena, number: u64) {
+    if number != 0 {
+        super::refuse(arena, number);
     } else {
         recover_whole(arena);
     }
+}
+
+// Cause 10, or 0.
+fn base_refusal(arena: &Arena) -> u64 {
+    super::winner(0, 10, get(arena, NVM, 0) % 2 == 1)
+}
+
+// Recovery by the sizes that STATE says.
+pub(crate) fn recover(arena: &mut Arena) {
+    let number = base_refusal(arena);
+    recover_unless(arena, number);
+}
+
+// ---- sizes at the end of non-volatile memory
+// Word k of the last four, 0 where there are not so many.
+fn last_word(arena: &Arena, k: u64) -> u64 {
+    let end = get(arena, STATE, NVM_LENGTH);
+    only(
+        TRAILER <= end,
+        get(arena, NVM, plus(minus(end, TRAILER), k)),
+    )
+}
+
+// Do those in STATE, which are the ones read, agree with their ranges, the fourth word, and the length?
+fn trailer_ok(arena: &Arena) -> bool {
+    super::sizes_ok(arena)
+        && last_word(arena, 3) == former(arena)
+        && get(arena, STATE, NVM_LENGTH) == length(arena)
+}
+
+fn read_refusal(arena: &Arena) -> u64 {
+    let number = super::winner(base_refusal(arena), 14, !trailer_ok(arena));
+    super::winner(number, 1, !super::alike(arena))
+}
+
+// By the sizes that are read, which are in STATE then.
+fn recover_by_trailer(arena: &mut Arena) {
+    let words = last_word(arena, 0);
+    let lanes = last_word(arena, 1);
+    let slots = last_word(arena, 2);
+    set_sizes(arena, words, lanes, slots);
+    let number = read_refusal(arena);
+    recover_unless(arena, number);
+}
+
+// Recovery without sizes: those in STATE are not looked at, and stay.
+pub(crate) fn recover_read(arena: &mut Arena) {
+    let words = get(arena, STATE, WORDS);
+    let lanes = get(arena, STATE, LANES);
+    let slots = get(arena, STATE, SLOTS);
+    recover_by_trailer(arena);
+    set_sizes(arena, words, lanes, slots);
 }

@@ -26,8 +26,11 @@ pub const MIN_SLOTS: u64 = 34;
 
 pub const MAX_SLOTS: u64 = 256;
 
-// The words of the longest image.
-pub const MAX_LENGTH: u64 = 5121;
+// The trailer's words.
+pub const TRAILER: u64 = 4;
+
+// The words of the longest image, with its trailer.
+pub const MAX_LENGTH: u64 = 5125;
 
 // The most entries of a sequence, and the most writes and instructions of a transaction.
 pub const MAX_WRITES: u64 = 16;
@@ -130,7 +133,7 @@ pub fn minus(a: u64, b: u64) -> u64
     std::num::wrapping_sub_u64(a, b)
 }
 
-pub(crate) fn times(a: u64, b: u64) -> u64
+pub fn times(a: u64, b: u64) -> u64
     ensures { λ r. ⌜ r ≡ product a b ⌝ }
 {
     a % REGION * (b % REGION)

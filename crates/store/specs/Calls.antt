@@ -8,7 +8,7 @@ use Rattle.slot.specs.declared.Content.{Content}
 use Rattle.slot.specs.declared.Content.the-variants.{Empty, Torn, Entry, Stamp}
 use Rattle.txn.specs.Txn.{maxWrites, Rule, current, txnBy, run}
 use Rattle.txn.specs.declared.Write.{Write}
-use Rattle.image.specs.Image.{buffersOk, imageLength, dataOf, logOf, logStart}
+use Rattle.image.specs.Image.{trailer, formatOk, buffersOk, dataOf, logOf, logStart}
 use Rattle.image.specs.Flush.{flushAll, writtenBack, drainedNvm, drainedFlags}
 use Rattle.image.specs.Stores.{Store, stored, places}
 use Rattle.image.specs.declared.Sizes.{Sizes}
@@ -61,23 +61,27 @@ unfoldable pub wouldHit : Sizes → ℕ → ℕ → Machine → Bool
 wouldHit z L n m = hits z.slots (laneAt m.state L .next) n (boundOf z (drained z L m .state)) (completeIn z m.cache L)
 
 -- ---- Format: image and record at a start; the buffers may hold anything of the right length
--- the image of these start words: base timestamp and logs 0
+-- the image of these start words: base timestamp and logs 0, and the sizes at its end
 unfoldable pub startImage : Sizes → List ℕ → List ℕ
-startImage z start = 0 ∷ start ++ replicate (2 * z.lanes * z.slots) 0
+startImage z start = 0 ∷ start ++ (replicate (2 * z.lanes * z.slots) 0 ++ trailer z)
 
 -- a start: cache equals non-volatile memory, nothing is flushed
-unfoldable pub started : Sizes → ℕ → List ℕ → Machine
-started z base image = record { state = startRecord base; cache = image; nvm = image; flags = replicate (imageLength z) 0 }
+unfoldable pub started : ℕ → List ℕ → Machine
+started base image = record { state = startRecord base; cache = image; nvm = image; flags = replicate (length image) 0 }
 
 unfoldable pub formatRefusal : Sizes → List ℕ → Machine → ℕ
-formatRefusal z start m = firstCause (badBuffers z m ∷ record { number = 1; holds = not (eqb (length start) z.words) } ∷ [])
+formatRefusal z start m =
+    firstCause
+    (record { number = 1; holds = not (formatOk z (length m.cache) (length m.nvm) (length m.flags)) }
+    ∷ record { number = 1; holds = not (eqb (length start) z.words) }
+    ∷ [])
 
 unfoldable pub formatStep : Sizes → List ℕ → Machine → Step
-formatStep z start m = unless (formatRefusal z start m) m (record { answer = Done; machine = started z 0 (startImage z start) })
+formatStep z start m = unless (formatRefusal z start m) m (record { answer = Done; machine = started 0 (startImage z start) })
 
--- ---- write-back of image word i; it knows no record
+-- ---- write-back of image word i, one of the trailer too; it knows no record
 unfoldable pub writeBackRefusal : Sizes → ℕ → Machine → ℕ
-writeBackRefusal z i m = firstCause (badBuffers z m ∷ record { number = 4; holds = leb (imageLength z) i } ∷ [])
+writeBackRefusal z i m = firstCause (badBuffers z m ∷ record { number = 4; holds = leb (length m.cache) i } ∷ [])
 
 unfoldable pub writeBackStep : Sizes → ℕ → Machine → Step
 writeBackStep z i m =

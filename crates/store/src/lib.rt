@@ -6,13 +6,13 @@ ghost use Prim.Native.Nat.{_<_};
 ghost use lib.ListN.{length, replicate};
 ghost use Rattle.txn.specs.Txn.{maxWrites, txnOk, run};
 ghost use Rattle.txn.specs.inner.Writes.{writesOf};
-ghost use Rattle.image.specs.Image.{imageLength, dataOf};
+ghost use Rattle.image.specs.Image.{sizesOk, formerLength, trailer, imageLength, dataOf};
 ghost use Rattle.image.specs.inner.Facts.{IsImage};
 ghost use Rattle.log.specs.Log.{latestIn};
 ghost use Rattle.store.specs.Calls.{startImage, formatRefusal, formatStep, writeBackRefusal, writeBackStep};
 ghost use Rattle.store.specs.Calls.{drainRefusal, drainStep};
 ghost use Rattle.store.specs.Interface.{machineOf, blankOf, stepOf, blankStepOf};
-ghost use Rattle.store.specs.inner.Checked.{drainedState};
+ghost use Rattle.store.specs.inner.Checked.{bodyOf, drainedState};
 use image::Sizes;
 use log::Latest;
 use record::Record;
@@ -71,7 +71,7 @@ pub fn format_refusal(sizes: Sizes, start: &[u64], cache: &[u64], nvm: &[u64], f
     ensures { λ r. ⌜ r ≡ formatRefusal sizes (now (start .entry))
         (blankOf (now (cache .entry)) (now (nvm .entry)) (now (flags .entry))) ⌝ }
 {
-    if !image::buffers_ok(sizes, cache.len(), nvm.len(), flags.len()) {
+    if !image::format_ok(sizes, cache.len(), nvm.len(), flags.len()) {
         return 1;
     }
     if start.len() != sizes.words {
@@ -80,11 +80,23 @@ pub fn format_refusal(sizes: Sizes, start: &[u64], cache: &[u64], nvm: &[u64], f
     0
 }
 
-// One image as Format leaves it: base timestamp 0, the start words, empty logs.
-fn fill_image(sizes: Sizes, start: &[u64], words: &mut [u64])
+// The trailer: the sizes, and how many words stand before it.
+fn put_trailer(sizes: Sizes, last: &mut [u64])
+    requires { ⌜ sizesOk sizes ≡ true ⌝ }
+    requires { ⌜ length (now last) ≡ 4 ⌝ }
+    ensures { λ r. ⌜ now (last .exit) ≡ trailer sizes ⌝ }
+{
+    last[0] = sizes.words as u64;
+    last[1] = sizes.lanes as u64;
+    last[2] = sizes.slots as u64;
+    last[3] = image::former_length(sizes) as u64;
+}
+
+// What stands before it: base timestamp 0, the start words, empty logs.
+fn fill_body(sizes: Sizes, start: &[u64], words: &mut [u64])
     requires { ⌜ length (now start) ≡ sizes .words ⌝ }
-    requires { ⌜ length (now words) ≡ imageLength sizes ⌝ }
-    ensures { λ r. ⌜ now (words .exit) ≡ startImage sizes (now (start .entry)) ⌝ }
+    requires { ⌜ length (now words) ≡ formerLength sizes ⌝ }
+    ensures { λ r. ⌜ now (words .exit) ≡ bodyOf sizes (now (start .entry)) ⌝ }
 {
     let end = 1 + start.len();
     words[0] = 0;
@@ -92,8 +104,21 @@ fn fill_image(sizes: Sizes, start: &[u64], words: &mut [u64])
     image::bulk::clear_words(&mut words[end..]);
 }
 
-// The start words in cache and non-volatile memory; base timestamp, logs and flags 0.
+// One image as Format leaves it.
+fn fill_image(sizes: Sizes, start: &[u64], words: &mut [u64])
+    requires { ⌜ sizesOk sizes ≡ true ⌝ }
+    requires { ⌜ length (now start) ≡ sizes .words ⌝ }
+    requires { ⌜ length (now words) ≡ imageLength sizes ⌝ }
+    ensures { λ r. ⌜ now (words .exit) ≡ startImage sizes (now (start .entry)) ⌝ }
+{
+    let end = image::former_length(sizes);
+    fill_body(sizes, start, &mut words[..end]);
+    put_trailer(sizes, &mut words[end..]);
+}
+
+// The start words in cache and non-volatile memory; base timestamp, logs and flags 0; the trailer.
 fn fill(sizes: Sizes, start: &[u64], cache: &mut [u64], nvm: &mut [u64], flags: &mut [u8])
+    requires { ⌜ sizesOk sizes ≡ true ⌝ }
     requires { ⌜ length (now start) ≡ sizes .words ⌝ }
     requires { ⌜ length (now cache) ≡ imageLength sizes ⌝ }
     requires { ⌜ length (now nvm) ≡ imageLength sizes ⌝ }
@@ -145,7 +170,7 @@ pub fn write_back_refusal(
     if !image::buffers_ok(sizes, cache.len(), nvm.len(), flags.len()) {
         return 1;
     }
-    if image::image_length(sizes) <= word {
+    if cache.len() <= word {
         return 4;
     }
     0

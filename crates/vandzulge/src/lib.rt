@@ -5,7 +5,7 @@ ghost use mathlib.Core.Path.{_≡_};
 ghost use Rattle.store.specs.Machine.{said};
 ghost use Rattle.store.specs.Calls.{formatStep, writeBackStep, drainStep, logStep, redoStep, validateStep, markStep};
 ghost use Rattle.store.specs.Interface.{machineOf, blankOf};
-ghost use Rattle.recovery.specs.Recovery.{recoverStep};
+ghost use Rattle.recovery.specs.Recovery.{recoverStep, recoverReadStep};
 ghost use Rattle.codec.specs.Fields.{recordOf};
 ghost use Rattle.vandzulge.specs.Exports.{sizesOf, recordFits, bothFit};
 ghost use Rattle.vandzulge.specs.Exports.{leftBy, leaves, replies, restarts, restartReplies};
@@ -264,10 +264,10 @@ pub extern "C" fn vandzulge_mark(
     answers::settle(outcome, state)
 }
 
-// Recovers, making at most `limit` stores. The answer: 0s where the limit cut it short, and the record's words are then
-// as before, but there is no record; where it finished, 1 and 0, or 2 and the boundary, then the count of entries
-// undone and that of the slots that were torn in the non-volatile memory that this call found. The record's words are
-// not read.
+// Recovers an image of the former length, making at most `limit` stores. The answer: 0s where the limit cut it short,
+// and the record's words are then as before, but there is no record; where it finished, 1 and 0, or 2 and the boundary,
+// then the count of entries undone and that of the slots that were torn in the non-volatile memory that this call
+// found. The record's words are not read.
 #[no_mangle]
 pub extern "C" fn vandzulge_recover(
     words: usize,
@@ -301,6 +301,37 @@ pub extern "C" fn vandzulge_recover(
         slots,
     };
     let result = recovery::recover(sizes, cache, nvm, flags, limit);
+    let given = result.answer;
+    answers::reply_restart(given, answer);
+    answers::restart(result, state)
+}
+
+// Recovers an image whose last four words tell its sizes, and is otherwise as the call before.
+#[no_mangle]
+pub extern "C" fn vandzulge_recover_read(
+    cache: &mut [u64],
+    nvm: &mut [u64],
+    flags: &mut [u8],
+    state: &mut [u64],
+    answer: &mut [u64],
+    limit: usize,
+) -> u64
+    ensures left { λ r. ⌜ leftBy r (now (state .exit)) (now (cache .exit)) (now (nvm .exit)) (now (flags .exit))
+        ≡ restarts (bothFit (now (state .entry)) (now (answer .entry))) (now (state .entry))
+        (recoverReadStep limit)
+        (blankOf (now (cache .entry)) (now (nvm .entry)) (now (flags .entry))) ⌝ }
+    ensures answered { λ r. ⌜ now (answer .exit)
+        ≡ restartReplies (bothFit (now (state .entry)) (now (answer .entry))) (now (answer .entry))
+        (recoverReadStep limit)
+        (blankOf (now (cache .entry)) (now (nvm .entry)) (now (flags .entry))) ⌝ }
+{
+    if state.len() != RECORD_WORDS {
+        return 1;
+    }
+    if answer.len() != ANSWER_WORDS {
+        return 1;
+    }
+    let result = recovery::recover_read(cache, nvm, flags, limit);
     let given = result.answer;
     answers::reply_restart(given, answer);
     answers::restart(result, state)

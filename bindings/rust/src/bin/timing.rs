@@ -1,4 +1,5 @@
 //! Times each call of the library beside the plain implementation, in one process, on the same words, and prints tables in Markdown.
+//! All images have a trailer, and recovery is without sizes, but for the lines that say otherwise: those are of the same images in the former length.
 //!
 //! A round copies a prepared state some times, makes the call once on each copy, and takes the time of that; copying is not timed. The two implementations
 //! take turns, and the first of a round is the second of the next. The number given is the median of all rounds. Time is the thread's own processor time, less
@@ -101,7 +102,9 @@ fn measure(case: &Case) -> Times {
     let mut plain = Vec::new();
     let mut states = vec![case.state.clone(); copies(&case.state)];
     let mut check = case.state.clone();
-    assert_eq!(case.state.clone().call(&LIBRARY, &case.call), check.call(&PLAIN, &case.call), "{}", case.name);
+    let mut same = case.state.clone();
+    assert_eq!(same.call(&LIBRARY, &case.call), check.call(&PLAIN, &case.call), "{}", case.name);
+    assert!(same == check, "{}", case.name);
     let start = Instant::now();
     while library.len() < LEAST_ROUNDS || (library.len() < MOST_ROUNDS && start.elapsed() < BUDGET) {
         if library.len() % 2 == 0 {
@@ -172,6 +175,12 @@ fn cut_with(sizes: Sizes, logs: Logs) -> World {
     state
 }
 
+/// The same state in buffers of the former length.
+fn former(mut state: World) -> World {
+    state.resize(state.nvm.len() - 4);
+    state
+}
+
 fn steps(sizes: Sizes) -> Vec<Case> {
     let idle = working(sizes);
     let lane = sizes.lanes - 1;
@@ -215,7 +224,7 @@ fn with_zero(state: &World) -> World {
 }
 
 fn recoveries(sizes: Sizes) -> Vec<Case> {
-    let case = |name: &str, state: World| Case { name: format!("recovery, {name}"), state, call: Call::Recover(usize::MAX) };
+    let case = |name: &str, state: World| Case { name: format!("recovery, {name}"), state, call: Call::RecoverRead(usize::MAX) };
     let mut cases = vec![case("a store at work", working(sizes))];
     for logs in images::ALL {
         let name = match logs {
@@ -229,6 +238,9 @@ fn recoveries(sizes: Sizes) -> Vec<Case> {
             Logs::Torn => "every slot torn",
         };
         cases.push(case(name, cut_with(sizes, logs)));
+    }
+    for (name, state) in [("a store at work", working(sizes)), ("empty logs", cut_with(sizes, Logs::Empty))] {
+        cases.push(Case { name: format!("recovery with sizes given, {name}"), state: former(state), call: Call::Recover(usize::MAX) });
     }
     cases
 }

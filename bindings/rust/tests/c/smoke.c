@@ -1,4 +1,5 @@
-/* Every call from C, with the header: the two-lane scenario of the specification, a mark, a drain, and a few refusals. Prints the line that failed, or `ok`. */
+/* Every call from C, with the header: the two-lane scenario of the specification, a mark, a drain, an image of the former length taken over, and a few refusals.
+ * Prints the line that failed, or `ok`. */
 #include "vandzulge.h"
 
 #include <stdio.h>
@@ -8,12 +9,24 @@
 #define LANES 2
 #define SLOTS 34
 #define LENGTH VANDZULGE_IMAGE_WORDS(WORDS, LANES, SLOTS)
+#define FORMER VANDZULGE_FORMER_WORDS(WORDS, LANES, SLOTS)
+
+#if LENGTH != 143 || FORMER != 139 || LENGTH != FORMER + VANDZULGE_TRAILER_WORDS
+#error "the two lengths"
+#endif
+#if VANDZULGE_IMAGE_WORDS(VANDZULGE_WORDS_MAX, VANDZULGE_LANES_MAX, VANDZULGE_SLOTS_MAX) != VANDZULGE_IMAGE_WORDS_MAX
+#error "the greatest image"
+#endif
+#if VANDZULGE_FORMER_WORDS(VANDZULGE_WORDS_MAX, VANDZULGE_LANES_MAX, VANDZULGE_SLOTS_MAX) != VANDZULGE_FORMER_WORDS_MAX
+#error "the greatest image of the former length"
+#endif
 
 static uint64_t cache[LENGTH], nvm[LENGTH], record[VANDZULGE_RECORD_WORDS], answer[VANDZULGE_ANSWER_WORDS];
 static uint8_t flags[LENGTH];
 
 #define SIZES WORDS, LANES, SLOTS
 #define BUFFERS cache, LENGTH, nvm, LENGTH, flags, LENGTH
+#define FORMER_BUFFERS cache, FORMER, nvm, FORMER, flags, FORMER
 #define RECORD record, VANDZULGE_RECORD_WORDS
 #define ANSWER answer, VANDZULGE_ANSWER_WORDS
 
@@ -30,10 +43,24 @@ static int answers(uint64_t a, uint64_t b, uint64_t c, uint64_t d)
     return answer[0] == a && answer[1] == b && answer[2] == c && answer[3] == d;
 }
 
+static int ends_with_trailer(const uint64_t *image)
+{
+    return image[FORMER] == WORDS && image[FORMER + 1] == LANES && image[FORMER + 2] == SLOTS && image[FORMER + 3] == FORMER;
+}
+
+/* power is cut: cache, flags and record are lost */
+static void lose(void)
+{
+    memset(cache, 0x55, sizeof cache);
+    memset(flags, 0xff, sizeof flags);
+    memset(record, 0x55, sizeof record);
+}
+
 int main(void)
 {
     const uint64_t start[WORDS] = {0, 0};
     const uint64_t copy[4] = {2, 1, 0, 0}, set[4] = {1, 0, 0, 2}, pass[8] = {5, 0, 0, 1, 1, 0, 0, 9}, poke[8] = {5, 0, 0, 1, 4, 0, 0, 9};
+    uint64_t data[WORDS];
     size_t i;
 
     EXPECT(vandzulge_format(WORDS, LANES, 33, start, WORDS, BUFFERS, RECORD) == 1);
@@ -54,17 +81,17 @@ int main(void)
         EXPECT(vandzulge_write_back(SIZES, BUFFERS, i) == 0);
     EXPECT(vandzulge_write_back(SIZES, BUFFERS, LENGTH) == 4);
 
-    /* power is cut: cache, flags and record are lost */
-    memset(cache, 0x55, sizeof cache);
-    memset(flags, 0xff, sizeof flags);
-    memset(record, 0x55, sizeof record);
-    EXPECT(vandzulge_recover(SIZES, BUFFERS, RECORD, ANSWER, 2) == 0 && answers(0, 0, 0, 0));
-    EXPECT(vandzulge_recover(SIZES, BUFFERS, RECORD, ANSWER, VANDZULGE_NO_LIMIT) == 0 && answers(2, 6, 3, 0));
+    lose();
+    EXPECT(vandzulge_recover(SIZES, BUFFERS, RECORD, ANSWER, VANDZULGE_NO_LIMIT) == 1);
+    EXPECT(vandzulge_recover_read(cache, FORMER, nvm, LENGTH, flags, LENGTH, RECORD, ANSWER, VANDZULGE_NO_LIMIT) == 1);
+    EXPECT(vandzulge_recover_read(BUFFERS, RECORD, ANSWER, 2) == 0 && answers(0, 0, 0, 0));
+    EXPECT(vandzulge_recover_read(BUFFERS, RECORD, ANSWER, VANDZULGE_NO_LIMIT) == 0 && answers(2, 6, 3, 0));
     EXPECT(nvm[0] == 10 && nvm[1] == 0 && nvm[2] == 0 && memcmp(cache, nvm, sizeof cache) == 0);
+    EXPECT(ends_with_trailer(nvm));
     EXPECT(record[0] == 10 && record[1] == 10);
-    EXPECT(vandzulge_recover(SIZES, BUFFERS, RECORD, ANSWER, VANDZULGE_NO_LIMIT) == 0 && answers(1, 0, 0, 0));
+    EXPECT(vandzulge_recover_read(BUFFERS, RECORD, ANSWER, VANDZULGE_NO_LIMIT) == 0 && answers(1, 0, 0, 0));
     nvm[3] = 9; /* of an entry's two words one has reached the memory */
-    EXPECT(vandzulge_recover(SIZES, BUFFERS, RECORD, ANSWER, VANDZULGE_NO_LIMIT) == 0 && answers(1, 0, 0, 1));
+    EXPECT(vandzulge_recover_read(BUFFERS, RECORD, ANSWER, VANDZULGE_NO_LIMIT) == 0 && answers(1, 0, 0, 1));
 
     EXPECT(vandzulge_mark(SIZES, BUFFERS, RECORD, ANSWER, 0) == 0 && answers(0, 12, 0, 0));
     EXPECT(vandzulge_log(SIZES, BUFFERS, RECORD, ANSWER, 0, set, 4) == 0 && answers(1, 14, 0, 0));
@@ -74,8 +101,34 @@ int main(void)
     EXPECT(vandzulge_drain(SIZES, BUFFERS, record, VANDZULGE_RECORD_WORDS - 1, 0) == 1);
     for (i = 0; i < LENGTH; i++)
         EXPECT(flags[i] == 0);
+
+    /* the same without its trailer is an image of the former length: recovered with its sizes given, used, recovered again, and moved to the new form */
+    lose();
+    EXPECT(vandzulge_recover_read(FORMER_BUFFERS, RECORD, ANSWER, VANDZULGE_NO_LIMIT) == 14);
+    EXPECT(vandzulge_recover(SIZES, FORMER_BUFFERS, RECORD, ANSWER, VANDZULGE_NO_LIMIT) == 0 && answers(2, 14, 1, 0));
+    EXPECT(vandzulge_log(SIZES, FORMER_BUFFERS, RECORD, ANSWER, 0, set, 4) == 0 && answers(1, 16, 0, 0));
+    EXPECT(vandzulge_redo(SIZES, FORMER_BUFFERS, RECORD, ANSWER, 0) == 0 && answers(1, 18, 0, 0));
+    EXPECT(vandzulge_mark(SIZES, FORMER_BUFFERS, RECORD, ANSWER, 0) == 0 && answers(0, 20, 0, 0));
+    EXPECT(vandzulge_drain(SIZES, FORMER_BUFFERS, RECORD, 0) == 0);
+    EXPECT(vandzulge_write_back(SIZES, FORMER_BUFFERS, FORMER) == 4);
+    EXPECT(vandzulge_format(SIZES, start, WORDS, FORMER_BUFFERS, RECORD) == 1);
+    lose();
+    EXPECT(vandzulge_recover(SIZES, FORMER_BUFFERS, RECORD, ANSWER, VANDZULGE_NO_LIMIT) == 0 && answers(2, 20, 0, 0));
+    data[0] = nvm[1];
+    data[1] = nvm[2];
+    EXPECT(data[0] == 2 && data[1] == 0);
+    lose();
+    memset(nvm, 0x55, sizeof nvm);
+    EXPECT(vandzulge_format(SIZES, data, WORDS, BUFFERS, RECORD) == 0);
+    EXPECT(ends_with_trailer(cache) && ends_with_trailer(nvm));
+    EXPECT(vandzulge_recover_read(BUFFERS, RECORD, ANSWER, VANDZULGE_NO_LIMIT) == 0 && answers(1, 0, 0, 0));
+    EXPECT(nvm[1] == 2 && nvm[2] == 0);
+
     nvm[0] = 3;
-    EXPECT(vandzulge_recover(SIZES, BUFFERS, RECORD, ANSWER, VANDZULGE_NO_LIMIT) == 10);
+    EXPECT(vandzulge_recover(SIZES, FORMER_BUFFERS, RECORD, ANSWER, VANDZULGE_NO_LIMIT) == 10);
+    EXPECT(vandzulge_recover_read(BUFFERS, RECORD, ANSWER, VANDZULGE_NO_LIMIT) == 10);
+    nvm[LENGTH - 1]++;
+    EXPECT(vandzulge_recover_read(BUFFERS, RECORD, ANSWER, VANDZULGE_NO_LIMIT) == 14);
     puts("ok");
     return 0;
 }

@@ -4,14 +4,16 @@
 pub mod states;
 #[cfg(all(target_arch = "x86_64", target_os = "linux"))]
 pub mod stores;
+pub mod trailers;
 
 use std::mem::take;
 use vandzulge::{plain, raw, ANSWER_WORDS, RECORD_WORDS};
 
 type Step = fn(usize, usize, usize, &mut [u64], &mut [u64], &mut [u8], &mut [u64], &mut [u64], usize) -> u64;
 type TxnStep = fn(usize, usize, usize, &mut [u64], &mut [u64], &mut [u8], &mut [u64], &mut [u64], usize, &[u64]) -> u64;
+type UnsizedStep = fn(&mut [u64], &mut [u64], &mut [u8], &mut [u64], &mut [u64], usize) -> u64;
 
-/// One implementation of the eight calls.
+/// One implementation of the nine calls.
 pub struct Calls {
     pub name: &'static str,
     pub format: fn(usize, usize, usize, &[u64], &mut [u64], &mut [u64], &mut [u8], &mut [u64]) -> u64,
@@ -22,6 +24,7 @@ pub struct Calls {
     pub validate: TxnStep,
     pub mark: Step,
     pub recover: Step,
+    pub recover_read: UnsizedStep,
 }
 
 pub const PLAIN: Calls = Calls {
@@ -34,6 +37,7 @@ pub const PLAIN: Calls = Calls {
     validate: plain::validate,
     mark: plain::mark,
     recover: plain::recover,
+    recover_read: plain::recover_read,
 };
 
 pub const LIBRARY: Calls = Calls {
@@ -46,6 +50,7 @@ pub const LIBRARY: Calls = Calls {
     validate: raw::validate,
     mark: raw::mark,
     recover: raw::recover,
+    recover_read: raw::recover_read,
 };
 
 /// One call with its own arguments.
@@ -59,6 +64,7 @@ pub enum Call {
     Validate(usize, Vec<u64>),
     Mark(usize),
     Recover(usize),
+    RecoverRead(usize),
 }
 
 /// What calls are lent. Lengths need not fit the sizes.
@@ -75,9 +81,17 @@ pub struct World {
 }
 
 impl World {
-    /// Buffers of the image's length, all 0.
+    /// Buffers of the image's length, all 0, where a trailer would stand too.
     pub fn new(words: usize, lanes: usize, slots: usize) -> World {
-        let length = 1 + words + 2 * lanes * slots;
+        World::of_length(words, lanes, slots, 1 + words + 2 * lanes * slots + 4)
+    }
+
+    /// The same of the former length.
+    pub fn former(words: usize, lanes: usize, slots: usize) -> World {
+        World::of_length(words, lanes, slots, 1 + words + 2 * lanes * slots)
+    }
+
+    pub fn of_length(words: usize, lanes: usize, slots: usize, length: usize) -> World {
         World {
             words,
             lanes,
@@ -88,6 +102,19 @@ impl World {
             record: vec![0; RECORD_WORDS],
             answer: vec![0; ANSWER_WORDS],
         }
+    }
+
+    /// Whether the non-volatile memory has the former length of these sizes.
+    pub fn is_former(&self) -> bool {
+        let logs = self.lanes.saturating_mul(self.slots).saturating_mul(2);
+        self.nvm.len() == logs.saturating_add(self.words).saturating_add(1)
+    }
+
+    /// The three buffers made longer by zeros, or shorter.
+    pub fn resize(&mut self, length: usize) {
+        self.cache.resize(length, 0);
+        self.nvm.resize(length, 0);
+        self.flags.resize(length, 0);
     }
 
     /// Makes the call and returns its number.
@@ -111,6 +138,7 @@ impl World {
             Call::Validate(lane, txn) => (calls.validate)(w, t, n, cache, nvm, flags, record, answer, *lane, txn),
             Call::Mark(lane) => (calls.mark)(w, t, n, cache, nvm, flags, record, answer, *lane),
             Call::Recover(limit) => (calls.recover)(w, t, n, cache, nvm, flags, record, answer, *limit),
+            Call::RecoverRead(limit) => (calls.recover_read)(cache, nvm, flags, record, answer, *limit),
         }
     }
 }

@@ -1,8 +1,8 @@
 //! Pseudo-random states and calls, valid and damaged, and the outcomes that calls on them have.
 
-use super::{Call, Random, World};
+use super::{trailers, Call, Random, World};
 use std::collections::BTreeMap;
-use vandzulge::Sizes;
+use vandzulge::{images, Sizes};
 
 fn sizes(random: &mut Random) -> Sizes {
     let words = random.pick(&[1, 2, 3, 5, 16, 17, 100, 256, 1023, 1024]);
@@ -83,7 +83,7 @@ fn damage(random: &mut Random, world: &mut World) {
     let clock = world.record.first().copied().unwrap_or(0);
     let length = world.cache.len().min(world.nvm.len()).min(world.flags.len());
     let logs = 1 + world.words;
-    match random.below(9) {
+    match random.below(10) {
         0 => {
             let at = random.index(length);
             world.cache[at] = odd_word(random, clock);
@@ -121,12 +121,28 @@ fn damage(random: &mut Random, world: &mut World) {
         }
         7 => {
             world.cache[0] = random.below(clock.clamp(1, 100));
-            world.nvm[0] = random.below(clock.clamp(1, 100)) & !1;
+            world.nvm[0] = random.below(clock.clamp(1, 100)) & !1 | random.one_in(8) as u64;
         }
-        _ => {
+        8 => {
             // a clock near its end
             world.record[0] = u64::MAX - 1 - 2 * random.below(4);
         }
+        _ => {
+            let words = last_words(random, world);
+            let image = if random.one_in(4) { &mut world.cache } else { &mut world.nvm };
+            image[length - 4..].copy_from_slice(&words);
+        }
+    }
+}
+
+/// The trailer of the present sizes, one of other sizes that agrees with the length, or a bad one.
+fn last_words(random: &mut Random, world: &World) -> [u64; 4] {
+    let sizes = Sizes { words: world.words, lanes: world.lanes, slots: world.slots };
+    let right = images::trailer(sizes);
+    match random.below(4) {
+        0 | 1 => right,
+        2 => trailers::fitting(random, world.nvm.len()).unwrap_or(right),
+        _ => random.pick(&trailers::bad(sizes)),
     }
 }
 
@@ -151,12 +167,18 @@ fn call(random: &mut Random, world: &World, held: &[Vec<u64>; 8]) -> Call {
         5 => Call::Validate(lane, words),
         6 if random.one_in(4) => {
             let stores = 2 * world.lanes * world.slots + 1;
-            Call::Recover(match random.below(4) {
+            let limit = match random.below(4) {
                 0 => random.index(stores + 40),
                 1 => stores,
                 2 => random.index(60),
                 _ => usize::MAX,
-            })
+            };
+            // each length has its own recovery, and now and then gets the other one
+            if world.is_former() != random.one_in(8) {
+                Call::Recover(limit)
+            } else {
+                Call::RecoverRead(limit)
+            }
         }
         7 if random.one_in(10) => {
             let length = if random.one_in(5) { random.index(40) } else { world.words };
@@ -169,27 +191,47 @@ fn call(random: &mut Random, world: &World, held: &[Vec<u64>; 8]) -> Call {
     }
 }
 
-/// A slice of a length that no call takes, or sizes out of range.
+/// A slice of a length that few calls take or none, a mixture of both lengths, or sizes out of range.
 fn misfit(random: &mut Random, world: &mut World) {
-    match random.below(8) {
+    let length = world.nvm.len();
+    match random.below(11) {
         0 => world.cache.push(0),
-        1 => world.nvm.truncate(world.nvm.len() - 1),
+        1 => world.nvm.truncate(length - 1),
         2 => world.flags.clear(),
         3 => world.record.resize(random.pick(&[0, 1, 2, 321, 323, 400]), 0),
         4 => world.answer.resize(random.pick(&[0, 1, 3, 5]), 7),
         5 => world.words = random.pick(&[0, 1025, usize::MAX, usize::MAX / 8]),
         6 => world.lanes = random.pick(&[0, 9, usize::MAX, usize::MAX / 68]),
-        _ => world.slots = random.pick(&[0, 33, 257, usize::MAX, usize::MAX / 2 + 1]),
+        7 => world.slots = random.pick(&[0, 33, 257, usize::MAX, usize::MAX / 2 + 1]),
+        8 => world.resize(random.pick(&[0, 1, 2, 3, 4, length - 1, length + 1, length + 4, length - 4])),
+        _ => {
+            let other = if world.is_former() { length + 4 } else { length - 4 };
+            // one or two of the three
+            let which = 1 + random.below(6);
+            if which & 1 != 0 {
+                world.cache.resize(other, 0);
+            }
+            if which & 2 != 0 {
+                world.nvm.resize(other, 0);
+            }
+            if which & 4 != 0 {
+                world.flags.resize(other, 0);
+            }
+        }
     }
 }
 
 /// A store's life from Format on: calls that mostly suit it, where `damaged` on states that no call made. Each call is handed to `make`, which makes it and may look at it.
-fn walk(seed: u64, steps: u64, damaged: bool, make: &mut impl FnMut(&mut World, &Call, &str)) {
+fn walk(seed: u64, steps: u64, damaged: bool, former: bool, make: &mut impl FnMut(&mut World, &Call, &str)) {
     let random = &mut Random::new(seed);
     let Sizes { words, lanes, slots } = sizes(random);
     let mut world = World::new(words, lanes, slots);
     let start = (0..words).map(|_| if random.one_in(2) { random.below(5) } else { random.word() }).collect();
     make(&mut world, &Call::Format(start), "format");
+    if former {
+        // without its trailer a formatted image is one of the former length
+        world.resize(world.nvm.len() - 4);
+    }
     let mut held: [Vec<u64>; 8] = Default::default();
     for step in 0..steps {
         let place = format!("seed {seed}, step {step}");
@@ -200,7 +242,7 @@ fn walk(seed: u64, steps: u64, damaged: bool, make: &mut impl FnMut(&mut World, 
         if random.one_in(50) {
             let mut other = world.clone();
             misfit(random, &mut other);
-            make(&mut other, &call, &place);
+            make(&mut other, if random.one_in(3) { &Call::RecoverRead(usize::MAX) } else { &call }, &place);
         }
         make(&mut world, &call, &place);
         if let Call::Log(lane, txn) = call {
@@ -211,20 +253,15 @@ fn walk(seed: u64, steps: u64, damaged: bool, make: &mut impl FnMut(&mut World, 
     }
 }
 
-/// All outcomes that a call can have.
-const OUTCOMES: [&str; 45] = [
-    "format",
-    "format refused 1",
+/// All outcomes that a call can have on images of either length.
+const EITHER: [&str; 33] = [
     "write-back",
-    "write-back refused 1",
     "write-back refused 4",
     "drain",
-    "drain refused 1",
     "drain refused 2",
     "drain refused 3",
     "log",
     "log without writes",
-    "log refused 1",
     "log refused 2",
     "log refused 3",
     "log refused 5",
@@ -233,14 +270,12 @@ const OUTCOMES: [&str; 45] = [
     "log refused 9",
     "redo",
     "redo stale",
-    "redo refused 1",
     "redo refused 2",
     "redo refused 3",
     "redo refused 7",
     "redo refused 8",
     "validate",
     "validate changed",
-    "validate refused 1",
     "validate refused 2",
     "validate refused 3",
     "validate refused 5",
@@ -248,19 +283,40 @@ const OUTCOMES: [&str; 45] = [
     "validate refused 8",
     "mark",
     "mark dropped",
-    "mark refused 1",
     "mark refused 2",
     "mark refused 3",
     "mark refused 8",
     "mark refused 9",
-    "recover",
-    "recover none",
-    "recover cut",
-    "recover refused 1",
-    "recover refused 10",
+    "recover-read refused 14",
 ];
 
-fn outcome(call: &Call, number: u64, answer: &[u64]) -> String {
+/// Those on images of the new length alone, on such of the former length, and those of slices that do not fit.
+const ONE_LENGTH: [&str; 18] = [
+    "format",
+    "recover-read",
+    "recover-read none",
+    "recover-read cut",
+    "recover-read refused 10",
+    "recover, former length",
+    "recover none, former length",
+    "recover cut, former length",
+    "recover refused 10, former length",
+    "format refused 1",
+    "write-back refused 1",
+    "drain refused 1",
+    "log refused 1",
+    "redo refused 1",
+    "validate refused 1",
+    "mark refused 1",
+    "recover refused 1",
+    "recover-read refused 1",
+];
+
+/// An image of the former length whose last words look like a trailer.
+const MISTAKEN: [&str; 4] =
+    ["recover-read, former length", "recover-read none, former length", "recover-read cut, former length", "recover-read refused 10, former length"];
+
+fn outcome(world: &World, call: &Call, number: u64) -> String {
     let name = match call {
         Call::Format(_) => "format",
         Call::WriteBack(_) => "write-back",
@@ -270,20 +326,25 @@ fn outcome(call: &Call, number: u64, answer: &[u64]) -> String {
         Call::Validate(..) => "validate",
         Call::Mark(_) => "mark",
         Call::Recover(_) => "recover",
+        Call::RecoverRead(_) => "recover-read",
     };
-    if number != 0 {
-        return format!("{name} refused {number}");
+    if number == 1 {
+        return format!("{name} refused 1");
     }
-    let kind = match (call, answer.first()) {
+    let length = if world.is_former() { ", former length" } else { "" };
+    if number != 0 {
+        return format!("{name} refused {number}{length}");
+    }
+    let kind = match (call, world.answer.first()) {
         (Call::Log(..), Some(0)) => " without writes",
         (Call::Redo(_), Some(0)) => " stale",
         (Call::Validate(..), Some(0)) => " changed",
         (Call::Mark(_), Some(1)) => " dropped",
-        (Call::Recover(_), Some(0)) => " cut",
-        (Call::Recover(_), Some(1)) => " none",
+        (Call::Recover(_) | Call::RecoverRead(_), Some(0)) => " cut",
+        (Call::Recover(_) | Call::RecoverRead(_), Some(1)) => " none",
         _ => "",
     };
-    format!("{name}{kind}")
+    format!("{name}{kind}{length}")
 }
 
 /// How often each outcome was seen, by call and answer.
@@ -291,33 +352,33 @@ fn outcome(call: &Call, number: u64, answer: &[u64]) -> String {
 struct Seen(BTreeMap<String, u64>);
 
 impl Seen {
-    fn count(&mut self, call: &Call, number: u64, answer: &[u64]) {
-        *self.0.entry(outcome(call, number, answer)).or_default() += 1;
-    }
-
     /// Every outcome that a call can have was seen this often, and no other.
     fn assert_all(&self, least: u64) {
         println!("{} calls: {:#?}", self.0.values().sum::<u64>(), self.0);
-        for outcome in OUTCOMES {
-            assert!(self.0.get(outcome).is_some_and(|&times| times >= least), "too few of: {outcome}");
+        let former = EITHER.map(|outcome| format!("{outcome}, former length"));
+        let expected: Vec<&str> = EITHER.into_iter().chain(former.iter().map(String::as_str)).chain(ONE_LENGTH).collect();
+        for outcome in &expected {
+            assert!(self.0.get(*outcome).is_some_and(|&times| times >= least), "too few of: {outcome}");
         }
         for outcome in self.0.keys() {
-            assert!(OUTCOMES.contains(&outcome.as_str()), "not expected: {outcome}");
+            let outcome = outcome.as_str();
+            assert!(expected.contains(&outcome) || MISTAKEN.contains(&outcome), "not expected: {outcome}");
         }
     }
 }
 
-/// Walks from so many seeds, over stores as calls leave them and over damaged ones. `make` makes each call and returns its number; every outcome must come up `least` times.
+/// Walks from so many seeds, over stores of both lengths, as calls leave them and damaged. `make` makes each call and returns its number; every outcome must come up `least` times.
 pub fn every_outcome(seeds: u64, least: u64, mut make: impl FnMut(&mut World, &Call, &str) -> u64) {
     let mut seen = Seen::default();
     let mut counted = |world: &mut World, call: &Call, place: &str| {
         world.answer.fill(7);
         let number = make(world, call, place);
-        seen.count(call, number, &world.answer);
+        *seen.0.entry(outcome(world, call, number)).or_default() += 1;
     };
     for seed in 1..=seeds {
-        walk(seed, 200, false, &mut counted);
-        walk(1_000_000 + seed, 200, true, &mut counted);
+        let former = seed % 2 == 0;
+        walk(seed, 200, false, former, &mut counted);
+        walk(1_000_000 + seed, 200, true, !former, &mut counted);
     }
     seen.assert_all(least);
 }

@@ -1,6 +1,5 @@
 -- `append::log` meets its contract: a refused call is the step refused; otherwise, as the plan says, the drained machine or the one appended to.
 -- Assumes nothing.
-use mathlib.Core.Path.{sym, _∙_}
 use borrow.Author.Needs.{needs}
 use Rattle.record.proofs.Lengths.{lanes-eight}
 use Rattle.store.specs.Calls.{logStepBy}
@@ -33,7 +32,7 @@ drain-requires c κs =
     let e = c .before .before .before in
     let p = e .before .before in
     let k = log-known _ _ _ _ _ _ _ _ (p .plan-log .ensures) (e .if1 .left) in
-    (k .small, (k .checked .in-nvm ∙ sym (k .checked .image .in-image), k .checked .in-flags ∙ sym (k .checked .image .in-image)))
+    (k .small, (k .checked .same-nvm, k .checked .same-flags))
 
 drained-requires : tie.Need-drained-requires
 drained-requires c κs =

@@ -1,7 +1,6 @@
 -- `append::mark` meets its contract: a refused call is the step refused; otherwise the machine appended to, as the plan says.
 -- Assumes nothing.
 use Prim.Native.Nat.{_≤_, _<_}
-use mathlib.Core.Path.{sym, _∙_}
 use native.Mathlib.Omega.{arith}
 use lib.ListN.{length}
 use borrow.Author.Needs.{needs}
@@ -37,7 +36,7 @@ drain-requires c κs =
     let e = c .before .before .before in
     let p = e .before .before in
     let k = mark-known _ _ _ _ _ _ _ (p .plan-mark .ensures) (e .if1 .left) in
-    (k .small, (k .checked .in-nvm ∙ sym (k .checked .image .in-image), k .checked .in-flags ∙ sym (k .checked .image .in-image)))
+    (k .small, (k .checked .same-nvm, k .checked .same-flags))
 
 mul-old : tie.Need-mul-old
 mul-old c =

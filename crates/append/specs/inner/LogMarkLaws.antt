@@ -270,7 +270,7 @@ module _ (z : Sizes) (state : Record) (cache nvm flags : List ℕ) (L : ℕ) (pl
           found = k .latest;
           appendable = record {
             image = k .checked .image;
-            in-flags = ap length e ∙ length-map flags _ ∙ k .checked .in-flags;
+            same-flags = ap length e ∙ length-map flags _ ∙ k .checked .same-flags;
             lane-below = k .checked .lane-below;
             place = record { slot = l .next; wrap = l .wrap };
             room = omega (arith, h);
@@ -299,8 +299,8 @@ pub append-at : (z : Sizes) (at : Lane) (cache flags : List ℕ) (L : ℕ) (w : 
     → start ≡ logStart z L → LogAt start (z .slots) L cache flags
 append-at z at cache flags L w s start a e = record {
   slots-high = sizes-in z (a .image .sizes-ok) .slots-high;
-  in-cache = rw (e, a .image .in-image) (log-fits z L (a .lane-below));
-  in-flags = rw (e, a .in-flags) (log-fits z L (a .lane-below));
+  in-cache = omega (arith, e, log-fits z L (a .lane-below), a .image .in-image);
+  in-flags = omega (arith, e, log-fits z L (a .lane-below), a .image .in-image, a .same-flags);
   lane-high = lane-small z L (a .image .sizes-ok) (a .lane-below);
 }
 

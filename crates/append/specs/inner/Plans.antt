@@ -8,7 +8,6 @@ use Rattle.txn.specs.Txn.{maxWrites, current}
 use Rattle.txn.specs.inner.Writes.{writesOf}
 use Rattle.txn.specs.declared.Write.{Write}
 use Rattle.txn.specs.declared.Writes.{Writes}
-use Rattle.image.specs.Image.{imageLength}
 use Rattle.image.specs.inner.Facts.{IsImage}
 use Rattle.image.specs.declared.Sizes.{Sizes}
 use Rattle.log.specs.Log.{latestIn, completeIn, hits}
@@ -60,7 +59,7 @@ pub record Searchable (z : Sizes) (r : Record) (latest : Latest) (cache : List �
 -- what an append of these writes to lane L, which is drained, needs at timestamp s
 pub record Appendable (z : Sizes) (drained : Lane) (cache flags : List ℕ) (L : ℕ) (w : Writes) (s : ℕ) : Type 0 where
   pub image : IsImage z cache
-  pub in-flags : length flags ≡ imageLength z
+  pub same-flags : length flags ≡ length cache
   pub lane-below : L < z .lanes
   pub place : Within (z .slots) (cursorOf drained)
   pub room : s + 1 < 2 ^ 64

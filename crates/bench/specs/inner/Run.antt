@@ -1,12 +1,12 @@
 -- Inner: how the code goes, need not be believed. What a run keeps beside the second implementation's words: the store's answer, and pseudo-random
--- numbers. The code's constants are numbers here: region 15 is STORED, whose words 1,536 and 1,537 are the kind of the answer and its number; word 0 of
--- region 0 is the seed. Assumes nothing.
+-- numbers. The code's constants are numbers here: region 15 is STORED, whose words 1,536 and 1,537 are the kind of the answer and its number; of region 0
+-- word 0 is the seed and word 13 the length of non-volatile memory; calls 7 and 9 are recovery with sizes and without. Assumes nothing.
 use Prim.Native.Nat.{ℕ, _-_, _*_, _/_, _%_, _^_}
 use mathlib.Core.Bool.{cond}
 use mathlib.Core.List.{List}
 use lib.Bits.{bitXor}
 use lib.Dec.{eqb}
-use Rattle.second.specs.inner.Words.{wordAt, stored}
+use Rattle.second.specs.inner.Words.{wordAt, stored, formerIn}
 
 -- the kind of the store's last answer
 abbrev pub kindIn : List ℕ → ℕ
@@ -15,6 +15,14 @@ kindIn ws = wordAt ws 15 1536
 -- the number of its refusal, or 0
 unfoldable pub refusalIn : List ℕ → ℕ
 refusalIn ws = cond (eqb (kindIn ws) 0) (wordAt ws 15 1537) 0
+
+-- how long the buffers are
+abbrev pub lentIn : List ℕ → ℕ
+lentIn ws = wordAt ws 0 13
+
+-- the recovery of an image so long
+unfoldable pub recoveryIn : List ℕ → ℕ
+recoveryIn ws = cond (eqb (lentIn ws) (formerIn ws)) 7 9
 
 -- xorshift: 13 left, 7 right, 17 left
 abbrev pub left13 : ℕ → ℕ

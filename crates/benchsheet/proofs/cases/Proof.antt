@@ -19,6 +19,9 @@ loop-holds c = search needs
 edge-requires : tie.Need-edge-requires Inv-loop μ-loop
 edge-requires c κs = search needs
 
+trailer-requires : tie.Need-trailer-requires Inv-loop μ-loop
+trailer-requires c κs = search needs
+
 case-requires : tie.Need-case-requires Inv-loop μ-loop
 case-requires c κs = search needs
 
@@ -37,4 +40,5 @@ returns c = search needs
 pub cases-spec : {M : Type 1} → statement M
 cases-spec =
     tie.close
-    (tie.spec Inv-loop μ-loop clear-requires loop-holds edge-requires case-requires add-i loop-less loop-again returns)
+    (tie.spec Inv-loop μ-loop clear-requires loop-holds edge-requires trailer-requires case-requires add-i loop-less
+    loop-again returns)

@@ -1,5 +1,4 @@
 -- `commit::commit` meets its contract: the pairs' stores and then the timestamp's are `commitWords`, since no pair reaches a log word.
-use mathlib.Core.Path.{sym, _∙_}
 use native.Mathlib.Omega.{arith}
 use Rattle.image.specs.inner.ImageLaws.{sizes-in}
 use Rattle.store.specs.inner.StoreLaws.{lane-small}
@@ -28,7 +27,7 @@ write-pairs-requires c κs =
       (
         s .pre .1 .0,
         (
-          k .in-flags ∙ sym (k .image .in-image),
+          k .same-flags,
           λ i h. pair-inside (s .args .sizes) (s .args .pairs) (s .args .count) _ (s .pre .1 .1) (omega arith) (k .image .in-image) i (omega arith),
         ),
       ),

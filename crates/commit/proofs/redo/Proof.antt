@@ -1,5 +1,4 @@
 -- `commit::redo` meets its contract: a refused call is the step refused, and otherwise the drain keeps what the rest of Redo looks at.
-use mathlib.Core.Path.{sym, _∙_}
 use denote.Ref.{now}
 use Rattle.record.proofs.Lengths.{lanes-eight}
 use Rattle.store.specs.inner.StoreLaws.{lane-small, step-refused}
@@ -42,7 +41,7 @@ drained-state-requires c κs =
 drain-requires : tie.Need-drain-requires
 drain-requires c κs =
     let k = accepted (c .before .before .before .before .before) .known in
-    (lane-small _ _ (k .image .sizes-ok) (k .lane-below), (k .in-nvm ∙ sym (k .image .in-image), k .in-flags ∙ sym (k .image .in-image)))
+    (lane-small _ _ (k .image .sizes-ok) (k .lane-below), (k .same-nvm, k .same-flags))
 
 redo-drained-requires : tie.Need-redo-drained-requires
 redo-drained-requires c κs =

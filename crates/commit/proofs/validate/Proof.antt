@@ -1,5 +1,5 @@
 -- `commit::validate` meets its contract: a refused call is the step refused, and otherwise the drain keeps what the rest of Validate looks at.
-use mathlib.Core.Path.{sym, _∙_, _≡_}
+use mathlib.Core.Path.{_≡_}
 use denote.Ref.{now}
 use Rattle.txn.specs.Txn.{maxWrites, txnOk}
 use mathlib.Core.Bool.{true}
@@ -51,7 +51,7 @@ drained-state-requires c κs =
 drain-requires : tie.Need-drain-requires
 drain-requires c κs =
     let k = accepted (c .before .before .before .before .before .before .before) .0 .known in
-    (lane-small _ _ (k .image .sizes-ok) (k .lane-below), (k .in-nvm ∙ sym (k .image .in-image), k .in-flags ∙ sym (k .image .in-image)))
+    (lane-small _ _ (k .image .sizes-ok) (k .lane-below), (k .same-nvm, k .same-flags))
 
 validate-drained-requires : tie.Need-validate-drained-requires
 validate-drained-requires c κs =

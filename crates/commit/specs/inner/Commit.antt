@@ -8,7 +8,7 @@ use lib.Dec.{eqb}
 use lib.ListN.{length, getD}
 use Rattle.txn.specs.Txn.{maxWrites}
 use Rattle.txn.specs.declared.Write.{Write}
-use Rattle.image.specs.Image.{imageLength, logStart, logOf}
+use Rattle.image.specs.Image.{logStart, logOf}
 use Rattle.image.specs.inner.Facts.{IsImage}
 use Rattle.image.specs.Stores.{Store}
 use Rattle.image.specs.declared.Sizes.{Sizes}
@@ -46,7 +46,7 @@ PairsInside n count pairs = (i : ℕ) → i < count → 1 + getD pairs i noPair 
 -- what a commit at timestamp s of what lane L has logged needs of its buffers
 pub record Restampable (z : Sizes) (cache flags : List ℕ) (L : ℕ) (g : Logged) (s : ℕ) : Type 0 where
   pub image : IsImage z cache
-  pub in-flags : length flags ≡ imageLength z
+  pub same-flags : length flags ≡ length cache
   pub lane-below : L < z .lanes
   pub first : g .first < z .slots
   pub most : g .count ≤ maxWrites

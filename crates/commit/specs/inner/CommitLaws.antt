@@ -16,7 +16,7 @@ use Rattle.slot.specs.declared.Content.{Content}
 use Rattle.txn.specs.Txn.{maxWrites, txnOk, run}
 use Rattle.txn.specs.inner.Writes.{noWrite}
 use Rattle.txn.specs.declared.Write.{Write}
-use Rattle.image.specs.Image.{maxLanes, imageLength, dataOf, logStart, logOf}
+use Rattle.image.specs.Image.{maxLanes, formerLength, dataOf, logStart, logOf}
 use Rattle.image.specs.inner.ImageLaws.{sizes-in, log-fits}
 use Rattle.image.specs.Flush.{flush, flushAll, drainedNvm, drainedFlags}
 use Rattle.image.specs.inner.FlushLaws.{length-flushAll, flushAll-append, flushAll-snoc, length-drainedFlags}
@@ -143,7 +143,7 @@ committable z state cache nvm flags L r f a n d e =
     record {
       restampable = record {
         image = k .image;
-        in-flags = rw e (length-drainedFlags L flags ∙ k .in-flags);
+        same-flags = rw e (length-drainedFlags L flags ∙ k .same-flags);
         lane-below = k .lane-below;
         first = h .first;
         most = h .most;
@@ -196,9 +196,9 @@ module _ (L : ℕ) (pairs : List Pair) (cache₀ flags₀ : List ℕ) (i : ℕ) 
       }
 
 -- a pair below the count is of a word inside the image
-pub pair-inside : (z : Sizes) (pairs : List Pair) (count n : ℕ) → pairsOk (z .words) (take count pairs) ≡ true → count ≤ length pairs → n ≡ imageLength z
+pub pair-inside : (z : Sizes) (pairs : List Pair) (count n : ℕ) → pairsOk (z .words) (take count pairs) ≡ true → count ≤ length pairs → formerLength z ≤ n
     → (i : ℕ) → i < count → 1 + getD pairs i noPair .word < n
-unfolding imageLength
+unfolding formerLength
 pair-inside z pairs count n h k e i l = omega (arith, pair-below (z .words) pairs count i h l (omega arith))
 
 -- ---- a commit
@@ -216,14 +216,14 @@ module _ (z : Sizes) (cache flags : List ℕ) (L : ℕ) (g : Logged) (s start sl
   slot-low : slot < z .slots
   slot-low = rw in-slot (circular-low (z .slots) _ (omega (arith, sizes-in z (k .image .sizes-ok) .slots-low, k .first, k .most)))
 
-  value-inside : start + 2 * slot + 1 < imageLength z
-  value-inside = omega (arith, at, log-fits z L (k .lane-below), slot-low)
+  inside : start + 2 * slot + 1 < length cache
+  inside = omega (arith, at, log-fits z L (k .lane-below), k .image .in-image, slot-low)
 
   pub restamp-inside : (ps : List Pair) (cache₁ flags₁ : List ℕ) → cache₁ ≡ stored (pairStores ps) cache → flags₁ ≡ flushAll L (places (pairStores ps)) flags
       → (start + 2 * slot + 1 < length cache₁) × (start + 2 * slot + 1 < length flags₁)
   restamp-inside ps cache₁ flags₁ e f = (
-    rw (e, length-stored (pairStores ps) cache, k .image .in-image) value-inside,
-    rw (f, length-flushAll L (places (pairStores ps)) flags, k .in-flags) value-inside,
+    rw (e, length-stored (pairStores ps) cache) inside,
+    rw (f, length-flushAll L (places (pairStores ps)) flags, k .same-flags) inside,
   )
 
 -- the store of the timestamp reads an address word, which the pairs have left as it was

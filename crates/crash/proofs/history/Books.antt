@@ -407,7 +407,7 @@ pub start-long : (z : Sizes) (base : ℕ) (h : History) (m : Machine) → Book z
 unfolding present wordsBelow
 start-long z base h m b =
     sym (length-replay z.words None (h .commits) (h .start)) ∙ ap length (sym (b .live .words))
-    ∙ length-data z (m .cache) (buffers-in z _ _ _ (b .buffers) .in-cache)
+    ∙ length-data z (m .cache) (buffers-in z _ _ _ (b .buffers) .fits)
 
 -- ---- every move: a drain, and then what the call does
 -- no commit above a timestamp that is no commit's: all are below it

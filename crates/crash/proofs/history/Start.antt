@@ -1,15 +1,15 @@
 -- A start, by Format or a finished recovery: the book's part; and the image that Format makes. Assumes nothing.
 use mathlib.Core.Path.{_≡_, refl, ap, _∙_, sym, subst}
 use mathlib.Core.Bool.{true}
-use mathlib.Core.List.{List, _∷_}
+use mathlib.Core.List.{List, _∷_, _++_}
 use Prim.Native.Nat.{ℕ, _+_, _-_, _*_, _%_, _≤_, _<_}
 use native.Mathlib.Omega.{arith}
 use native.Mathlib.Nat.{le-refl}
-use lib.ListN.{length, getD, replicate, length-replicate, getD-replicate}
-use lib.Seq.{take-at, getD-append-add, ext-getD}
+use lib.ListN.{length, getD, drop, replicate, length-replicate, getD-replicate, List·getD-append}
+use lib.Seq.{take-at, drop-at, getD-append-add, ext-getD}
 use Rattle.laws.specs.inner.Lists.{none as nil}
-use Rattle.image.specs.Image.{maxLanes, sizesOk, imageLength, baseOf, dataOf, logStart, logOf}
-use Rattle.image.specs.inner.ImageLaws.{sizes-in, getD-log, length-log, buffers-good}
+use Rattle.image.specs.Image.{maxLanes, sizesOk, formerLength, trailer, imageLength, baseOf, dataOf, logStart, logOf}
+use Rattle.image.specs.inner.ImageLaws.{sizes-in, getD-log, length-log, log-fits}
 use Rattle.image.specs.inner.BulkLaws.{getD-zeros}
 use Rattle.image.specs.declared.Sizes.{Sizes}
 use Rattle.log.specs.declared.Timestamp.the-variants.{At}
@@ -19,17 +19,19 @@ use Rattle.record.specs.declared.Phase.the-variants.{Idle, Holds}
 use Rattle.record.specs.declared.Lane.{Lane}
 use Rattle.record.specs.declared.Logged.{Logged}
 use Rattle.store.specs.Calls.{started, startImage}
-use Rattle.store.specs.inner.FormatLaws.{length-startImage}
+use Rattle.store.specs.inner.Checked.{bodyOf}
+use Rattle.store.specs.inner.FormatLaws.{length-body, body-trailer, length-startImage}
 use Rattle.crash.specs.History.{Page, blankPage, pageAt, opened, replay, wordsBelow, present, isSome}
-use Rattle.crash.specs.Theorem.{Live}
+use Rattle.crash.specs.Theorem.{Live, endOf}
 use Rattle.crash.proofs.recovery.Data.{last}
 use Rattle.crash.proofs.history.Lanes.{lane-start}
 use Rattle.crash.proofs.history.Ranges.{RecordRange, record-ranged, stamp-now}
 use Rattle.crash.proofs.history.Agree.{lastOf, Book}
+use Rattle.crash.proofs.lane.Ends.{Form, form-buffers}
 
 -- ---- the book
 module _ (z : Sizes) (base : ℕ) (image words : List ℕ) (ok : sizesOk z ≡ true)
-    (even : base % 2 ≡ 0) (long : length image ≡ imageLength z) (same : dataOf z image ≡ words) where
+    (even : base % 2 ≡ 0) (long : formerLength z ≤ length image) (form : Form z (endOf z image)) (same : dataOf z image ≡ words) where
   eight : z.lanes ≤ maxLanes
   eight = sizes-in z ok .lanes-high
 
@@ -56,7 +58,7 @@ module _ (z : Sizes) (base : ℕ) (image words : List ℕ) (ok : sizesOk z ≡ t
   unfolding startLane
   idle-start M i = ap (λ (l : Lane). l .phase) (lane-start z base eight M i)
 
-  pub none-held : {A : Type 0} (M : ℕ) (g : Logged) → M < z.lanes → laneAt (started z base image .state) M .phase ≡ Holds g → A
+  pub none-held : {A : Type 0} (M : ℕ) (g : Logged) → M < z.lanes → laneAt (started base image .state) M .phase ≡ Holds g → A
   unfolding started
   none-held M g i e = absurd (let d = idle-start M i in let z : _≡_ {A = ℕ} 0 1 = cc in omega arith)
 
@@ -72,7 +74,7 @@ module _ (z : Sizes) (base : ℕ) (image words : List ℕ) (ok : sizesOk z ≡ t
   no-stamp M s i e =
       absurd (let d = ap (λ (p : Page). p .newest) (page-start M i) in let z : _≡_ {A = ℕ} 0 1 = cc in omega arith)
 
-  live-start : Live z (opened z words base) (started z base image)
+  live-start : Live z (opened z words base) (started base image)
   unfolding started opened present wordsBelow replay startRecord
   live-start =
       record {
@@ -82,11 +84,11 @@ module _ (z : Sizes) (base : ℕ) (image words : List ℕ) (ok : sizesOk z ≡ t
         held = held-start;
       }
 
-  pub book-start : Book z base (opened z words base) (started z base image)
+  pub book-start : Book z base (opened z words base) (started base image)
   unfolding started opened lastOf startRecord
   book-start =
       record {
-        buffers = buffers-good z _ _ _ ok long long (length-replicate (imageLength z) 0);
+        buffers = form-buffers z image image (replicate (length image) 0) ok long form refl (length-replicate {A = ℕ} (length image) 0);
         fields = in-range;
         lanes = rw eight-lanes eight;
         pages = length-replicate z.lanes blankPage;
@@ -104,20 +106,33 @@ module _ (z : Sizes) (base : ℕ) (image words : List ℕ) (ok : sizesOk z ≡ t
 module _ (z : Sizes) (start : List ℕ) (words : length start ≡ z.words) where
   pub image-data : dataOf z (startImage z start) ≡ start
   unfolding startImage dataOf
-  image-data = take-at start (replicate (2 * z.lanes * z.slots) 0) z.words words
+  image-data = take-at start (replicate (2 * z.lanes * z.slots) 0 ++ trailer z) z.words words
 
   pub image-base : baseOf (startImage z start) ≡ 0
   unfolding startImage baseOf
   image-base = refl
 
-  word-past : (k : ℕ) → getD (startImage z start) (length (0 ∷ start) + k) 0 ≡ 0
-  unfolding startImage
-  word-past k = getD-append-add (0 ∷ start) (replicate (2 * z.lanes * z.slots) 0) k 0 ∙ getD-zeros (2 * z.lanes * z.slots) k
+  pub image-fits : formerLength z ≤ length (startImage z start)
+  unfolding imageLength
+  image-fits = omega (arith, length-startImage z start words)
 
-  word-late : (i : ℕ) → 1 + z.words ≤ i → getD (startImage z start) i 0 ≡ 0
-  word-late i h =
+  -- past the base and the start words, and before the trailer
+  word-past : (k : ℕ) → k < 2 * z.lanes * z.slots → getD (startImage z start) (length (0 ∷ start) + k) 0 ≡ 0
+  unfolding startImage
+  word-past k h =
+      getD-append-add (0 ∷ start) (replicate (2 * z.lanes * z.slots) 0 ++ trailer z) k 0
+      ∙ List·getD-append (replicate (2 * z.lanes * z.slots) 0) (trailer z) 0 k (omega (arith, length-replicate {A = ℕ} (2 * z.lanes * z.slots) 0))
+      ∙ getD-zeros (2 * z.lanes * z.slots) k
+
+  word-late : (i : ℕ) → 1 + z.words ≤ i → i < formerLength z → getD (startImage z start) i 0 ≡ 0
+  unfolding formerLength
+  word-late i h g =
       let e : length (0 ∷ start) + (i - length (0 ∷ start)) ≡ i = omega arith in
-      ap (λ (j : ℕ). getD (startImage z start) j 0) (sym e) ∙ word-past (i - length (0 ∷ start))
+      ap (λ (j : ℕ). getD (startImage z start) j 0) (sym e) ∙ word-past (i - length (0 ∷ start)) (omega arith)
+
+  pub image-end : endOf z (startImage z start) ≡ trailer z
+  unfolding endOf
+  image-end = ap (drop (formerLength z)) (body-trailer z start) ∙ drop-at (bodyOf z start) (trailer z) (formerLength z) (length-body z start words)
 
   late : (L j : ℕ) → 1 + z.words ≤ logStart z L + j
   unfolding logStart
@@ -127,7 +142,7 @@ module _ (z : Sizes) (start : List ℕ) (words : length start ≡ z.words) where
   image-log L h =
       ext-getD 0 (logOf z L (startImage z start)) (replicate (2 * z.slots) 0) (len ∙ sym (length-replicate (2 * z.slots) 0))
       (λ j g. let k : j < 2 * z.slots = rw len at g in
-      getD-log z L (startImage z start) j k ∙ word-late (logStart z L + j) (late L j) ∙ sym (getD-zeros (2 * z.slots) j))
+      getD-log z L (startImage z start) j k ∙ word-late (logStart z L + j) (late L j) (omega (arith, log-fits z L h)) ∙ sym (getD-zeros (2 * z.slots) j))
     where
       len : length (logOf z L (startImage z start)) ≡ 2 * z.slots
-      len = length-log z L (startImage z start) (length-startImage z start words) h
+      len = length-log z L (startImage z start) image-fits h

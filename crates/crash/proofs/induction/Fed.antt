@@ -1,4 +1,4 @@
--- What the history does with each move, and which calls are taken: one equation a move. Assumes nothing.
+-- What the history does with each move, which calls are taken, and that none changes a length: one equation a move. Assumes nothing.
 use mathlib.Core.Path.{_≡_, refl}
 use mathlib.Core.Bool.{true, false, not}
 use mathlib.Core.List.{List, [], _∷_}
@@ -8,11 +8,12 @@ use lib.ListN.{length}
 use borrow.Author.Tests.{le-leb, lt-leb}
 use Rattle.laws.specs.inner.Tests.{clash}
 use Rattle.txn.specs.Txn.{maxWrites, former, txnBy}
+use Rattle.image.specs.inner.FlushLaws.{length-drainedNvm}
 use Rattle.image.specs.declared.Sizes.{Sizes}
 use Rattle.record.specs.Record.{laneAt, isLogged, pairsOf}
 use Rattle.record.specs.declared.Phase.the-variants.{Idle}
 use Rattle.store.specs.Machine.{Machine, Step, firstCause, unless, said}
-use Rattle.store.specs.Calls.{badBuffers, badRecord, badLane, drained, writesOn, appended, logged}
+use Rattle.store.specs.Calls.{badBuffers, badRecord, badLane, drained, changed, writesOn, appended, logged}
 use Rattle.store.specs.Calls.{committed, isStale, redoPairs, matches, drainRefusal, drainStep}
 use Rattle.store.specs.Calls as calls
 use Rattle.store.specs.declared.Answer.{Answer}
@@ -84,3 +85,17 @@ taken-known z c m t = taken-by z m (call-moves z m c) t
 pub drain-taken : (z : Sizes) (m : Machine) (L : ℕ) → Known z m L → callStep z (drain L) m ≡ record { answer = Done; machine = drained z L m }
 unfolding callStep drainStep drainRefusal badBuffers badRecord badLane firstCause unless
 drain-taken z m L k = rw (k .buffers, k .fields, lt-leb z.lanes L (k .lane))
+
+-- ---- no call changes how long non-volatile memory is
+length-by : (z : Sizes) (m : Machine) {c : Call} {s : Step} → Move z m c s → length (s .machine .nvm) ≡ length (m .nvm)
+unfolding drained logged appended committed changed calls.released
+length-by z m (refusing n e p) = refl
+length-by z m {c} (draining k d) = length-drainedNvm (laneOf c) (m .flags) (m .cache) (m .nvm)
+length-by z m (logging q L f k ok i p r) = length-drainedNvm L (m .flags) (m .cache) (m .nvm)
+length-by z m (redoing L k r t) = length-drainedNvm L (m .flags) (m .cache) (m .nvm)
+length-by z m (validating q L f k ok r t) = length-drainedNvm L (m .flags) (m .cache) (m .nvm)
+length-by z m (giving-up q L f k ok r t) = length-drainedNvm L (m .flags) (m .cache) (m .nvm)
+length-by z m (marking L k r) = length-drainedNvm L (m .flags) (m .cache) (m .nvm)
+
+pub call-length : (z : Sizes) (m : Machine) (c : Call) → length (callStep z c m .machine .nvm) ≡ length (m .nvm)
+call-length z m c = length-by z m (call-moves z m c)

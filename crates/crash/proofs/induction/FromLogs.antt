@@ -1,12 +1,14 @@
 -- The crash theorem from an invariant of the logs: the book's part and the recovery half put in. What is left are the fields of `LogLaws`. Assumes nothing.
-use mathlib.Core.Path.{_≡_, refl}
+use mathlib.Core.Path.{_≡_, refl, sym, subst}
+use mathlib.Core.Logic.{inl, inr}
 use mathlib.Core.Bool.{true, false}
 use mathlib.Core.List.{List, [], _∷_}
 use mathlib.Core.Option.{none, some}
-use Prim.Native.Nat.{ℕ, _+_, _*_, _%_, _<_}
+use Prim.Native.Nat.{ℕ, _+_, _*_, _%_, _≤_, _<_}
+use native.Mathlib.Omega.{arith}
 use lib.ListN.{length, replicate}
 use Rattle.txn.specs.Txn.{maxWrites, former, txnBy}
-use Rattle.image.specs.Image.{sizesOk, imageLength, baseOf, dataOf, logOf}
+use Rattle.image.specs.Image.{sizesOk, formerLength, baseOf, dataOf, logOf}
 use Rattle.image.specs.Flush.{writtenBack}
 use Rattle.image.specs.inner.FlushLaws.{length-writtenBack}
 use Rattle.image.specs.declared.Sizes.{Sizes}
@@ -14,27 +16,29 @@ use Rattle.record.specs.Record.{laneAt, isLogged, pairsOf}
 use Rattle.record.specs.declared.Phase.the-variants.{Idle}
 use Rattle.store.specs.Machine.{Machine}
 use Rattle.store.specs.Calls.{started, startImage, drained, writesOn, appended, logged, committed, isStale, redoPairs, matches}
-use Rattle.store.specs.inner.FormatLaws.{length-startImage}
 use Rattle.store.specs.Calls as calls
-use Rattle.recovery.specs.Recovery.{boundary, newBase}
-use Rattle.crash.specs.Events.{vandzulge}
+use Rattle.recovery.specs.Recovery.{boundary, newBase, Restarted}
+use Rattle.crash.specs.Events.{live, vandzulge}
 use Rattle.crash.specs.History.{History, opened, pageAt, wordsBelow, settled, stamped, released, heldBy, restarted, leastFloorOf}
-use Rattle.crash.specs.Theorem.{NotBelow, CrashTheorem}
+use Rattle.crash.specs.Theorem.{endOf, InStep, NotBelow, recoveryAnswer, Holds, CrashTheorem, FormerTheorem}
 use Rattle.recovery.specs.inner.SequenceLaws.{newBase-even}
 use Rattle.recovery.specs.inner.AgainLaws.{recoveredImage}
 use Rattle.recovery.specs.inner.FreshLaws.{recovered-length, recovered-base, recovered-log}
+use Rattle.crash.proofs.recovery.Restart.{recovered-end, answer-finished, former-known, former-finished}
 use Rattle.crash.proofs.recovery.Recovered.{Shows, recovered-right}
 use Rattle.crash.proofs.induction.Moves.{Known, Room, Ready}
 use Rattle.crash.proofs.induction.Fed.{Steps, call-by-steps}
 use Rattle.crash.proofs.history.Agree.{Book, Logs}
 use Rattle.crash.proofs.history.Answers.{answers}
 use Rattle.crash.proofs.history.Books.{book-drains, book-logs, book-marks, book-gives-up, book-validates, book-redoes}
-use Rattle.crash.proofs.history.Start.{book-start, image-data, image-base, image-log}
-use Rattle.crash.proofs.induction.Skeleton.{Laws, crash-theorem-from}
+use Rattle.crash.proofs.history.Start.{book-start, image-fits, image-end, image-data, image-base, image-log}
+use Rattle.crash.proofs.lane.Ends.{Form, Tailed, no-end}
+use Rattle.crash.proofs.induction.Skeleton.{Laws, starts-from, crash-theorem-from}
 
 -- ---- the cells when power fails
 pub record AtCut (z : Sizes) (cells : List ℕ) (h : History) : Type 0 where
-  pub size : length cells ≡ imageLength z
+  pub size : formerLength z ≤ length cells
+  pub form : Form z (endOf z cells)
   pub even : baseOf cells % 2 ≡ 0
   pub shows : Shows z cells (h .start) (h .commits)
   pub floors : NotBelow (leastFloorOf (h .pages)) (boundary z cells)
@@ -44,12 +48,15 @@ pub record LogLaws (z : Sizes) (G : ℕ → Machine → History → Type 0) : Ty
   -- what it says of the cached logs, and of the cells
   pub logs : (base : ℕ) (m : Machine) (h : History) → Book z base h m → G base m h → Logs z h m
   pub cuts : (base : ℕ) (m : Machine) (h : History) → Book z base h m → G base m h → AtCut z (m .nvm) h
+  -- and of the end of the image
+  pub tails : (base : ℕ) (m : Machine) (h : History) → Book z base h m → G base m h → Tailed z m
   -- a start: logs of 0s
-  pub starts : (base : ℕ) (image words : List ℕ) → base % 2 ≡ 0 → length image ≡ imageLength z → baseOf image ≡ base → dataOf z image ≡ words
+  pub starts : (base : ℕ) (image words : List ℕ) → base % 2 ≡ 0 → formerLength z ≤ length image → Form z (endOf z image) → baseOf image ≡ base
+      → dataOf z image ≡ words
       → ((L : ℕ) → L < z.lanes → logOf z L image ≡ replicate (2 * z.slots) 0)
-      → G base (started z base image) (opened z words base)
+      → G base (started base image) (opened z words base)
   -- it is kept by write-backs and by each move
-  pub writes : (base : ℕ) (m : Machine) (h : History) (i : ℕ) → Book z base h m → G base m h → i < imageLength z
+  pub writes : (base : ℕ) (m : Machine) (h : History) (i : ℕ) → Book z base h m → G base m h
       → G base (record { state = m .state; cache = m .cache; nvm = writtenBack i (m .cache) (m .nvm); flags = m .flags }) h
   pub drains : (base : ℕ) (m : Machine) (h : History) (L : ℕ) → Book z base h m → G base m h → Known z m L → G base (drained z L m) (settled L h)
   pub appends : (base : ℕ) (m : Machine) (h : History) (L : ℕ) (f : List ℕ) → Book z base h m → G base m h → Known z m L
@@ -113,10 +120,15 @@ module _ (z : Sizes) (ok : sizesOk z ≡ true) (G : ℕ → Machine → History 
       }
 
   -- a start is one of the book and of the logs
-  fresh : (base : ℕ) (image words : List ℕ) → base % 2 ≡ 0 → length image ≡ imageLength z → baseOf image ≡ base → dataOf z image ≡ words
-      → ((L : ℕ) → L < z.lanes → logOf z L image ≡ replicate (2 * z.slots) 0) → Inv z G (started z base image) (opened z words base)
-  fresh base image words even long at same blank =
-      record { base = base; book = book-start z base image words ok even long same; rest = laws .starts base image words even long at same blank }
+  pub fresh : (base : ℕ) (image words : List ℕ) → base % 2 ≡ 0 → formerLength z ≤ length image → Form z (endOf z image) → baseOf image ≡ base
+      → dataOf z image ≡ words
+      → ((L : ℕ) → L < z.lanes → logOf z L image ≡ replicate (2 * z.slots) 0) → Inv z G (started base image) (opened z words base)
+  fresh base image words even long form at same blank =
+      record {
+        base = base;
+        book = book-start z base image words ok even long form same;
+        rest = laws .starts base image words even long form at same blank;
+      }
 
   written : (m : Machine) (h : History) (i : ℕ) (v : Inv z G m h)
       → Book z (v .base) h (record { state = m .state; cache = m .cache; nvm = writtenBack i (m .cache) (m .nvm); flags = m .flags })
@@ -149,11 +161,17 @@ module _ (z : Sizes) (ok : sizesOk z ≡ true) (G : ℕ → Machine → History 
             };
       }
 
-  restarted-so : (cells : List ℕ) (h : History) → AtCut z cells h → Inv z G (started z (newBase z cells) (recoveredImage z cells)) (restarted z cells h)
+  -- what a finished recovery leaves is one
+  pub recovered-fresh : (cells words : List ℕ) → formerLength z ≤ length cells → Form z (endOf z cells) → baseOf cells % 2 ≡ 0
+      → dataOf z (recoveredImage z cells) ≡ words → Inv z G (started (newBase z cells) (recoveredImage z cells)) (opened z words (newBase z cells))
+  recovered-fresh cells words size form even same =
+      fresh (newBase z cells) (recoveredImage z cells) words (newBase-even z cells even) (rw (recovered-length z cells size) size)
+      (rw (recovered-end z cells) form) (recovered-base z cells size) same (λ L i. recovered-log z cells size L i)
+
+  restarted-so : (cells : List ℕ) (h : History) → AtCut z cells h → Inv z G (started (newBase z cells) (recoveredImage z cells)) (restarted z cells h)
   unfolding restarted wordsBelow
   restarted-so cells h a =
-      fresh (newBase z cells) (recoveredImage z cells) (wordsBelow z (boundary z cells) h) (newBase-even z cells (a .even)) (recovered-length z cells (a .size))
-      (recovered-base z cells (a .size)) (recovered-right z cells (h .start) (h .commits) (a .shows)) (λ L i. recovered-log z cells (a .size) L i)
+      recovered-fresh cells (wordsBelow z (boundary z cells) h) (a .size) (a .form) (a .even) (recovered-right z cells (h .start) (h .commits) (a .shows))
 
   words-so : (cells : List ℕ) (h : History) → AtCut z cells h → dataOf z (recoveredImage z cells) ≡ wordsBelow z (boundary z cells) h
   unfolding wordsBelow
@@ -165,21 +183,44 @@ module _ (z : Sizes) (ok : sizesOk z ≡ true) (G : ℕ → Machine → History 
   pub all-laws : Laws z (Inv z G) (AtCut z)
   all-laws =
       record {
-        formats = λ start e. fresh 0 (startImage z start) start zero-even (length-startImage z start e) (image-base z start e) (image-data z start e)
-            (λ L i. image-log z start e L i);
+        formats = λ start e. fresh 0 (startImage z start) start zero-even (image-fits z start e) (inr (image-end z start e)) (image-base z start e)
+            (image-data z start e) (λ L i. image-log z start e L i);
         lives = λ m h v. v .book .live;
         buffers = λ m h v. v .book .buffers;
         calls = call-by-steps z (Inv z G) steps;
         answers = λ m h c v. answers z (v .base) h m (v .book) (says m h v) c;
-        writes = λ m h i v l. record { base = v .base; book = written m h i v; rest = laws .writes (v .base) m h i (v .book) (v .rest) l };
+        writes = λ m h i v. record { base = v .base; book = written m h i v; rest = laws .writes (v .base) m h i (v .book) (v .rest) };
+        tails = λ m h v. laws .tails (v .base) m h (v .book) (v .rest);
         cuts = λ m h v. laws .cuts (v .base) m h (v .book) (v .rest);
         size = λ cells h a. a .size;
+        form = λ cells h a. a .form;
         even = λ cells h a. a .even;
         words = words-so;
         floors = λ cells h a. a .floors;
         restarts = restarted-so;
       }
 
--- the crash theorem, from the logs' laws
-pub crash-theorem-by-logs : (G : Sizes → ℕ → Machine → History → Type 0) → ((z : Sizes) → sizesOk z ≡ true → LogLaws z (G z)) → CrashTheorem vandzulge
-crash-theorem-by-logs G laws = crash-theorem-from (λ z. Inv z (G z)) AtCut (λ z ok. all-laws z ok (G z) (laws z ok))
+-- ---- the crash theorem, from the logs' laws
+module _ (G : Sizes → ℕ → Machine → History → Type 0) (laws : (z : Sizes) → sizesOk z ≡ true → LogLaws z (G z)) where
+  its-laws : (z : Sizes) (ok : sizesOk z ≡ true) → Laws z (Inv z (G z)) (AtCut z)
+  its-laws z ok = all-laws z ok (G z) (laws z ok)
+
+  pub crash-theorem-by-logs : CrashTheorem vandzulge
+  crash-theorem-by-logs = crash-theorem-from (λ z. Inv z (G z)) AtCut its-laws
+
+  -- what a finished recovery of an image of the former length leaves is a start too
+  pub former-theorem-by-logs : FormerTheorem vandzulge
+  unfolding FormerTheorem vandzulge started
+  former-theorem-by-logs z limit m e all es =
+      let a = former-known z m e in
+      let size : formerLength z ≤ length (m .nvm) = omega (arith, a .1) in
+      let form = inl (no-end z (m .nvm) (a .1)) in
+      let v = recovered-fresh z (a .0) (G z) (laws z (a .0)) (m .nvm) (dataOf z (recoveredImage z (m .nvm))) size form (a .2) refl in
+      let long : length (recoveredImage z (m .nvm)) ≡ formerLength z + 0 = omega (arith, recovered-length z (m .nvm) size, a .1) in
+      let g = starts-from (λ z. Inv z (G z)) AtCut its-laws z (a .0) [] (inl refl) _ _ v long es in
+      subst
+      (λ (r : Restarted). (r .answer ≡ recoveryAnswer z limit (m .nvm))
+      × InStep z [] (opened z (dataOf z (r .machine .nvm)) (newBase z (m .nvm))) (live (r .machine))
+      × Holds vandzulge z [] (live (r .machine)) (opened z (dataOf z (r .machine .nvm)) (newBase z (m .nvm))) es)
+      (sym (former-finished z limit m e all size))
+      (answer-finished z limit (m .nvm) all, g .0, g .1)

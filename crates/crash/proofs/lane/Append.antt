@@ -2,7 +2,7 @@
 -- the data words and the base stay. Assumes nothing.
 use mathlib.Core.Path.{_≡_, ap, _∙_, sym}
 use mathlib.Core.List.{List, [], _∷_, _++_}
-use Prim.Native.Nat.{ℕ, suc, _+_, _*_, _%_, _<_}
+use Prim.Native.Nat.{ℕ, suc, _+_, _*_, _%_, _≤_, _<_}
 use native.Mathlib.Omega.{arith}
 use native.Mathlib.Nat.{mod-lt, add-assoc}
 use lib.Dec.{eqb}
@@ -13,7 +13,7 @@ use Rattle.laws.specs.inner.Tests.{split}
 use Rattle.laws.specs.inner.Lists.{All, none, more}
 use Rattle.slot.specs.Slot.{entryOf}
 use Rattle.txn.specs.declared.Write.{Write}
-use Rattle.image.specs.Image.{imageLength, logStart, logOf}
+use Rattle.image.specs.Image.{formerLength, logStart, logOf}
 use Rattle.image.specs.inner.ImageLaws.{length-log, logOf-set}
 use Rattle.image.specs.Stores.{stored}
 use Rattle.image.specs.declared.Sizes.{Sizes}
@@ -38,7 +38,7 @@ module _ (z : Sizes) (L : ℕ) (lane : L < z.lanes) (pos : 0 < z.slots) where
       )
 
   -- one slot more
-  slot-window : (image : List ℕ) (h : List Past) (c : Past) → length image ≡ imageLength z → Window z.slots h (logOf z L image)
+  slot-window : (image : List ℕ) (h : List Past) (c : Past) → formerLength z ≤ length image → Window z.slots h (logOf z L image)
       → Window z.slots (h ++ c ∷ [])
       (logOf z L (set (set image (logStart z L + 2 * (length h % z.slots)) (addressOf (wrapOf z.slots (length h)) c))
       (logStart z L + 2 * (length h % z.slots) + 1) (valueOf (wrapOf z.slots (length h)) c)))
@@ -51,7 +51,7 @@ module _ (z : Sizes) (L : ℕ) (lane : L < z.lanes) (pos : 0 < z.slots) where
       onward-cursor z.slots pos (length h)
       ∙ ap (cursorAt z.slots) (let e : suc (length h) ≡ length (h ++ c ∷ []) = omega (arith, length-append h (c ∷ [])) in e)
 
-  window-from : (n s : ℕ) (ws : List Write) (h : List Past) (image : List ℕ) → length image ≡ imageLength z → Window z.slots h (logOf z L image)
+  window-from : (n s : ℕ) (ws : List Write) (h : List Past) (image : List ℕ) → formerLength z ≤ length image → Window z.slots h (logOf z L image)
       → Window z.slots (h ++ (entriesAs (oldsOf ws) ++ (sta n s ∷ [])))
       (logOf z L (stored (appendFrom (logStart z L) z.slots n s (cursorAt z.slots (length h)) ws) image))
   unfolding appendFrom slotStores stored addressOf valueOf cursorAt entriesAs oldsOf
@@ -61,11 +61,16 @@ module _ (z : Sizes) (L : ℕ) (lane : L < z.lanes) (pos : 0 < z.slots) where
       let p = wrapOf z.slots (length h) in
       let one = set image (logStart z L + 2 * (length h % z.slots)) (entryOf (x .word) (x .old) p .address) in
       let two = set one (logStart z L + 2 * (length h % z.slots) + 1) (entryOf (x .word) (x .old) p .value) in
-      let len : length two ≡ imageLength z = length-set one _ _ ∙ length-set image _ _ ∙ e in
+      let len : formerLength z ≤ length two = omega (
+        arith,
+        length-set one (logStart z L + 2 * (length h % z.slots) + 1) (entryOf (x .word) (x .old) p .value),
+        length-set image (logStart z L + 2 * (length h % z.slots)) (entryOf (x .word) (x .old) p .address),
+        e,
+      ) in
       let ih = window-from n s ws (h ++ c ∷ []) two len (slot-window image h c e w) in
       rw (next-cursor h c, sym (append-snoc h c (entriesAs (oldsOf ws) ++ (sta n s ∷ [])))) ih
 
-  pub window-append : (s : ℕ) (ws : List Write) (h : List Past) (image : List ℕ) → length image ≡ imageLength z → Window z.slots h (logOf z L image)
+  pub window-append : (s : ℕ) (ws : List Write) (h : List Past) (image : List ℕ) → formerLength z ≤ length image → Window z.slots h (logOf z L image)
       → Window z.slots (h ++ pastOf (oldsOf ws) s) (logOf z L (stored (appendStores (logStart z L) z.slots s (cursorAt z.slots (length h)) ws) image))
   unfolding appendStores pastOf
   window-append s ws h image e w = rw (length-olds ws) (window-from (length ws) s ws h image e w)

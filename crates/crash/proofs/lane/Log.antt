@@ -9,7 +9,7 @@ use lib.ListN.{length, getD, set, length-set}
 use Rattle.laws.specs.inner.Lists.{All, none, more, All-map}
 use Rattle.txn.specs.Txn.{maxWrites}
 use Rattle.txn.specs.declared.Write.{Write}
-use Rattle.image.specs.Image.{imageLength, baseOf, logStart, logOf}
+use Rattle.image.specs.Image.{formerLength, baseOf, logStart, logOf}
 use Rattle.image.specs.inner.ImageLaws.{getD-log}
 use Rattle.image.specs.Stores.{Store, stored}
 use Rattle.image.specs.inner.StoresLaws.{stored-append, length-stored}
@@ -243,7 +243,7 @@ module _ (z : Sizes) (L : ℕ) (lane : L < z.lanes) (m : Machine) (t : Track) (s
 
   commit-now : (x : Logged) {h : List Past} {gs : List Seq} → PhaseOf z.slots (Holds x) gs
       → Written z (baseOf (m .cache)) (m .state .clock) (logOf z L (m .cache)) h gs
-      → (image : List ℕ) → length image ≡ imageLength z → logOf z L image ≡ logOf z L (m .cache)
+      → (image : List ℕ) → formerLength z ≤ length image → logOf z L image ≡ logOf z L (m .cache)
       → Written z (baseOf (m .cache)) (m .state .clock + 2)
       (logOf z L (set image (restampStore (logStart z L) (circular z.slots (x .first + x .count)) (m .state .clock + 2) (m .cache) .at)
       (restampStore (logStart z L) (circular z.slots (x .first + x .count)) (m .state .clock + 2) (m .cache) .value)))
@@ -279,7 +279,7 @@ module _ (z : Sizes) (L : ℕ) (lane : L < z.lanes) (m : Machine) (t : Track) (s
         let a = lane-committed z L m inside ps in
         record {
           now = rw (committed-base, held, stored-append (pairStores ps) _ (m .cache))
-              (commit-now x its (l .now) (stored (pairStores ps) (m .cache)) (length-stored (pairStores ps) (m .cache) ∙ s .in-cache) pairs-log);
+              (commit-now x its (l .now) (stored (pairStores ps) (m .cache)) (rw (length-stored (pairStores ps) (m .cache)) (s .in-cache)) pairs-log);
           before = rw committed-base (written-later z (baseOf (m .cache)) (m .state .clock) (m .state .clock + 2) (omega arith) (l .now));
           since = commit-since (m .state .clock + 2) x (t .hist) (below-new (m .state .clock) (l .now .upto)) its;
           mem = mem-stored-own z L lane (logOf z L (m .cache)) (m .cache) (m .flags)

@@ -4,13 +4,13 @@ use mathlib.Core.Path.{_≡_, refl, _∙_, sym}
 use mathlib.Core.Logic.{_≢_, _⊎_, inl, inr}
 use mathlib.Core.Bool.{Bool, true, false, cond}
 use mathlib.Core.List.{List}
-use Prim.Native.Nat.{ℕ, _+_, _*_, _<_}
+use Prim.Native.Nat.{ℕ, _+_, _*_, _≤_, _<_}
 use native.Mathlib.Omega.{arith}
 use lib.Dec.{eqb}
 use lib.ListN.{length, getD}
 use Rattle.laws.specs.inner.Tests.{split, clash}
 use Rattle.laws.specs.inner.Lists.{All}
-use Rattle.image.specs.Image.{imageLength, logStart, logOf}
+use Rattle.image.specs.Image.{formerLength, logStart, logOf}
 use Rattle.image.specs.inner.ImageLaws.{log-fits, getD-log}
 use Rattle.image.specs.Flush.{flushed, flushAll, writtenBack, drainedNvm, drainedFlags}
 use Rattle.image.specs.inner.FlushLaws.{unflush-other, flushed-flushAll, flushAll-keeps, getD-writtenBack, getD-drainedNvm, getD-drainedFlags}
@@ -37,7 +37,7 @@ pub mem-same : (z : Sizes) (L : ℕ) (cache flags nvm : List ℕ) → ((j : ℕ)
 mem-same z L cache flags nvm same = record { mix = λ j h. inl (same j h); cover = λ j h. inl (same j h) }
 
 module _ (z : Sizes) (L : ℕ) (lane : L < z.lanes) (was cache flags nvm : List ℕ)
-    (cl : length cache ≡ imageLength z) (fl : length flags ≡ imageLength z) (nl : length nvm ≡ imageLength z) where
+    (cl : formerLength z ≤ length cache) (fl : formerLength z ≤ length flags) (nl : formerLength z ≤ length nvm) where
   abbrev k : ℕ → ℕ
   k j = logStart z L + j
 

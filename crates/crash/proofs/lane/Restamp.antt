@@ -13,7 +13,7 @@ use borrow.Author.Tests.{ltb-true, ltb-false}
 use Rattle.laws.specs.inner.Tests.{split}
 use Rattle.slot.specs.Slot.{stampOf}
 use Rattle.slot.specs.inner.SlotLaws.{stamp-bits}
-use Rattle.image.specs.Image.{imageLength, logStart, logOf}
+use Rattle.image.specs.Image.{formerLength, logStart, logOf}
 use Rattle.image.specs.inner.ImageLaws.{getD-log, length-log, logOf-set}
 use Rattle.image.specs.declared.Sizes.{Sizes}
 use Rattle.log.specs.Append.{restampStore}
@@ -61,7 +61,7 @@ module _ (z : Sizes) (L : ℕ) (lane : L < z.lanes) (pos : 0 < z.slots) (h : Lis
       ap (_% 2) (sym (getD-log z L image (2 * (e % z.slots)) (omega (arith, mod-lt e pos))) ∙ w e new old .address ∙ ap (addressOf (wrapOf z.slots e)) is)
       ∙ stamp-bits k s (wrapOf z.slots e) even (wrap-bound z.slots e) .0
 
-  pub window-restamp : length image ≡ imageLength z → Window z.slots h (logOf z L image)
+  pub window-restamp : formerLength z ≤ length image → Window z.slots h (logOf z L image)
       → Window z.slots (set h e (sta k c))
       (logOf z L (set image (restampStore (logStart z L) (e % z.slots) c image .at) (restampStore (logStart z L) (e % z.slots) c image .value)))
   unfolding restampStore

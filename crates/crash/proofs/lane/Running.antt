@@ -14,7 +14,7 @@ use borrow.Author.Tests.{eq-eqb, ne-eqb}
 use Rattle.laws.specs.inner.Lists.{All}
 use Rattle.txn.specs.Txn.{maxWrites}
 use Rattle.txn.specs.declared.Write.{Write}
-use Rattle.image.specs.Image.{maxLanes, imageLength, baseOf, logOf}
+use Rattle.image.specs.Image.{maxLanes, formerLength, baseOf, logOf}
 use Rattle.image.specs.inner.ImageLaws.{InRange}
 use Rattle.image.specs.Flush.{writtenBack}
 use Rattle.image.specs.declared.Sizes.{Sizes}
@@ -25,6 +25,8 @@ use Rattle.record.specs.declared.Phase.the-variants.{Idle, Holds}
 use Rattle.store.specs.Machine.{Machine}
 use Rattle.store.specs.Calls.{started, drained, appended, logged, committed, released}
 use Rattle.crash.specs.History.{floorOr}
+use Rattle.crash.specs.Theorem.{endOf}
+use Rattle.crash.proofs.lane.Ends.{Form, end-zeros}
 use Rattle.crash.proofs.history.Lanes.{lane-drained, lane-start}
 use Rattle.crash.proofs.lane.Absolute.{wrapOf, cursorAt}
 use Rattle.crash.proofs.lane.Ghost.{blank}
@@ -56,7 +58,8 @@ updated-other M t ts L d = rw (ne-eqb M L (λ e. d (sym e)))
 abbrev pub startTrack : Sizes → List ℕ → ℕ → Track
 startTrack z image L = record { hist = replicate z.slots blank; gs = []; prior = replicate z.slots blank; priors = []; was = logOf z L image }
 
-module _ (z : Sizes) (r : InRange z) (base : ℕ) (image : List ℕ) (even : base % 2 ≡ 0) (len : length image ≡ imageLength z) (at : baseOf image ≡ base)
+module _ (z : Sizes) (r : InRange z) (base : ℕ) (image : List ℕ) (even : base % 2 ≡ 0) (len : formerLength z ≤ length image) (form : Form z (endOf z image))
+    (at : baseOf image ≡ base)
     (zero : (L : ℕ) → L < z.lanes → logOf z L image ≡ replicate (2 * z.slots) 0) where
   start-cursor : cursorAt z.slots (length (replicate z.slots blank)) ≡ cursorOf startLane
   unfolding cursorAt cursorOf startLane wrapOf
@@ -64,7 +67,7 @@ module _ (z : Sizes) (r : InRange z) (base : ℕ) (image : List ℕ) (even : bas
       let p : 0 < z.slots = omega (arith, r .slots-low) in
       rw (length-replicate z.slots blank, mod-self z.slots, div-self p)
 
-  start-lane : (L : ℕ) → L < z.lanes → LaneLog z L (started z base image) (startTrack z image L)
+  start-lane : (L : ℕ) → L < z.lanes → LaneLog z L (started base image) (startTrack z image L)
   unfolding started startRecord newestIn floorOr startLane
   start-lane L h =
       let w = written-start z (baseOf image) base (logOf z L image) r (λ j k. rw (zero L h) (getD-replicate (2 * z.slots) j 0 0 k)) in
@@ -72,13 +75,13 @@ module _ (z : Sizes) (r : InRange z) (base : ℕ) (image : List ℕ) (even : bas
         now = w;
         before = w;
         since = level;
-        mem = mem-same z L image (replicate (imageLength z) 0) image (λ j k. refl);
+        mem = mem-same z L image (replicate (length image) 0) image (λ j k. refl);
         cursor = rw (lane-start z base (r .lanes-high) L h) (sym start-cursor);
         floor = rw (lane-start z base (r .lanes-high) L h);
         holding = rw (lane-start z base (r .lanes-high) L h) idle;
       }
 
-  pub running-start : Running z (started z base image) (startTrack z image)
+  pub running-start : Running z (started base image) (startTrack z image)
   unfolding started startRecord
   running-start =
       record {
@@ -86,7 +89,8 @@ module _ (z : Sizes) (r : InRange z) (base : ℕ) (image : List ℕ) (even : bas
           sizes = r;
           in-cache = len;
           in-nvm = len;
-          in-flags = length-replicate (imageLength z) 0;
+          in-flags = rw (length-replicate {A = ℕ} (length image) 0) len;
+          tail = record { form = form; cache = refl; flags = end-zeros z image };
           lanes = rw (length-replicate maxLanes startLane) (r .lanes-high);
           clock = even;
           even = rw at even;
@@ -153,7 +157,7 @@ module _ (z : Sizes) (m : Machine) (ts : ℕ → Track) (v : Running z m ts) whe
     unfolding drainedLane
     running-commits ps low x e =
         each M (committed z M ps (drained z M m)) (restampedBy z M m (m .state .clock + 2) (ts M))
-        (shape-committed z (drained z M m) drained-shape M lane ps low)
+        (shape-committed z (drained z M m) drained-shape M lane ps low x held (commit-low z M (drained z M m) drained-shape drained-mine x held))
         (lane-commits z M lane m (ts M) (v .shape) mine ps low x e)
         (λ L h d. lane-commits-other z L h (drained z M m) (ts L) drained-shape
         (drained-other L h d) M lane d ps low x held (commit-low z M (drained z M m) drained-shape drained-mine x held))

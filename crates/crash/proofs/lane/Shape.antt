@@ -1,4 +1,5 @@
--- Sizes and lengths, and the base timestamp, the same in cache and non-volatile memory: kept by every call and every change of memory. Assumes nothing.
+-- Sizes, lengths and the end of the image, and the base timestamp, the same in cache and non-volatile memory: kept by every call and every change of
+-- memory. Assumes nothing.
 use mathlib.Core.Path.{_≡_, _∙_, sym}
 use mathlib.Core.List.{List}
 use Prim.Native.Nat.{ℕ, _+_, _%_, _≤_, _<_}
@@ -9,29 +10,34 @@ use lib.ListN.{length, getD}
 use Rattle.laws.specs.inner.Tests.{split}
 use Rattle.laws.specs.inner.Lists.{All, none, more, All-append, All-map}
 use Rattle.txn.specs.declared.Write.{Write}
-use Rattle.image.specs.Image.{imageLength, baseOf, logStart}
-use Rattle.image.specs.inner.ImageLaws.{InRange, image-filled}
+use Rattle.image.specs.Image.{formerLength, baseOf, logStart}
+use Rattle.image.specs.inner.ImageLaws.{InRange, image-filled, log-fits}
 use Rattle.image.specs.Flush.{flushed, writtenBack, drainedNvm}
 use Rattle.image.specs.inner.FlushLaws.{length-flushAll, length-writtenBack, getD-writtenBack, length-drainedNvm, getD-drainedNvm, length-drainedFlags}
 use Rattle.image.specs.Stores.{Store, places}
 use Rattle.image.specs.inner.StoresLaws.{length-stored}
 use Rattle.image.specs.declared.Sizes.{Sizes}
-use Rattle.log.specs.Append.{appendStores, restampStore}
-use Rattle.record.specs.Record.{laneAt, cursorOf, withLane, withClock, withLast}
+use Rattle.log.specs.Append.{appendStores, circular, restampStore}
+use Rattle.record.specs.Record.{laneAt, cursorOf, loggedIn, withLane, withClock, withLast}
 use Rattle.record.specs.declared.Pair.{Pair}
+use Rattle.record.specs.declared.Logged.{Logged}
 use Rattle.record.specs.declared.Phase.{Phase}
+use Rattle.record.specs.declared.Phase.the-variants.{Holds}
 use Rattle.record.specs.declared.Record.{Record}
 use Rattle.store.specs.Machine.{Machine}
 use Rattle.store.specs.Calls.{drained, changed, appended, pairStores, commitStores, committed, released}
+use Rattle.crash.specs.Theorem.{endOf}
 use Rattle.crash.proofs.history.Lanes.{lane-drained, lane-appended, lane-committed, lane-released}
 use Rattle.crash.proofs.lane.Regions.{inside-late, stored-base}
 use Rattle.crash.proofs.lane.Append.{append-inside}
+use Rattle.crash.proofs.lane.Ends.{Tailed, tail-nvm, tail-drained, tail-changed, end-written}
 
 pub record Shape (z : Sizes) (m : Machine) : Type 0 where
   pub sizes : InRange z
-  pub in-cache : length (m .cache) ≡ imageLength z
-  pub in-nvm : length (m .nvm) ≡ imageLength z
-  pub in-flags : length (m .flags) ≡ imageLength z
+  pub in-cache : formerLength z ≤ length (m .cache)
+  pub in-nvm : formerLength z ≤ length (m .nvm)
+  pub in-flags : formerLength z ≤ length (m .flags)
+  pub tail : Tailed z m
   pub lanes : z.lanes ≤ length (m .state .lanes)
   -- the clock is even, and so is the base, which is not above it
   pub clock : m .state .clock % 2 ≡ 0
@@ -57,13 +63,14 @@ as-many e h = rw e h
 
 module _ (z : Sizes) (m : Machine) (s : Shape z m) where
   -- ---- non-volatile memory alone
-  pub shape-nvm : (nvm : List ℕ) → length nvm ≡ length (m .nvm) → baseOf nvm ≡ baseOf (m .cache) → Shape z (withNvm m nvm)
-  shape-nvm nvm l b =
+  pub shape-nvm : (nvm : List ℕ) → length nvm ≡ length (m .nvm) → endOf z nvm ≡ endOf z (m .nvm) → baseOf nvm ≡ baseOf (m .cache) → Shape z (withNvm m nvm)
+  shape-nvm nvm l e b =
       record {
         sizes = s .sizes;
         in-cache = s .in-cache;
-        in-nvm = l ∙ s .in-nvm;
+        in-nvm = rw l (s .in-nvm);
         in-flags = s .in-flags;
+        tail = tail-nvm z m (s .in-cache) (s .in-nvm) (s .in-flags) (s .tail) nvm e;
         lanes = s .lanes;
         clock = s .clock;
         even = s .even;
@@ -72,14 +79,16 @@ module _ (z : Sizes) (m : Machine) (s : Shape z m) where
       }
 
   -- the base after a write-back of any word
-  written-base : (i : ℕ) (nvm : List ℕ) → length nvm ≡ imageLength z → baseOf nvm ≡ baseOf (m .cache)
+  written-base : (i : ℕ) (nvm : List ℕ) → formerLength z ≤ length nvm → baseOf nvm ≡ baseOf (m .cache)
       → baseOf (writtenBack i (m .cache) nvm) ≡ baseOf (m .cache)
   unfolding baseOf
   written-base i nvm l e =
       getD-writtenBack i (m .cache) nvm 0 (image-filled z (length nvm) l) ∙ split (eqb i 0) (λ t. rw t) (λ t. rw t e)
 
   pub shape-writtenBack : (i : ℕ) → Shape z (withNvm m (writtenBack i (m .cache) (m .nvm)))
-  shape-writtenBack i = shape-nvm (writtenBack i (m .cache) (m .nvm)) (length-writtenBack i (m .cache) (m .nvm)) (written-base i (m .nvm) (s .in-nvm) (s .base))
+  shape-writtenBack i =
+      shape-nvm (writtenBack i (m .cache) (m .nvm)) (length-writtenBack i (m .cache) (m .nvm)) (end-written z i (m .cache) (m .nvm) (s .tail .cache))
+      (written-base i (m .nvm) (s .in-nvm) (s .base))
 
   -- ---- a drain
   drained-base : (L : ℕ) → baseOf (drainedNvm L (m .flags) (m .cache) (m .nvm)) ≡ baseOf (m .cache)
@@ -98,8 +107,9 @@ module _ (z : Sizes) (m : Machine) (s : Shape z m) where
         record {
           sizes = s .sizes;
           in-cache = s .in-cache;
-          in-nvm = length-drainedNvm L (m .flags) (m .cache) (m .nvm) ∙ s .in-nvm;
-          in-flags = length-drainedFlags L (m .flags) ∙ s .in-flags;
+          in-nvm = rw (length-drainedNvm L (m .flags) (m .cache) (m .nvm)) (s .in-nvm);
+          in-flags = rw (length-drainedFlags L (m .flags)) (s .in-flags);
+          tail = tail-drained z m (s .in-cache) (s .in-nvm) (s .in-flags) (s .tail) L;
           lanes = as-many (lane-drained z L m inside .lanes) (s .lanes);
           clock = s .clock;
           even = s .even;
@@ -107,17 +117,18 @@ module _ (z : Sizes) (m : Machine) (s : Shape z m) where
           base = drained-base L;
         }
 
-    -- ---- cached stores past the base
-    pub shape-changed : (xs : List Store) (r : Record) → All (λ x. 1 ≤ x .at) xs → z.lanes ≤ length (r .lanes) → m .state .clock ≤ r .clock → r .clock % 2 ≡ 0
-        → Shape z (changed L xs r m)
+    -- ---- cached stores past the base and before the end
+    pub shape-changed : (xs : List Store) (r : Record) → All (λ x. 1 ≤ x .at) xs → All (λ x. x .at < formerLength z) xs → z.lanes ≤ length (r .lanes)
+        → m .state .clock ≤ r .clock → r .clock % 2 ≡ 0 → Shape z (changed L xs r m)
     unfolding changed
-    shape-changed xs r past l up even =
+    shape-changed xs r past within l up even =
         let b = stored-base (m .cache) past in
         record {
           sizes = s .sizes;
-          in-cache = length-stored xs (m .cache) ∙ s .in-cache;
+          in-cache = rw (length-stored xs (m .cache)) (s .in-cache);
           in-nvm = s .in-nvm;
-          in-flags = length-flushAll L (places xs) (m .flags) ∙ s .in-flags;
+          in-flags = rw (length-flushAll L (places xs) (m .flags)) (s .in-flags);
+          tail = tail-changed z m (s .in-cache) (s .in-nvm) (s .in-flags) (s .tail) L r within;
           lanes = l;
           clock = even;
           even = rw b (s .even);
@@ -131,6 +142,8 @@ module _ (z : Sizes) (m : Machine) (s : Shape z m) where
         shape-changed (appendStores (logStart z L) z.slots (m .state .clock + 2) (cursorOf (laneAt (m .state) L)) ws) _
         (All-map (λ x i. le-trans (let e : 1 ≤ 1 + z.words = omega arith in e) (inside-late z L (x .at) i))
         (append-inside z L lane (omega arith) (m .state .clock + 2) (cursorOf (laneAt (m .state) L)) ws next))
+        (All-map (λ x i. le-trans (i .1) (log-fits z L lane))
+        (append-inside z L lane (omega arith) (m .state .clock + 2) (cursorOf (laneAt (m .state) L)) ws next))
         (as-many (lane-appended z L m inside ws phase redo .lanes) (s .lanes)) (omega arith) (omega (arith, s .clock))
 
     -- a commit's stores: data words, and the value word of a slot
@@ -138,10 +151,19 @@ module _ (z : Sizes) (m : Machine) (s : Shape z m) where
     unfolding commitStores restampStore
     commit-past ps low = All-append (All-map (λ x h. h .0) (pairs-data z.words low)) (more (let e : 1 ≤ _ + 1 = omega arith in e) none)
 
-    pub shape-committed : (ps : List Pair) → All (λ p. p .word < z.words) ps → Shape z (committed z L ps m)
+    commit-within : (ps : List Pair) → All (λ p. p .word < z.words) ps → (x : Logged) → laneAt (m .state) L .phase ≡ Holds x
+        → circular z.slots (x .first + x .count) < z.slots → All (λ y. y .at < formerLength z) (commitStores z L ps m)
+    unfolding commitStores restampStore loggedIn logStart
+    commit-within ps low x held slot =
+        rw held
+        (All-append (All-map (λ y h. let f = log-fits z L lane in omega (arith, h .1)) (pairs-data z.words low))
+        (more (let f = log-fits z L lane in omega arith) none))
+
+    pub shape-committed : (ps : List Pair) → All (λ p. p .word < z.words) ps → (x : Logged) → laneAt (m .state) L .phase ≡ Holds x
+        → circular z.slots (x .first + x .count) < z.slots → Shape z (committed z L ps m)
     unfolding committed changed withLane withClock withLast
-    shape-committed ps low =
-        shape-changed (commitStores z L ps m) _ (commit-past ps low)
+    shape-committed ps low x held slot =
+        shape-changed (commitStores z L ps m) _ (commit-past ps low) (commit-within ps low x held slot)
         (as-many (lane-committed z L m inside ps .lanes) (s .lanes)) (omega arith) (omega (arith, s .clock))
 
     pub shape-released : Shape z (released L m)
@@ -152,6 +174,7 @@ module _ (z : Sizes) (m : Machine) (s : Shape z m) where
           in-cache = s .in-cache;
           in-nvm = s .in-nvm;
           in-flags = s .in-flags;
+          tail = record { form = s .tail .form; cache = s .tail .cache; flags = s .tail .flags };
           lanes = as-many (lane-released z L m inside .lanes) (s .lanes);
           clock = s .clock;
           even = s .even;

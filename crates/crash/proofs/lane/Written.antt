@@ -10,7 +10,7 @@ use lib.ListN.{length, getD, set, replicate}
 use Rattle.laws.specs.inner.Lists.{All, none, more, All-map, All-rest}
 use Rattle.txn.specs.Txn.{maxWrites}
 use Rattle.txn.specs.declared.Write.{Write}
-use Rattle.image.specs.Image.{imageLength, logStart, logOf}
+use Rattle.image.specs.Image.{formerLength, logStart, logOf}
 use Rattle.image.specs.inner.ImageLaws.{InRange}
 use Rattle.image.specs.Stores.{stored}
 use Rattle.image.specs.declared.Sizes.{Sizes}
@@ -85,7 +85,7 @@ rest-falls (onto a f) = f
 
 -- ---- an append and a commit, in an image
 module _ (z : Sizes) (r : InRange z) (L : ℕ) (lane : L < z.lanes) (base clock : ℕ) (low : base ≤ clock)
-    (even : clock % 2 ≡ 0) (image : List ℕ) (len : length image ≡ imageLength z) where
+    (even : clock % 2 ≡ 0) (image : List ℕ) (len : formerLength z ≤ length image) where
   low-olds : (ws : List Write) → All (λ w. w .word < z.words) ws → All (λ e. e .word < z.words) (oldsOf ws)
   unfolding oldsOf
   low-olds [] none = none

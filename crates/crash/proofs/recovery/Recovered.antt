@@ -7,7 +7,7 @@ use native.Mathlib.Omega.{arith}
 use lib.ListN.{length, getD}
 use Rattle.laws.specs.inner.Tests.{split, clash}
 use Rattle.txn.specs.Txn.{after}
-use Rattle.image.specs.Image.{imageLength, dataOf}
+use Rattle.image.specs.Image.{formerLength, dataOf}
 use Rattle.image.specs.declared.Sizes.{Sizes}
 use Rattle.log.specs.Log.{Complete}
 use Rattle.log.specs.declared.Timestamp.the-variants.{None, At}
@@ -23,7 +23,7 @@ use Rattle.recovery.specs.inner.FreshLaws.{recovered-words, recovered-none}
 -- ---- what is found
 -- the cut cells c against the start words and the commits, where the boundary is b
 pub record CutAt (z : Sizes) (c start : List ℕ) (cs : List Commit) (b : ℕ) : Type 0 where
-  pub size : length c ≡ imageLength z
+  pub size : formerLength z ≤ length c
   pub words : length start ≡ z.words
   pub bound : boundary z c ≡ At b
   pub order : Rising cs
@@ -46,7 +46,7 @@ module _ (z : Sizes) (c start : List ℕ) (cs : List Commit) (b : ℕ) (k : CutA
 
 -- ---- with a boundary or without
 pub data Shows (z : Sizes) (c start : List ℕ) (cs : List Commit) : Type 0 where
-  plain : length c ≡ imageLength z → boundary z c ≡ None → dataOf z c ≡ replay z.words None cs start → Shows z c start cs
+  plain : formerLength z ≤ length c → boundary z c ≡ None → dataOf z c ≡ replay z.words None cs start → Shows z c start cs
   cut : (b : ℕ) → CutAt z c start cs b → Shows z c start cs
 
 pub recovered-right : (z : Sizes) (c start : List ℕ) (cs : List Commit) → Shows z c start cs
@@ -89,7 +89,7 @@ word-rest z c start cs b w (same e) n = e
 word-rest z c start cs b w (named q i l t) n = clash (writes (q .entries) w) t (n q i l)
 
 -- so, in these terms
-pub cut-at : (z : Sizes) (c start : List ℕ) (cs : List Commit) (b : ℕ) → length c ≡ imageLength z → length start ≡ z.words → boundary z c ≡ At b → Rising cs
+pub cut-at : (z : Sizes) (c start : List ℕ) (cs : List Commit) (b : ℕ) → formerLength z ≤ length c → length start ≡ z.words → boundary z c ≡ At b → Rising cs
     → ((w : ℕ) → w < z.words → (q : Complete) → In q (completeOf z c z.lanes) → b ≤ q .stamp
     → OldIn w (valueBelow z.words w start cs) (completeOf z c z.lanes) q)
     → Backed z.words b (completeOf z c z.lanes) start cs

@@ -1,37 +1,70 @@
--- The call of recovery: never refused on an even base, and, however often it is cut short, it leads to the image of the cut cells. Assumes nothing.
+-- Recovery, by the call that fits the image: never refused on an even base, and, however often it is cut short, it leads to the image of the cut cells.
+-- Assumes nothing.
 use mathlib.Core.Path.{_≡_, refl, ap, _∙_, sym}
 use mathlib.Core.Logic.{_⊎_, inl, inr}
 use mathlib.Core.Bool.{true, false}
-use mathlib.Core.List.{List, _++_}
-use Prim.Native.Nat.{ℕ, _%_}
+use mathlib.Core.List.{List, [], _++_}
+use Prim.Native.Nat.{ℕ, _%_, _≤_}
 use native.Mathlib.Omega.{arith}
 use lib.ListN.{length, take, replicate, length-append, length-replicate}
 use lib.Seq.{take-all, length-take-le}
-use borrow.Author.Tests.{ne-eqb, leb-true}
+use borrow.Author.Tests.{eq-eqb, ne-eqb, eqb-false, leb-true, not-false}
 use Rattle.laws.specs.inner.Tests.{split}
-use Rattle.image.specs.Image.{imageLength, buffersOk, baseOf}
-use Rattle.image.specs.inner.ImageLaws.{image-filled}
+use Rattle.laws.specs.inner.Lists.{All-take}
+use Rattle.image.specs.Image.{sizesOk, formerLength, trailer, imageLength, baseOf}
+use Rattle.image.specs.inner.ImageLaws.{image-filled, all-good, former-in, former-good}
 use Rattle.image.specs.Stores.{stored}
 use Rattle.image.specs.inner.StoresLaws.{length-stored}
 use Rattle.image.specs.declared.Sizes.{Sizes}
 use Rattle.store.specs.Machine.{Machine, firstCause}
-use Rattle.store.specs.Calls.{badBuffers, started}
-use Rattle.recovery.specs.Recovery.{boundary, undoStores, newBase, tornIn, recoveryStores, recoveredNvm, oddBase, recoverRefusal, allMade}
-use Rattle.recovery.specs.Recovery.{Restarted, recoverStep}
+use Rattle.store.specs.Calls.{started}
+use Rattle.store.specs.inner.StoreLaws.{first-none}
+use Rattle.recovery.specs.Recovery.{boundary, undoStores, newBase, tornIn, recoveryStores, recoveredNvm, allMade, Restarted, recoveredBy}
+use Rattle.recovery.specs.Recovery.{oddBase, recoverRefusal, recoverStep, recoverReadRefusal, recoverReadStep}
 use Rattle.recovery.specs.declared.Finished.{Finished}
 use Rattle.recovery.specs.declared.Recovered.the-variants as Recovered
 use Rattle.recovery.specs.declared.Recovered.the-variants.{Cut}
-use Rattle.crash.specs.Events.{fitted}
-use Rattle.crash.specs.Theorem.{recoveryAnswer}
+use Rattle.crash.specs.Events.{vandzulge, isFormer, recoveryOf, cutShortOf, fitted}
+use Rattle.crash.specs.Theorem.{endOf, recoveryAnswer}
 use Rattle.recovery.specs.inner.SequenceLaws.{newBase-even}
 use Rattle.recovery.specs.inner.AgainLaws.{recoveredImage, cut-base, recovered-again}
-use Rattle.recovery.specs.inner.FreshLaws.{recovered-base}
+use Rattle.recovery.specs.inner.FreshLaws.{stores-within, recovered-base}
+use Rattle.crash.proofs.lane.Ends.{Form, end-stored, end-none, end-sized, end-sizes, end-ok}
 
--- ---- not refused
-pub recover-taken : (z : Sizes) (m : Machine) → buffersOk z (length (m .cache)) (length (m .nvm)) (length (m .flags)) ≡ true → baseOf (m .nvm) % 2 ≡ 0
-    → recoverRefusal z m ≡ 0
-unfolding recoverRefusal firstCause badBuffers oddBase
-recover-taken z m h e = rw (h, ne-eqb (baseOf (m .nvm) % 2) 1 (λ p. omega arith))
+-- an image with a trailer is not of the former length
+pub not-former : (z : Sizes) (image : List ℕ) → formerLength z ≤ length image → endOf z image ≡ trailer z → length image ≡ formerLength z → ⊥
+unfolding imageLength
+not-former z image size e n = omega (arith, end-sized z image size e)
+
+-- ---- not refused, by the call that fits
+module _ (z : Sizes) (ok : sizesOk z ≡ true) (m : Machine) (size : formerLength z ≤ length (m .nvm))
+    (cache : length (m .cache) ≡ length (m .nvm)) (flags : length (m .flags) ≡ length (m .nvm)) (even : baseOf (m .nvm) % 2 ≡ 0) where
+  former-taken : endOf z (m .nvm) ≡ [] → recoverRefusal z m ≡ 0
+  unfolding recoverRefusal firstCause oddBase
+  former-taken e =
+      let n = end-none z (m .nvm) size e in
+      rw (former-good z _ _ _ ok (record { in-cache = cache ∙ n; in-nvm = n; in-flags = flags ∙ n }), ne-eqb (baseOf (m .nvm) % 2) 1 (λ p. omega arith))
+
+  read-taken : endOf z (m .nvm) ≡ trailer z → recoverReadRefusal m ≡ 0
+  unfolding recoverReadRefusal firstCause oddBase
+  read-taken e =
+      rw (
+        all-good _ _ _ _ (record { in-cache = cache; in-nvm = refl; in-flags = flags }),
+        end-ok z (m .nvm) size e ok,
+        ne-eqb (baseOf (m .nvm) % 2) 1 (λ p. omega arith),
+      )
+
+  pub recovery-taken : (limit : ℕ) → Form z (endOf z (m .nvm)) → recoveryOf vandzulge z limit m ≡ recoveredBy z limit 0 m
+  unfolding recoveryOf isFormer vandzulge recoverStep recoverReadStep
+  recovery-taken limit (inl e) = rw (eq-eqb (length (m .nvm)) (formerLength z) (end-none z (m .nvm) size e), former-taken e)
+  recovery-taken limit (inr e) =
+      rw (ne-eqb (length (m .nvm)) (formerLength z) (not-former z (m .nvm) size e), end-sizes z (m .nvm) size e, read-taken e)
+
+-- and what a recovery that power cuts short leaves is what the call would
+pub cut-taken : (z : Sizes) (n : ℕ) (nvm : List ℕ) → formerLength z ≤ length nvm → Form z (endOf z nvm) → cutShortOf vandzulge z n nvm ≡ recoveredNvm z n nvm
+unfolding cutShortOf isFormer vandzulge
+cut-taken z n nvm size (inl e) = rw (eq-eqb (length nvm) (formerLength z) (end-none z nvm size e))
+cut-taken z n nvm size (inr e) = rw (ne-eqb (length nvm) (formerLength z) (not-former z nvm size e), end-sizes z nvm size e)
 
 pub length-fitted : (n : ℕ) (l : List ℕ) → length (fitted n l) ≡ n
 unfolding fitted
@@ -46,31 +79,39 @@ pub length-recoveredNvm : (z : Sizes) (k : ℕ) (nvm : List ℕ) → length (rec
 unfolding recoveredNvm
 length-recoveredNvm z k nvm = length-stored (take k (recoveryStores z nvm)) nvm
 
-pub recoveredNvm-even : (z : Sizes) (k : ℕ) (nvm : List ℕ) → length nvm ≡ imageLength z → baseOf nvm % 2 ≡ 0 → baseOf (recoveredNvm z k nvm) % 2 ≡ 0
+pub recoveredNvm-even : (z : Sizes) (k : ℕ) (nvm : List ℕ) → formerLength z ≤ length nvm → baseOf nvm % 2 ≡ 0 → baseOf (recoveredNvm z k nvm) % 2 ≡ 0
 recoveredNvm-even z k nvm s h = go (cut-base z nvm (image-filled z (length nvm) s) k)
   where
     go : (baseOf (recoveredNvm z k nvm) ≡ baseOf nvm) ⊎ (baseOf (recoveredNvm z k nvm) ≡ newBase z nvm) → baseOf (recoveredNvm z k nvm) % 2 ≡ 0
     go (inl e) = rw e h
     go (inr e) = rw e (newBase-even z nvm h)
 
+-- the end stays
+pub cut-end : (z : Sizes) (k : ℕ) (nvm : List ℕ) → endOf z (recoveredNvm z k nvm) ≡ endOf z nvm
+unfolding recoveredNvm
+cut-end z k nvm = end-stored z nvm (All-take k (stores-within z nvm))
+
+pub recovered-end : (z : Sizes) (nvm : List ℕ) → endOf z (recoveredImage z nvm) ≡ endOf z nvm
+recovered-end z nvm = end-stored z nvm (stores-within z nvm)
+
 -- ---- what the call leaves
-pub finished-step : (z : Sizes) (limit : ℕ) (m : Machine) → recoverRefusal z m ≡ 0 → allMade z limit (m .nvm) ≡ true
-    → recoverStep z limit m
+pub finished-step : (z : Sizes) (limit : ℕ) (m : Machine) → allMade z limit (m .nvm) ≡ true
+    → recoveredBy z limit 0 m
     ≡ record {
       answer = Recovered.Finished (record { boundary = boundary z (m .nvm); undone = length (undoStores z (m .nvm)); torn = tornIn z (m .nvm) });
-      machine = started z (baseOf (recoveredImage z (m .nvm))) (recoveredImage z (m .nvm));
+      machine = started (baseOf (recoveredImage z (m .nvm))) (recoveredImage z (m .nvm));
     }
-unfolding recoverStep
-finished-step z limit m r e = rw (r, e, made-all z limit (m .nvm) e)
+unfolding recoveredBy
+finished-step z limit m e = rw (e, made-all z limit (m .nvm) e)
 
-pub cut-step : (z : Sizes) (limit : ℕ) (m : Machine) → recoverRefusal z m ≡ 0 → allMade z limit (m .nvm) ≡ false
-    → recoverStep z limit m
+pub cut-step : (z : Sizes) (limit : ℕ) (m : Machine) → allMade z limit (m .nvm) ≡ false
+    → recoveredBy z limit 0 m
     ≡ record { answer = Cut; machine = record { state = m .state; cache = m .cache; nvm = recoveredNvm z limit (m .nvm); flags = m .flags } }
-unfolding recoverStep
-cut-step z limit m r e = rw (r, e)
+unfolding recoveredBy
+cut-step z limit m e = rw e
 
 -- the answer is the one that the theorem gives
-answer-finished : (z : Sizes) (limit : ℕ) (nvm : List ℕ) → allMade z limit nvm ≡ true
+pub answer-finished : (z : Sizes) (limit : ℕ) (nvm : List ℕ) → allMade z limit nvm ≡ true
     → Recovered.Finished (record { boundary = boundary z nvm; undone = length (undoStores z nvm); torn = tornIn z nvm }) ≡ recoveryAnswer z limit nvm
 unfolding recoveryAnswer
 answer-finished z limit nvm e = rw e
@@ -82,27 +123,27 @@ answer-cut z limit nvm e = rw e
 -- ---- any number of recoveries cut short
 -- these cells lead to the image that a recovery of the cut cells leaves
 pub record Leads (z : Sizes) (nvm found : List ℕ) : Type 0 where
-  pub size : length nvm ≡ imageLength z
+  pub size : formerLength z ≤ length nvm
   pub even : baseOf nvm % 2 ≡ 0
   pub same : recoveredImage z nvm ≡ recoveredImage z found
 
-pub leads-self : (z : Sizes) (found : List ℕ) → length found ≡ imageLength z → baseOf found % 2 ≡ 0 → Leads z found found
+pub leads-self : (z : Sizes) (found : List ℕ) → formerLength z ≤ length found → baseOf found % 2 ≡ 0 → Leads z found found
 leads-self z found s e = record { size = s; even = e; same = refl }
 
 module _ (z : Sizes) {nvm found : List ℕ} (l : Leads z nvm found) where
   pub leads-cut : (k : ℕ) → Leads z (recoveredNvm z k nvm) found
   leads-cut k =
       record {
-        size = length-recoveredNvm z k nvm ∙ l .size;
+        size = rw (length-recoveredNvm z k nvm) (l .size);
         even = recoveredNvm-even z k nvm (l .size) (l .even);
         same = recovered-again z nvm (image-filled z (length nvm) (l .size)) k ∙ l .same;
       }
 
-  pub leads-length : length found ≡ imageLength z
-  leads-length = sym (length-stored (recoveryStores z found) found) ∙ sym (ap length (l .same)) ∙ length-stored (recoveryStores z nvm) nvm ∙ l .size
+  pub leads-length : length found ≡ length nvm
+  leads-length = sym (length-stored (recoveryStores z found) found) ∙ sym (ap length (l .same)) ∙ length-stored (recoveryStores z nvm) nvm
 
   pub leads-base : baseOf (recoveredImage z nvm) ≡ newBase z found
-  leads-base = ap baseOf (l .same) ∙ recovered-base z found leads-length
+  leads-base = ap baseOf (l .same) ∙ recovered-base z found (rw leads-length (l .size))
 
 -- the call on cells that lead there: cut short, or the start from the image of the cut cells
 pub data Restarts (z : Sizes) (limit : ℕ) (found : List ℕ) (m : Machine) : Restarted → Type 0 where
@@ -110,11 +151,29 @@ pub data Restarts (z : Sizes) (limit : ℕ) (found : List ℕ) (m : Machine) : R
       → Restarts z limit found m
       (record { answer = Cut; machine = record { state = m .state; cache = m .cache; nvm = recoveredNvm z limit (m .nvm); flags = m .flags } })
   finished : {a : Finished} → Recovered.Finished a ≡ recoveryAnswer z limit (m .nvm)
-      → Restarts z limit found m (record { answer = Recovered.Finished a; machine = started z (newBase z found) (recoveredImage z found) })
+      → Restarts z limit found m (record { answer = Recovered.Finished a; machine = started (newBase z found) (recoveredImage z found) })
 
-pub restarts : (z : Sizes) (limit : ℕ) {found : List ℕ} (m : Machine) → Leads z (m .nvm) found → recoverRefusal z m ≡ 0
-    → Restarts z limit found m (recoverStep z limit m)
-restarts z limit {found} m l r =
+pub restarts : (z : Sizes) (limit : ℕ) {found : List ℕ} (m : Machine) → Leads z (m .nvm) found → Restarts z limit found m (recoveredBy z limit 0 m)
+restarts z limit {found} m l =
     split (allMade z limit (m .nvm))
-    (λ e. rw (finished-step z limit m r e, leads-base z l, l .same) (finished (answer-finished z limit (m .nvm) e)))
-    (λ e. rw (cut-step z limit m r e) (short (answer-cut z limit (m .nvm) e) (leads-cut z l limit)))
+    (λ e. rw (finished-step z limit m e, leads-base z l, l .same) (finished (answer-finished z limit (m .nvm) e)))
+    (λ e. rw (cut-step z limit m e) (short (answer-cut z limit (m .nvm) e) (leads-cut z l limit)))
+
+-- ---- a recovery of an image of the former length, whatever it holds
+pub former-known : (z : Sizes) (m : Machine) → recoverRefusal z m ≡ 0
+    → (sizesOk z ≡ true) × (length (m .nvm) ≡ formerLength z) × (baseOf (m .nvm) % 2 ≡ 0)
+unfolding recoverRefusal oddBase
+former-known z m e =
+    let c₁ = first-none _ _ (λ q. omega arith) e in
+    let c₁₀ = first-none _ _ (λ q. omega arith) (c₁ .1) in
+    let f = former-in z _ _ _ (not-false _ (c₁ .0)) in
+    (f .0, f .1 .in-nvm, omega (arith, eqb-false (baseOf (m .nvm) % 2) 1 (c₁₀ .0)))
+
+pub former-finished : (z : Sizes) (limit : ℕ) (m : Machine) → recoverRefusal z m ≡ 0 → allMade z limit (m .nvm) ≡ true → formerLength z ≤ length (m .nvm)
+    → recoverStep z limit m
+    ≡ record {
+      answer = Recovered.Finished (record { boundary = boundary z (m .nvm); undone = length (undoStores z (m .nvm)); torn = tornIn z (m .nvm) });
+      machine = started (newBase z (m .nvm)) (recoveredImage z (m .nvm));
+    }
+unfolding recoverStep
+former-finished z limit m e all size = rw (e, finished-step z limit m all, recovered-base z (m .nvm) size)

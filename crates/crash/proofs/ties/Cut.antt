@@ -11,7 +11,7 @@ use lib.Seq.{ext-getD}
 use borrow.Author.Tests.{lt-ltb, le-ltb}
 use Rattle.laws.specs.inner.Lists.{All, All-map}
 use Rattle.txn.specs.Txn.{after}
-use Rattle.image.specs.Image.{imageLength, dataOf}
+use Rattle.image.specs.Image.{formerLength, dataOf}
 use Rattle.image.specs.inner.ImageLaws.{getD-data, length-data}
 use Rattle.image.specs.declared.Sizes.{Sizes}
 use Rattle.log.specs.Log.{Complete}
@@ -56,7 +56,7 @@ module _ (W b : ℕ) (qs : List Complete) where
       (backed-all (after W (c .txn) ws) r (λ d i l w j e. f d (there i) l w j (ap (txnWrites W w (d .txn)) (later-words c d cs ws (In-All a i)) ∙ e)))
 
 module _ (z : Sizes) (base : ℕ) (m : Machine) (h : History) (k : Book z base h m) (v : Ties z base m h) where
-  size : length (m .nvm) ≡ imageLength z
+  size : formerLength z ≤ length (m .nvm)
   size = v .running .shape .in-nvm
 
   -- a cell that equals its cached word is the word of all commits
@@ -162,6 +162,7 @@ module _ (z : Sizes) (base : ℕ) (m : Machine) (h : History) (k : Book z base h
   ties-cut =
       record {
         size = size;
+        form = v .running .shape .tail .form;
         even = ap (λ n. n % 2) (v .running .shape .base) ∙ v .running .shape .even;
         shows = shows;
         floors = floors;

@@ -14,7 +14,7 @@ use borrow.Author.Tests.{leb-true, leb-false}
 use Rattle.laws.specs.inner.Tests.{split, clash}
 use Rattle.laws.specs.inner.Lists.{All, none as nil, more, All-append, All-map}
 use Rattle.txn.specs.Txn.{run}
-use Rattle.image.specs.Image.{imageLength, baseOf}
+use Rattle.image.specs.Image.{formerLength, baseOf}
 use Rattle.image.specs.Flush.{flushed, writtenBack}
 use Rattle.image.specs.inner.FlushLaws.{flushed-unflush, unflush-other, flushed-flushAll, flushAll-other}
 use Rattle.image.specs.inner.FlushLaws.{flushAll-keeps, getD-writtenBack, getD-drainedNvm, getD-drainedFlags}
@@ -131,8 +131,8 @@ track-on a b = record { here = b .here; others = λ M d. b .others M d ∙ sym (
 abbrev pub Cells : Sizes → Machine → Type 0
 Cells z m = (w : ℕ) → w < z.words → (getD (m .nvm) (1 + w) 0 ≡ getD (m .cache) (1 + w) 0) ⊎ Flushes z m w
 
-pub word-in : (z : Sizes) (w n : ℕ) → w < z.words → n ≡ imageLength z → 1 + w < n
-unfolding imageLength
+pub word-in : (z : Sizes) (w n : ℕ) → w < z.words → formerLength z ≤ n → 1 + w < n
+unfolding formerLength
 word-in z w n h e = omega arith
 
 module _ (z : Sizes) (m : Machine) (s : Shape z m) (c : Cells z m) where

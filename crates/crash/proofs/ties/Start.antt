@@ -3,12 +3,12 @@ use mathlib.Core.Path.{_≡_, refl, ap, _∙_}
 use mathlib.Core.Logic.{inl}
 use mathlib.Core.Bool.{true, false}
 use mathlib.Core.List.{List, [], _∷_}
-use Prim.Native.Nat.{ℕ, _+_, _*_, _%_, _<_}
+use Prim.Native.Nat.{ℕ, _+_, _*_, _%_, _≤_, _<_}
 use native.Mathlib.Omega.{arith}
 use lib.ListN.{length, getD, replicate, getD-replicate}
 use Rattle.laws.specs.inner.Tests.{clash}
 use Rattle.laws.specs.inner.Lists.{none as nil}
-use Rattle.image.specs.Image.{sizesOk, imageLength, baseOf, dataOf, logOf}
+use Rattle.image.specs.Image.{sizesOk, formerLength, baseOf, dataOf, logOf}
 use Rattle.image.specs.inner.ImageLaws.{sizes-in}
 use Rattle.image.specs.Flush.{flushed, writtenBack}
 use Rattle.image.specs.inner.FlushLaws.{flushed-zero}
@@ -17,7 +17,9 @@ use Rattle.store.specs.Machine.{Machine}
 use Rattle.store.specs.Calls.{started}
 use Rattle.crash.specs.History.{Commit, Page, History, blankPage, pageAt, opened}
 use Rattle.laws.specs.inner.Members.{In}
+use Rattle.crash.specs.Theorem.{endOf}
 use Rattle.crash.proofs.history.Agree.{Book}
+use Rattle.crash.proofs.lane.Ends.{Form}
 use Rattle.crash.proofs.lane.Seqs.{Seq}
 use Rattle.crash.proofs.lane.Written.{newestIn}
 use Rattle.crash.proofs.lane.Running.{startTrack, running-start, running-writtenBack}
@@ -26,15 +28,15 @@ use Rattle.crash.proofs.ties.Laws.{word-in, cells-writtenBack}
 
 -- ---- a start
 module _ (z : Sizes) (ok : sizesOk z ≡ true) (base : ℕ) (image words : List ℕ)
-    (even : base % 2 ≡ 0) (long : length image ≡ imageLength z) (at : baseOf image ≡ base)
+    (even : base % 2 ≡ 0) (long : formerLength z ≤ length image) (form : Form z (endOf z image)) (at : baseOf image ≡ base)
     (same : dataOf z image ≡ words) (blank : (L : ℕ) → L < z.lanes → logOf z L image ≡ replicate (2 * z.slots) 0) where
   page-start : (L : ℕ) → L < z.lanes → pageAt (opened z words base) L .newest ≡ newestIn []
   unfolding pageAt opened newestIn
   page-start L i = ap (λ (p : Page). p .newest) (getD-replicate z.lanes L blankPage blankPage i)
 
-  unflushed : (L w : ℕ) → w < z.words → flushed L (getD (started z base image .flags) (1 + w) 0) ≡ false
+  unflushed : (L w : ℕ) → w < z.words → flushed L (getD (started base image .flags) (1 + w) 0) ≡ false
   unfolding started
-  unflushed L w i = ap (flushed L) (getD-replicate (imageLength z) (1 + w) 0 0 (word-in z w (imageLength z) i refl)) ∙ flushed-zero L
+  unflushed L w i = ap (flushed L) (getD-replicate (length image) (1 + w) 0 0 (word-in z w (length image) i long)) ∙ flushed-zero L
 
   none-in : {A : Type 0} {c : Commit} → In c [] → A
   none-in i = elim i [ ]
@@ -42,12 +44,12 @@ module _ (z : Sizes) (ok : sizesOk z ≡ true) (base : ℕ) (image words : List 
   no-more : {A : Type 0} {g : Seq} {gs : List Seq} → _≡_ {A = List Seq} [] (g ∷ gs) → A
   no-more e = absurd (omega (arith, ap length e))
 
-  pub ties-starts : Ties z base (started z base image) (opened z words base)
+  pub ties-starts : Ties z base (started base image) (opened z words base)
   unfolding started opened
   ties-starts =
       record {
         ts = startTrack z image;
-        running = running-start z (sizes-in z ok) base image even long at blank;
+        running = running-start z (sizes-in z ok) base image even long form at blank;
         at-base = at;
         newest = page-start;
         entries = λ L i x e g gs q. no-more q;
@@ -61,9 +63,9 @@ module _ (z : Sizes) (ok : sizesOk z ≡ true) (base : ℕ) (image words : List 
       }
 
 -- ---- a write-back
-pub ties-writes : (z : Sizes) (base : ℕ) (m : Machine) (h : History) (i : ℕ) → Book z base h m → Ties z base m h → i < imageLength z
+pub ties-writes : (z : Sizes) (base : ℕ) (m : Machine) (h : History) (i : ℕ) → Book z base h m → Ties z base m h
     → Ties z base (record { state = m .state; cache = m .cache; nvm = writtenBack i (m .cache) (m .nvm); flags = m .flags }) h
-ties-writes z base m h i b t l =
+ties-writes z base m h i b t =
     record {
       ts = t .ts;
       running = running-writtenBack z m (t .ts) (t .running) i;

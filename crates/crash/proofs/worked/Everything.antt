@@ -19,7 +19,8 @@ unfoldable pub everything : ℕ
 unfolding slots.entryOf slots.stampOf slots.entryShape slots.stampShape slots.wholeOf slots.readOf
     txns.instructionAt txns.instructionsFrom txns.instructions txns.setOk txns.copyOk txns.addOk txns.pokeOk txns.skipOk txns.instructionOk
     txns.instructionBy txns.allBy txns.txnBy txns.target txns.result txns.emit txns.passed txns.applied txns.runFrom txns.run txns.after
-    images.sizesOk images.imageLength images.buffersOk images.baseOf images.dataOf images.logStart images.logOf
+    images.sizesOk images.formerLength images.trailer images.imageLength images.allAre images.formatOk images.formerOk images.buffersOk images.sizesAtEnd
+    images.trailerOk images.baseOf images.dataOf images.logStart images.logOf
     flushes.flushed flushes.flush flushes.unflush flushes.flushAll flushes.writtenBack flushes.drainedNvm flushes.drainedFlags
     stores.stored stores.places
     logs.slotAt logs.back logs.backWrap logs.entryIn logs.entriesBack logs.closes logs.completeBelow logs.completeIn logs.sequenceOf logs.later
@@ -38,15 +39,15 @@ unfolding slots.entryOf slots.stampOf slots.entryShape slots.stampShape slots.wh
     recoveries.boundaryBelow recoveries.boundary recoveries.completeOf recoveries.atOrAbove recoveries.undoneBefore recoveries.insert
     recoveries.ordered recoveries.undoneFrom recoveries.undone recoveries.undoEntries recoveries.undoSequences recoveries.undoStores
     recoveries.wholeStamp recoveries.greatestBelow recoveries.greatestOf recoveries.newBase recoveries.oneIfTorn recoveries.tornBelow recoveries.tornOf
-    recoveries.tornIn recoveries.zeros recoveries.recoveryStores recoveries.recoveredNvm recoveries.oddBase recoveries.recoverRefusal
-    recoveries.allMade recoveries.recoverStep recoveries.told
-    events.nvmOf events.laneOf events.callStep events.vandzulge events.isTaken events.fitted events.fit events.partlyDrained events.bare
-    events.foundOr events.afterStep events.afterFormat events.recoveredSystem events.afterRecovery events.afterFailure events.notOffered
-    events.happens
+    recoveries.tornIn recoveries.zeros recoveries.recoveryStores recoveries.recoveredNvm recoveries.allMade recoveries.recoveredBy
+    recoveries.oddBase recoveries.recoverRefusal recoveries.recoverStep recoveries.recoverReadRefusal recoveries.recoverReadStep recoveries.told
+    events.nvmOf events.laneOf events.callStep events.vandzulge events.isTaken events.isFormer events.recoveryOf events.cutShortOf events.fitted events.fit
+    events.partlyDrained events.bare events.foundOr events.afterStep events.afterFormat events.recoveredSystem events.afterRecovery
+    events.afterFailure events.notOffered events.happens
     histories.pageAt histories.opened histories.isBelow histories.replay histories.wordsBelow histories.floorOr histories.settled histories.stamped
     histories.released histories.isSome histories.heldBy histories.isCounted histories.taken histories.restarted histories.afterCall
     histories.afterRecovered histories.fedAnswer histories.fedFailure histories.fed histories.leastFloorOf histories.present histories.writesNow
     histories.writesLogged histories.sameOlds histories.isAbove histories.commitAbove histories.holdsOne histories.notHeld histories.clockSpent
     histories.causesBy histories.slotsBy histories.takenAnswer
-    theorems.isFull theorems.refusalBy theorems.answerBy theorems.recoveryAnswer
+    theorems.endOf theorems.isFull theorems.refusalBy theorems.answerBy theorems.recoveryAnswer theorems.mayStore
 everything = 0

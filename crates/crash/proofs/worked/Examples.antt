@@ -3,17 +3,24 @@ use Prim.Native.Nat.{ℕ, zero, suc}
 use mathlib.Core.Path.{_≡_, refl}
 use mathlib.Core.Bool.{true, false}
 use mathlib.Core.List.{List, [], _∷_, _++_}
+use lib.ListN.{replicate}
 use Rattle.txn.specs.Txn.{former}
 use Rattle.image.specs.Image.{dataOf}
 use Rattle.image.specs.declared.Sizes.{Sizes}
 use Rattle.log.specs.declared.Timestamp.the-variants.{None, At}
+use Rattle.store.specs.Machine.{Machine}
 use Rattle.store.specs.Calls.{started, startImage}
 use Rattle.record.specs.Record.{noLane, laneAt}
 use Rattle.record.specs.declared.Lane.{Lane}
 use Rattle.store.specs.declared.Answer.the-variants.{Refused, Done, Logged, Committed, Stale, Changed, Marked}
+use Rattle.recovery.specs.Recovery.{Restarted, recoverStep, recoverReadStep}
+use Rattle.recovery.specs.declared.Recovered.{Recovered}
+use Rattle.recovery.specs.declared.Recovered.the-variants as recovereds
 use Rattle.recovery.specs.declared.Recovered.the-variants.{Cut, Finished}
-use Rattle.crash.specs.Events.{logBy, log, redo, validateBy, validate, mark, drain, Event, call, writeBack, recover, fails, failsInDrain, failsAfterDrain}
+use Rattle.crash.specs.Events.{logBy, log, redo, validateBy, validate, mark, drain}
+use Rattle.crash.specs.Events.{Event, format, call, writeBack, recover, fails, failsInDrain, failsAfterDrain}
 use Rattle.crash.specs.Events.{failsInRecovery, System, live, down, Reply, answered, recovered, failed, vandzulge, happens}
+use Rattle.crash.specs.Theorem.{endOf}
 use Rattle.crash.proofs.worked.Everything.{everything}
 use Rattle.crash.proofs.worked.Worked.{small, junk, set0, copy, poke, pokePassed, writeBacks, twoLanes}
 
@@ -42,7 +49,7 @@ laneIn L (down nvm j found) = noLane
 
 -- a start with these data words; both are 0 at first
 abbrev begunWith : List ℕ → System
-begunWith start = live (started small 0 (startImage small start))
+begunWith start = live (started 0 (startImage small start))
 
 abbrev begun : System
 begun = begunWith (0 ∷ 0 ∷ [])
@@ -308,3 +315,76 @@ poke-validated : replies small (begunWith (3 ∷ 0 ∷ []))
     ∷ []
 unfolding everything replies
 poke-validated = refl
+
+-- ---- the trailer
+-- the last words of cells and cache after a commit, a cut and a recovery without sizes, and the flags of these words: as Format left them
+unfoldable endsIn : Sizes → System → List ℕ
+endsIn z (live m) = endOf z (m .nvm) ++ (endOf z (m .cache) ++ endOf z (m .flags))
+endsIn z (down nvm j found) = endOf z nvm
+
+trailer-kept : endsIn small (afterAll small begun (twoLanes ++ (writeBacks 0 143 ++ (fails junk ∷ recover 1000 junk ∷ []))))
+    ≡ 2 ∷ 2 ∷ 34 ∷ 139 ∷ 2 ∷ 2 ∷ 34 ∷ 139 ∷ 0 ∷ 0 ∷ 0 ∷ 0 ∷ []
+unfolding everything afterAll writeBacks endsIn
+trailer-kept = refl
+
+-- a write-back of its last word is taken, one of the word past it refused
+trailer-written : replies small begun (writeBack 142 ∷ writeBack 143 ∷ []) ≡ answered Done ∷ answered (Refused 4) ∷ []
+unfolding everything replies
+trailer-written = refl
+
+-- such an image is not recovered with its sizes given
+unfoldable answeredBy : Restarted → Recovered
+answeredBy r = r .answer
+
+trailer-given : answeredBy (recoverStep small 1000 (started 0 (startImage small (0 ∷ 0 ∷ [])))) ≡ recovereds.Refused 1
+unfolding everything answeredBy
+trailer-given = refl
+
+-- ---- an image of the former length: 139 words, base 4, both data words 5, empty logs
+abbrev former139 : Machine
+former139 = started 4 (4 ∷ 5 ∷ 5 ∷ replicate 136 0)
+
+former-taken : answeredBy (recoverStep small 1000 former139) ≡ Finished (record { boundary = None; undone = 0; torn = 0 })
+unfolding everything answeredBy
+former-taken = refl
+
+-- without sizes it is refused: its last words tell none
+former-unread : answeredBy (recoverReadStep 1000 former139) ≡ recovereds.Refused 14
+unfolding everything answeredBy
+former-unread = refl
+
+-- from there on it works as any, but Format is refused; a cut with the commit at 8 written back, and it is undone
+abbrev formerList : List Event
+formerList = call (log 0 (set0 2)) ∷ call (redo 0) ∷ format (0 ∷ 0 ∷ []) ∷ writeBack 138 ∷ writeBack 139 ∷ []
+
+abbrev formerBegun : System
+formerBegun = live (recoverStep small 1000 former139 .machine)
+
+former-works : replies small formerBegun formerList
+    ≡ answered (Logged (record { count = 1; stamp = 6 })) ∷ answered (Committed 8) ∷ answered (Refused 1) ∷ answered Done ∷ answered (Refused 4) ∷ []
+unfolding everything replies
+former-works = refl
+
+abbrev formerCut : System
+formerCut = afterAll small formerBegun (formerList ++ (writeBacks 0 139 ++ (fails junk ∷ [])))
+
+former-recovers : replies small formerCut (recover 1000 junk ∷ []) ≡ recovered (Finished (record { boundary = At 8; undone = 1; torn = 0 })) ∷ []
+unfolding everything replies afterAll writeBacks
+former-recovers = refl
+
+former-words : wordsIn small (afterAll small formerCut (recover 1000 junk ∷ [])) ≡ 5 ∷ 5 ∷ []
+unfolding everything afterAll writeBacks wordsIn
+former-words = refl
+
+-- ---- one image, two readings: 75 words are an image of the former length of six data words, one lane and 34 slots, and also one with a trailer of two
+-- data words, one lane and 34 slots, if its last four words, two torn slots of the one's log, are 2, 1, 34, 71. The call that is used decides
+abbrev lookalike : Machine
+lookalike = started 0 (replicate 71 0 ++ (2 ∷ 1 ∷ 34 ∷ 71 ∷ []))
+
+read-given : answeredBy (recoverStep (record { words = 6; lanes = 1; slots = 34 }) 1000 lookalike) ≡ Finished (record { boundary = None; undone = 0; torn = 2 })
+unfolding everything answeredBy
+read-given = refl
+
+read-told : answeredBy (recoverReadStep 1000 lookalike) ≡ Finished (record { boundary = None; undone = 0; torn = 0 })
+unfolding everything answeredBy
+read-told = refl

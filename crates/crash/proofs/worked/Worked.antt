@@ -4,7 +4,7 @@ use mathlib.Core.List.{List, [], _∷_, _++_}
 use Rattle.image.specs.declared.Sizes.{Sizes}
 use Rattle.crash.specs.Events.{log, redo, validate, Junk, Event, writeBack, call}
 
--- two data words and two lanes of 34 slots: an image of 139 words
+-- two data words and two lanes of 34 slots: an image of 139 words, and the four of its trailer
 abbrev pub small : Sizes
 small = record { words = 2; lanes = 2; slots = 34 }
 

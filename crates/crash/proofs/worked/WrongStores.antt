@@ -1,38 +1,43 @@
 -- Wrong stores, and for each a list of events at whose end the crash theorem is false of it:
 -- the traps of this design, and stores that do too little or too much. Assumes nothing.
-use Prim.Native.Nat.{ℕ, zero, suc, _+_, _*_}
+use Prim.Native.Nat.{ℕ, zero, suc, _+_, _-_, _*_}
 use mathlib.Core.Path.{refl}
 use mathlib.Core.Bool.{Bool, false, cond, _&&_, _||_}
 use mathlib.Core.List.{List, [], _∷_, _++_}
 use lib.Dec.{eqb, leb, ltb}
-use lib.ListN.{length, getD, set, take, drop}
+use lib.ListN.{length, getD, set, take, drop, replicate}
 use Rattle.txn.specs.Txn.{Instruction, instructions, Rule, former, emit, passed, applied}
-use Rattle.image.specs.Image.{dataOf, logStart, baseOf}
+use Rattle.image.specs.Image.{formerLength, imageLength, sizesAtEnd, trailerOk, dataOf, logStart, baseOf}
+use Rattle.image.specs.Flush.{flushAll}
 use Rattle.image.specs.Stores.{Store, stored}
 use Rattle.image.specs.declared.Sizes.{Sizes}
 use Rattle.log.specs.Log.{Old, Complete}
 use Rattle.log.specs.Append.{circular}
 use Rattle.log.specs.declared.Timestamp.{Timestamp}
 use Rattle.log.specs.declared.Timestamp.the-variants.{None, At}
-use Rattle.record.specs.Record.{noPair, laneAt, isLogged, loggedIn, withLane}
+use Rattle.record.specs.Record.{startRecord, noPair, laneAt, isLogged, loggedIn, withLane}
 use Rattle.record.specs.declared.Lane.{Lane}
 use Rattle.store.specs.Machine.{Machine, Step, said}
-use Rattle.store.specs.Calls.{started, drained, writesOn, logged, formatStep, writeBackStep, logRefusalBy, logStepBy, redoStep, validateStepBy, markStep}
+use Rattle.store.specs.Calls.{startImage, started, drained, writesOn, logged}
+use Rattle.store.specs.Calls.{formatStep, writeBackStep, logRefusalBy, logStepBy, redoStep, validateStepBy, markStep}
 use Rattle.store.specs.declared.Answer.the-variants.{Refused, Logged, Stale}
-use Rattle.recovery.specs.Recovery.{completeOf, ordered, undone, undoSequences, undoStores, newBase, tornIn, zeros, recoverStep, recoveredNvm, Restarted}
+use Rattle.recovery.specs.Recovery.{completeOf, ordered, undone, undoSequences, undoStores, newBase, tornIn, zeros, recoveredNvm, Restarted}
+use Rattle.recovery.specs.Recovery.{recoveredBy, recoverStep, recoverReadStep}
 use Rattle.recovery.specs.declared.Finished.{Finished}
 use Rattle.recovery.specs.declared.Recovered.{Recovered}
 use Rattle.recovery.specs.declared.Recovered.the-variants as recovereds
 use Rattle.crash.specs.Events.{Call, logBy, log, redo, validateBy, validate, mark, drain, Event, format, writeBack, call, recover, fails, failsInDrain}
 use Rattle.crash.specs.Events.{Design, callStep}
-use Rattle.crash.specs.Theorem.{CrashTheorem}
+use Rattle.crash.specs.Theorem.{CrashTheorem, FormerTheorem, TrailerTheorem}
 use Rattle.crash.proofs.worked.Worked.{small, junk, set0, copy, poke, pokePassed, writeBacks, twoLanes}
-use Rattle.crash.proofs.worked.Refute.{wrong-words, wrong-clock, wrong-answer, wrong-count, wrong-recovery, refuting}
+use Rattle.crash.proofs.worked.Refute.{wrong-words, wrong-end, wrong-clock, wrong-answer, wrong-count, wrong-recovery}
+use Rattle.crash.proofs.worked.Refute.{wrong-former, wrong-trailer, refuting}
 
 -- A refutation names the store, the sizes, the start words, the events, then the last event, and two lists: the numbers that the store has at its end,
 -- and those that the theorem gives. `wrong-recovery` looks at the data words after a recovery, `wrong-count` at how many entries it says to have undone and
--- how many torn slots to have found, `wrong-words` at the cached data words, `wrong-clock` at the clock, `wrong-answer` at the number and the timestamp of
--- an answer. `refl` computes the list and sees that they differ.
+-- how many torn slots to have found, `wrong-words` at the cached data words, `wrong-end` at the trailer in cells and cache and at its flags, `wrong-clock` at
+-- the clock, `wrong-answer` at the number and the timestamp of an answer. `wrong-former` and `wrong-trailer` are of the theorems about images of the former
+-- length and about who stores to the trailer. `refl` computes the list and sees that they differ.
 
 -- ---- how a store differs from ours
 -- in its calls
@@ -40,7 +45,8 @@ abbrev Calls : Type 0
 Calls = Sizes → Call → Machine → Step
 
 unfoldable calling : Calls → Design
-calling f = record { format = formatStep; writeBack = writeBackStep; call = f; recover = recoverStep; cutShort = recoveredNvm }
+calling f =
+    record { format = formatStep; writeBack = writeBackStep; call = f; recover = recoverStep; recoverRead = recoverReadStep; cutShort = recoveredNvm }
 
 -- in one of them
 unfoldable logging : (Rule → Sizes → ℕ → List ℕ → Machine → Step) → Calls → Calls
@@ -71,12 +77,24 @@ marking f rest z (validateBy r L g) m = rest z (validateBy r L g) m
 marking f rest z (mark L) m = f z L m
 marking f rest z (drain L) m = rest z (drain L) m
 
+-- in what its Format leaves, by the machine that it was handed and the one that ours leaves
+unfoldable formatting : (Sizes → (found left : Machine) → Machine) → Design
+formatting f =
+    record {
+      format = λ z start m. let s = formatStep z start m in record { answer = s .answer; machine = f z m (s .machine) };
+      writeBack = writeBackStep;
+      call = callStep;
+      recover = recoverStep;
+      recoverRead = recoverReadStep;
+      cutShort = recoveredNvm;
+    }
+
 -- in the stores that its recovery makes
 unfoldable recoverBy : (Sizes → List ℕ → List Store) → Sizes → (limit : ℕ) → Machine → Restarted
 recoverBy stores z limit m =
     let nvm = stored (take limit (stores z (m .nvm))) (m .nvm) in
     cond (leb (length (stores z (m .nvm))) limit)
-    (record { answer = recoverStep z limit m .answer; machine = started z (baseOf nvm) nvm })
+    (record { answer = recoveredBy z limit 0 m .answer; machine = started (baseOf nvm) nvm })
     (record { answer = recovereds.Cut; machine = record { state = m .state; cache = m .cache; nvm = nvm; flags = m .flags } })
 
 unfoldable storing : (Sizes → List ℕ → List Store) → Design
@@ -86,6 +104,7 @@ storing stores =
       writeBack = writeBackStep;
       call = callStep;
       recover = recoverBy stores;
+      recoverRead = λ limit m. recoverBy stores (sizesAtEnd (m .nvm)) limit m;
       cutShort = λ z n nvm. stored (take n (stores z nvm)) nvm;
     }
 
@@ -95,13 +114,17 @@ finishedAs f (recovereds.Refused n) = recovereds.Refused n
 finishedAs f recovereds.Cut = recovereds.Cut
 finishedAs f (recovereds.Finished a) = recovereds.Finished (f a)
 
+unfoldable told-as : (Sizes → (found left : Machine) → Finished → Finished) → Sizes → Machine → Restarted → Restarted
+told-as f z m r = record { answer = finishedAs (f z m (r .machine)) (r .answer); machine = r .machine }
+
 unfoldable telling : (Sizes → (found left : Machine) → Finished → Finished) → Design
 telling f =
     record {
       format = formatStep;
       writeBack = writeBackStep;
       call = callStep;
-      recover = λ z limit m. let r = recoverStep z limit m in record { answer = finishedAs (f z m (r .machine)) (r .answer); machine = r .machine };
+      recover = λ z limit m. told-as f z m (recoverStep z limit m);
+      recoverRead = λ limit m. told-as f (sizesAtEnd (m .nvm)) m (recoverReadStep limit m);
       cutShort = recoveredNvm;
     }
 
@@ -130,14 +153,15 @@ withLaneOf L l s =
 unfoldable laneIn : ℕ → Step → Lane
 laneIn L s = laneAt (s .machine .state) L
 
--- base and data words of one image, logs of another
-unfoldable joined : Sizes → (low high : List ℕ) → List ℕ
-joined z low high = take (1 + z.words) low ++ drop (1 + z.words) high
+-- one image with the logs of another
+unfoldable joined : Sizes → (image logs : List ℕ) → List ℕ
+joined z image logs =
+    take (1 + z.words) image ++ (take (2 * z.lanes * z.slots) (drop (1 + z.words) logs) ++ drop (formerLength z) image)
 
 -- one name that opens all of this
 unfoldable made : ℕ
-unfolding refuting writeBacks calling logging redoing validating marking recoverBy storing finishedAs telling withTorn base clearing withCache withLaneOf
-    laneIn joined
+unfolding refuting writeBacks calling logging redoing validating marking formatting recoverBy storing finishedAs told-as telling withTorn base clearing
+    withCache withLaneOf laneIn joined
 made = 0
 
 -- ---- the traps
@@ -379,18 +403,7 @@ unaltering = wrong-clock unaltered small (0 ∷ 0 ∷ []) [] (call (log 0 (set0 
 -- 18. A Format that leaves the logs as they were: a sequence of before it is undone over the new start words
 unfoldable keepsLogs : Design
 keepsLogs =
-    record {
-      format = λ z start m.
-          let s = formatStep z start m .machine in
-          record {
-            answer = formatStep z start m .answer;
-            machine = record { state = s .state; cache = joined z (s .cache) (m .cache); nvm = joined z (s .nvm) (m .nvm); flags = s .flags };
-          };
-      writeBack = writeBackStep;
-      call = callStep;
-      recover = recoverStep;
-      cutShort = recoveredNvm;
-    }
+    formatting (λ z m s. record { state = s .state; cache = joined z (s .cache) (m .cache); nvm = joined z (s .nvm) (m .nvm); flags = s .flags })
 
 keeps-logs : CrashTheorem keepsLogs → ⊥
 unfolding made keepsLogs
@@ -465,3 +478,103 @@ redoRefuses =
 redo-refuses : CrashTheorem redoRefuses → ⊥
 unfolding made redoRefuses noted isNoted
 redo-refuses = wrong-answer redoRefuses small (3 ∷ 0 ∷ []) (call (logBy former 0 poke) ∷ []) (redo 0) (5 ∷ []) (0 ∷ 4 ∷ []) refl
+
+-- ---- the trailer
+-- 24. A Format that writes the trailer to the cache alone: in the cells stands what stood there
+unfoldable trailerCached : Design
+trailerCached =
+    formatting
+    (λ z m s. record { state = s .state; cache = s .cache; nvm = take (formerLength z) (s .nvm) ++ drop (formerLength z) (m .nvm); flags = s .flags })
+
+trailer-cached : CrashTheorem trailerCached → ⊥
+unfolding made trailerCached
+trailer-cached = wrong-end trailerCached small (0 ∷ 0 ∷ []) [] (fails junk) (0 ∷ 0 ∷ 0 ∷ 0 ∷ []) (2 ∷ 2 ∷ 34 ∷ 139 ∷ []) refl
+
+-- 25. To the cells alone: a write-back of its first word, word 139, stores what the cache holds there
+unfoldable trailerStored : Design
+trailerStored =
+    formatting
+    (λ z m s. record { state = s .state; cache = take (formerLength z) (s .cache) ++ drop (formerLength z) (m .cache); nvm = s .nvm; flags = s .flags })
+
+trailer-stored : CrashTheorem trailerStored → ⊥
+unfolding made trailerStored
+trailer-stored =
+    wrong-end trailerStored small (0 ∷ 0 ∷ []) (writeBack 139 ∷ []) (fails junk) (0 ∷ 2 ∷ 34 ∷ 139 ∷ []) (2 ∷ 2 ∷ 34 ∷ 139 ∷ []) refl
+
+-- 26. Recovery clears all words from the first log on, to the end of the cells
+unfoldable trailerCleared : Design
+trailerCleared = storing (λ z image. undoStores z image ++ (base z image ++ zeros (1 + z.words) (length image - (1 + z.words))))
+
+trailer-cleared : CrashTheorem trailerCleared → ⊥
+unfolding made trailerCleared
+trailer-cleared =
+    wrong-end trailerCleared small (0 ∷ 0 ∷ []) (fails junk ∷ recover 1000 junk ∷ []) (fails junk) (0 ∷ 0 ∷ 0 ∷ 0 ∷ []) (2 ∷ 2 ∷ 34 ∷ 139 ∷ []) refl
+
+-- 27. A Mark that flushes the trailer too: the lane's next drain would store to it, though only what stands there
+unfoldable trailerFlushed : Design
+trailerFlushed =
+    calling
+    (marking
+    (λ z L m.
+    let s = markStep z L m in
+    let n = formerLength z in
+    let flags = flushAll L (n ∷ (n + 1) ∷ (n + 2) ∷ (n + 3) ∷ []) (s .machine .flags) in
+    cond (said (s .answer) .refused) s
+    (record { answer = s .answer; machine = record { state = s .machine .state; cache = s .machine .cache; nvm = s .machine .nvm; flags = flags } }))
+    callStep)
+
+trailer-flushed : CrashTheorem trailerFlushed → ⊥
+unfolding made trailerFlushed
+trailer-flushed =
+    wrong-end trailerFlushed small (0 ∷ 0 ∷ []) [] (call (mark 1))
+    (2 ∷ 2 ∷ 34 ∷ 139 ∷ 2 ∷ 2 ∷ 34 ∷ 139 ∷ 2 ∷ 2 ∷ 2 ∷ 2 ∷ []) (2 ∷ 2 ∷ 34 ∷ 139 ∷ 2 ∷ 2 ∷ 34 ∷ 139 ∷ 0 ∷ 0 ∷ 0 ∷ 0 ∷ []) refl
+
+-- 28. Recovery reads the sizes from the end of the cache, in which a failure may leave anything: it is refused
+unfoldable readsCache : Design
+readsCache =
+    record {
+      format = formatStep;
+      writeBack = writeBackStep;
+      call = callStep;
+      recover = recoverStep;
+      recoverRead = λ limit m. recoveredBy (sizesAtEnd (m .cache)) limit (cond (trailerOk (m .cache)) 0 14) m;
+      cutShort = recoveredNvm;
+    }
+
+reads-cache : CrashTheorem readsCache → ⊥
+unfolding made readsCache
+reads-cache = wrong-count readsCache small (0 ∷ 0 ∷ []) (fails junk ∷ []) 1000 junk [] (0 ∷ 0 ∷ []) refl
+
+-- 29. Recovery with sizes given takes images with a trailer alone: no store that was there before could be taken over
+unfoldable takesSized : Design
+takesSized =
+    record {
+      format = formatStep;
+      writeBack = writeBackStep;
+      call = callStep;
+      recover = λ z limit m. recoveredBy z limit (cond (eqb (length (m .nvm)) (imageLength z)) 0 1) m;
+      recoverRead = recoverReadStep;
+      cutShort = recoveredNvm;
+    }
+
+takes-sized : FormerTheorem takesSized → ⊥
+unfolding made takesSized
+takes-sized =
+    wrong-former takesSized small 1000
+    (record { state = startRecord 0; cache = replicate 139 0; nvm = replicate 139 0; flags = replicate 139 0 }) [] (0 ∷ 0 ∷ []) refl
+
+-- 30. A call that writes the trailer back with its drain: that shows where the cache holds something else there
+unfoldable trailerDrained : Design
+trailerDrained =
+    calling
+    (λ z c m.
+    let s = callStep z c m in
+    let nvm = take (formerLength z) (s .machine .nvm) ++ drop (formerLength z) (s .machine .cache) in
+    record { answer = s .answer; machine = record { state = s .machine .state; cache = s .machine .cache; nvm = nvm; flags = s .machine .flags } })
+
+trailer-drained : TrailerTheorem trailerDrained → ⊥
+unfolding made trailerDrained
+trailer-drained =
+    wrong-trailer trailerDrained small
+    (record { state = startRecord 0; cache = replicate 143 0; nvm = startImage small (0 ∷ 0 ∷ []); flags = replicate 143 0 })
+    (call (drain 0)) (0 ∷ 0 ∷ 0 ∷ 0 ∷ []) (2 ∷ 2 ∷ 34 ∷ 139 ∷ []) refl

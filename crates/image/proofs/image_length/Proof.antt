@@ -1,29 +1,20 @@
--- `image::image_length` meets its contract: sizes in range keep every sum and product small. Assumes nothing.
+-- `image::image_length` meets its contract: four words more than the former length, which is small. Assumes nothing.
 use native.Mathlib.Omega.{arith}
 use borrow.Author.Needs.{needs}
 use Rattle.image.specs.Image.{imageLength}
-use Rattle.image.specs.inner.ImageLaws.{sizes-in, logs-small}
+use Rattle.image.specs.inner.ImageLaws.{sizes-in, length-small}
 use Rattle.image.proofs.image_length.Statement.{statement}
 use Rattle.image.proofs.image_length.Tie as tie
 
+former-length-requires : tie.Need-former-length-requires
+former-length-requires c κs = search needs
+
 add-result : tie.Need-add-result
-add-result c = let a = c .before in let s = sizes-in (a .args .sizes) (a .pre) in omega arith
-
-mul-result : tie.Need-mul-result
-mul-result c = let a = c .before .before in let s = sizes-in (a .args .sizes) (a .pre) in omega arith
-
-mul-result-2 : tie.Need-mul-result-2
-mul-result-2 c = let a = c .before .before .before in omega (arith, logs-small (a .args .sizes) (sizes-in (a .args .sizes) (a .pre)))
-
-add-result-2 : tie.Need-add-result-2
-add-result-2 c =
-    let a = c .before .before .before in
-    let s = sizes-in (a .args .sizes) (a .pre) in
-    omega (arith, logs-small (a .args .sizes) s)
+add-result c = omega (arith, c .former-length .ensures, length-small _ (sizes-in _ (c .before .pre)))
 
 returns : tie.Need-returns
 unfolding imageLength
-returns c = search needs
+returns c = omega (arith, c .former-length .ensures)
 
 pub image-length-spec : {M : Type 1} → statement M
-image-length-spec = tie.close (tie.spec add-result mul-result mul-result-2 add-result-2 returns)
+image-length-spec = tie.close (tie.spec former-length-requires add-result returns)

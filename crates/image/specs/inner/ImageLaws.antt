@@ -1,20 +1,21 @@
--- Inner: how the code goes, need not be believed. Laws of the sizes and of the image: ranges, where the logs stand, and a store seen in data words and
--- logs. Assumes nothing.
-use mathlib.Core.Path.{_≡_, _∙_}
+-- Inner: how the code goes, need not be believed. Laws of the sizes and of the image: ranges, lengths of buffers, where the logs stand, and a store seen in
+-- data words and logs. Assumes nothing.
+use mathlib.Core.Path.{_≡_, _∙_, refl}
 use mathlib.Core.Logic.{_≢_, _⊎_, inl, inr}
-use mathlib.Core.Bool.{true}
+use mathlib.Core.Bool.{Bool, true, false, _&&_, _||_}
 use mathlib.Core.List.{List}
 use Prim.Native.Nat.{ℕ, suc, _+_, _-_, _*_, _≤_, _<_}
 use native.Mathlib.Omega.{arith}
-use native.Mathlib.Nat.{mul-le-mul, mul-le-mul-left, add-sub-cancel-left}
+use native.Mathlib.Nat.{le-trans, mul-le-mul, mul-le-mul-left, add-sub-cancel-left}
 use lib.Dec.{leb, eqb, ltb}
-use lib.ListN.{length, getD, set, take, drop, length-take, length-drop, length-set}
-use lib.Seq.{take-set-lt, drop-set-add, getD-set-other, getD-take, getD-drop}
-use borrow.Author.Tests.{leb-true, eqb-true, ltb-true, ltb-false, eq-eqb}
+use lib.ListN.{length, getD, set, take, drop, length-drop, length-set}
+use lib.Seq.{take-set-lt, drop-set-add, getD-set-other, getD-take, getD-drop, length-take-le}
+use borrow.Author.Tests.{leb-true, le-leb, lt-leb, eqb-true, ltb-true, ltb-false, eq-eqb, ne-eqb}
 use Rattle.laws.specs.inner.Tests.{split, and-left, and-right}
 use Rattle.laws.specs.inner.Lists.{stretch-same}
-use Rattle.image.specs.Image.{maxWords, maxLanes, minSlots, maxSlots, maxImage}
-use Rattle.image.specs.Image.{sizesOk, imageLength, buffersOk, dataOf, logStart, logOf}
+use Rattle.image.specs.Image.{maxWords, maxLanes, minSlots, maxSlots, maxFormer, maxImage}
+use Rattle.image.specs.Image.{sizesOk, formerLength, imageLength, allAre, formatOk, formerOk, buffersOk}
+use Rattle.image.specs.Image.{sizesAtEnd, trailerOk, dataOf, logStart, logOf}
 use Rattle.image.specs.inner.Facts.{IsImage, IsLog}
 use Rattle.image.specs.declared.Sizes.{Sizes}
 
@@ -47,50 +48,143 @@ sizes-in z e =
 pub logs-small : (z : Sizes) → InRange z → 2 * z.lanes * z.slots ≤ 2 * maxLanes * maxSlots
 logs-small z s = mul-le-mul {n₁ = 2 * z.lanes} {m₁ = z.slots} {n₂ = 2 * maxLanes} {m₂ = maxSlots} (omega arith) (s .slots-high)
 
-pub length-small : (z : Sizes) → InRange z → imageLength z ≤ maxImage
-unfolding imageLength
+pub length-small : (z : Sizes) → InRange z → formerLength z ≤ maxFormer
+unfolding formerLength
 length-small z s = omega (arith, logs-small z s)
 
 -- the log of a lane ends within the image
-pub log-fits : (z : Sizes) (L : ℕ) → L < z.lanes → logStart z L + 2 * z.slots ≤ imageLength z
-unfolding logStart imageLength
+pub log-fits : (z : Sizes) (L : ℕ) → L < z.lanes → logStart z L + 2 * z.slots ≤ formerLength z
+unfolding logStart formerLength
 log-fits z L h = omega (arith, mul-le-mul-left (2 * z.slots) h)
 
 -- the logs before that of a lane have at most as many words as all
 pub logs-before-small : (z : Sizes) (L : ℕ) → InRange z → L < z.lanes → 2 * z.slots * L ≤ 2 * maxLanes * maxSlots
-unfolding logStart imageLength
+unfolding logStart formerLength
 logs-before-small z L s h = omega (arith, log-fits z L h, logs-small z s)
 
--- three buffers as long as an image of these sizes
+-- ---- three buffers of n words
+pub record AllAre (n cache nvm flags : ℕ) : Type 0 where
+  pub in-cache : cache ≡ n
+  pub in-nvm : nvm ≡ n
+  pub in-flags : flags ≡ n
+
+pub all-in : (n cache nvm flags : ℕ) → allAre n cache nvm flags ≡ true → AllAre n cache nvm flags
+unfolding allAre
+all-in n cache nvm flags e =
+    let c = and-right (eqb cache n) _ e in
+    record {
+      in-cache = eqb-true _ _ (and-left (eqb cache n) _ e);
+      in-nvm = eqb-true _ _ (and-left (eqb nvm n) (eqb flags n) c);
+      in-flags = eqb-true _ _ (and-right (eqb nvm n) (eqb flags n) c);
+    }
+
+pub all-good : (n cache nvm flags : ℕ) → AllAre n cache nvm flags → allAre n cache nvm flags ≡ true
+unfolding allAre
+all-good n cache nvm flags a = rw (eq-eqb cache n (a .in-cache), eq-eqb nvm n (a .in-nvm), eq-eqb flags n (a .in-flags))
+
+-- as long as an image of these sizes, without a trailer or with it
 pub record Buffers (z : Sizes) (cache nvm flags : ℕ) : Type 0 where
   pub sizes-ok : sizesOk z ≡ true
   pub sizes : InRange z
-  pub in-cache : cache ≡ imageLength z
-  pub in-nvm : nvm ≡ imageLength z
-  pub in-flags : flags ≡ imageLength z
+  pub fits : formerLength z ≤ cache
+  pub small : cache ≤ maxImage
+  pub same-nvm : nvm ≡ cache
+  pub same-flags : flags ≡ cache
 
-pub buffers-in : (z : Sizes) (cache nvm flags : ℕ) → buffersOk z cache nvm flags ≡ true → Buffers z cache nvm flags
-unfolding buffersOk
-buffers-in z cache nvm flags e =
-    let a = and-left (sizesOk z) _ e in
-    let b = and-right (sizesOk z) _ e in
-    let c = and-right (eqb cache (imageLength z)) _ b in
-    record {
-      sizes-ok = a;
-      sizes = sizes-in z a;
-      in-cache = eqb-true _ _ (and-left (eqb cache (imageLength z)) _ b);
-      in-nvm = eqb-true _ _ (and-left (eqb nvm (imageLength z)) (eqb flags (imageLength z)) c);
-      in-flags = eqb-true _ _ (and-right (eqb nvm (imageLength z)) (eqb flags (imageLength z)) c);
-    }
+module _ (z : Sizes) (cache nvm flags : ℕ) where
+  long-buffers : (n : ℕ) → sizesOk z ≡ true → formerLength z ≤ n → n ≤ formerLength z + 4 → AllAre n cache nvm flags → Buffers z cache nvm flags
+  long-buffers n s low high a =
+      record {
+        sizes-ok = s;
+        sizes = sizes-in z s;
+        fits = omega (arith, a .in-cache);
+        small = omega (arith, a .in-cache, length-small z (sizes-in z s));
+        same-nvm = omega (arith, a .in-cache, a .in-nvm);
+        same-flags = omega (arith, a .in-cache, a .in-flags);
+      }
 
-pub buffers-good : (z : Sizes) (cache nvm flags : ℕ) → sizesOk z ≡ true → cache ≡ imageLength z → nvm ≡ imageLength z → flags ≡ imageLength z
-    → buffersOk z cache nvm flags ≡ true
-unfolding buffersOk
-buffers-good z cache nvm flags s a b c = rw (s, eq-eqb cache (imageLength z) a, eq-eqb nvm (imageLength z) b, eq-eqb flags (imageLength z) c)
+  -- with a trailer
+  pub format-in : formatOk z cache nvm flags ≡ true → (sizesOk z ≡ true) × AllAre (imageLength z) cache nvm flags
+  unfolding formatOk
+  format-in e = (and-left (sizesOk z) _ e, all-in _ _ _ _ (and-right (sizesOk z) _ e))
+
+  pub format-buffers : formatOk z cache nvm flags ≡ true → Buffers z cache nvm flags
+  unfolding imageLength
+  format-buffers e = let a = format-in e in long-buffers _ (a .0) (omega arith) (omega arith) (a .1)
+
+  -- without
+  pub former-in : formerOk z cache nvm flags ≡ true → (sizesOk z ≡ true) × AllAre (formerLength z) cache nvm flags
+  unfolding formerOk
+  former-in e = (and-left (sizesOk z) _ e, all-in _ _ _ _ (and-right (sizesOk z) _ e))
+
+  pub former-buffers : formerOk z cache nvm flags ≡ true → Buffers z cache nvm flags
+  former-buffers e = let a = former-in e in long-buffers _ (a .0) (omega arith) (omega arith) (a .1)
+
+  -- either
+  pub either : buffersOk z cache nvm flags ≡ true → (formatOk z cache nvm flags ≡ true) ⊎ (formerOk z cache nvm flags ≡ true)
+  unfolding buffersOk formatOk formerOk
+  either e = go (sizesOk z) (allAre (imageLength z) cache nvm flags) (allAre (formerLength z) cache nvm flags) e
+    where
+      go : (s a b : Bool) → (s && (a || b)) ≡ true → ((s && a) ≡ true) ⊎ ((s && b) ≡ true)
+      go true true b e = inl refl
+      go true false b e = inr e
+      go false a b e = inl e
+
+  pub buffers-in : buffersOk z cache nvm flags ≡ true → Buffers z cache nvm flags
+  buffers-in e = elim (either e) [ inl f ↦ format-buffers f | inr f ↦ former-buffers f ]
+
+  pub format-either : formatOk z cache nvm flags ≡ true → buffersOk z cache nvm flags ≡ true
+  unfolding buffersOk formatOk
+  format-either e = rw (and-left (sizesOk z) _ e, and-right (sizesOk z) _ e)
+
+  pub former-either : formerOk z cache nvm flags ≡ true → buffersOk z cache nvm flags ≡ true
+  unfolding buffersOk formerOk
+  former-either e =
+      rw (and-left (sizesOk z) _ e, and-right (sizesOk z) _ e) (or-true (allAre (imageLength z) cache nvm flags))
+    where
+      or-true : (b : Bool) → (b || true) ≡ true
+      or-true true = refl
+      or-true false = refl
+
+  pub format-good : sizesOk z ≡ true → AllAre (imageLength z) cache nvm flags → formatOk z cache nvm flags ≡ true
+  unfolding formatOk
+  format-good s a = rw (s, all-good _ _ _ _ a)
+
+  pub former-good : sizesOk z ≡ true → AllAre (formerLength z) cache nvm flags → formerOk z cache nvm flags ≡ true
+  unfolding formerOk
+  former-good s a = rw (s, all-good _ _ _ _ a)
+
+-- ---- the trailer, as it is tested
+module _ (image : List ℕ) where
+  pub trailer-short : length image < 4 → false ≡ trailerOk image
+  unfolding trailerOk
+  trailer-short h = rw (lt-leb 4 (length image) h)
+
+  module _ (h : 4 ≤ length image) where
+    pub trailer-sizes : sizesOk (sizesAtEnd image) ≡ false → false ≡ trailerOk image
+    unfolding trailerOk
+    trailer-sizes e = rw (le-leb 4 (length image) h, e)
+
+    module _ (s : sizesOk (sizesAtEnd image) ≡ true) (k : ℕ) (e : k ≡ formerLength (sizesAtEnd image)) where
+      pub trailer-fourth : (getD image (length image - 1) 0 ≡ k → ⊥) → false ≡ trailerOk image
+      unfolding trailerOk
+      trailer-fourth d = rw (le-leb 4 (length image) h, s, ← e, ne-eqb _ _ d)
+
+      pub trailer-long : getD image (length image - 1) 0 ≡ k → (n : ℕ) → n ≡ imageLength (sizesAtEnd image) → eqb (length image) n ≡ trailerOk image
+      unfolding trailerOk
+      trailer-long f n g = rw (le-leb 4 (length image) h, s, ← e, eq-eqb _ _ f, g)
+
+  -- and what is known where it is right
+  pub trailer-in : trailerOk image ≡ true → (sizesOk (sizesAtEnd image) ≡ true) × (length image ≡ imageLength (sizesAtEnd image))
+  unfolding trailerOk
+  trailer-in e =
+      let a = and-right (leb 4 (length image)) _ e in
+      let b = and-right (sizesOk (sizesAtEnd image)) _ a in
+      (and-left (sizesOk (sizesAtEnd image)) _ a, eqb-true _ _ (and-right (eqb (getD image (length image - 1) 0) (formerLength (sizesAtEnd image))) _ b))
 
 -- an image has a word
-pub image-filled : (z : Sizes) (n : ℕ) → n ≡ imageLength z → 0 < n
-unfolding imageLength
+pub image-filled : (z : Sizes) (n : ℕ) → formerLength z ≤ n → 0 < n
+unfolding formerLength
 image-filled z n e = omega arith
 
 -- ---- the parts of an image
@@ -103,14 +197,14 @@ module _ (z : Sizes) where
   unfolding logOf
   getD-log L image j h = getD-take (2 * z.slots) (drop (logStart z L) image) j 0 h ∙ getD-drop (logStart z L) image j 0
 
-  pub length-data : (image : List ℕ) → length image ≡ imageLength z → length (dataOf z image) ≡ z.words
-  unfolding dataOf imageLength
-  length-data image e = length-take z.words (drop 1 image) ∙ rw (length-drop 1 image, e) (omega arith)
+  pub length-data : (image : List ℕ) → formerLength z ≤ length image → length (dataOf z image) ≡ z.words
+  unfolding dataOf formerLength
+  length-data image e = length-take-le z.words (drop 1 image) (omega (arith, length-drop 1 image))
 
-  pub length-log : (L : ℕ) (image : List ℕ) → length image ≡ imageLength z → L < z.lanes → length (logOf z L image) ≡ 2 * z.slots
+  pub length-log : (L : ℕ) (image : List ℕ) → formerLength z ≤ length image → L < z.lanes → length (logOf z L image) ≡ 2 * z.slots
   unfolding logOf
   length-log L image e h =
-      length-take (2 * z.slots) (drop (logStart z L) image) ∙ rw (length-drop (logStart z L) image, e) (omega (arith, log-fits z L h))
+      length-take-le (2 * z.slots) (drop (logStart z L) image) (omega (arith, length-drop (logStart z L) image, log-fits z L h))
 
   pub log-of : (L : ℕ) (image : List ℕ) → IsImage z image → L < z.lanes → IsLog z.slots (logOf z L image)
   log-of L image i h =
@@ -121,7 +215,7 @@ module _ (z : Sizes) where
   pub part-fits : (L : ℕ) (image : List ℕ) (start : ℕ) → IsImage z image → L < z.lanes → start ≡ logStart z L
       → (start + 2 * z.slots ≤ length image) × (length image ≤ maxImage)
   part-fits L image start i h e =
-      (rw (e, i .in-image) (log-fits z L h), rw (i .in-image) (length-small z (sizes-in z (i .sizes-ok))))
+      (rw e (le-trans (log-fits z L h) (i .in-image)), i .small)
 
   pub part-log : (L : ℕ) (image : List ℕ) (start : ℕ) → start ≡ logStart z L
       → take (start + 2 * z.slots - start) (drop start image) ≡ logOf z L image

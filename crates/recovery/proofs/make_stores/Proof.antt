@@ -2,7 +2,7 @@
 -- Assumes nothing.
 use native.Mathlib.Omega.{arith}
 use borrow.Author.Needs.{needs}
-use Rattle.image.specs.Image.{imageLength}
+use Rattle.image.specs.Image.{formerLength}
 use Rattle.recovery.specs.inner.LanesLaws.{trees-own}
 use Rattle.recovery.specs.inner.RecoveryLaws.{stores-all}
 use Rattle.recovery.proofs.make_stores.Statement.{statement}
@@ -18,7 +18,7 @@ undo-all-requires c κs =
     (search needs, (search needs, (search needs, record { trees = trees-own t; enough = rw (t .long) (search needs) })))
 
 put-requires : tie.Need-put-requires
-unfolding imageLength
+unfolding formerLength
 put-requires c κs = (search needs, omega (arith, c .before .before .before .before .before .before .before .undo-all .ensures .1 .0))
 
 clear-logs-requires : tie.Need-clear-logs-requires
@@ -26,7 +26,7 @@ clear-logs-requires c κs =
     let p = c .before .before .before in
     let u = p .before .before .before .before .before .before .before .before in
     let s = u .before .before .before .before .before .before .before .before .before .before .before .before .before .before .before in
-    (record { sizes-ok = s .pre .0 .sizes-ok; in-image = search needs }, omega (arith, p .put .ensures .0, u .undo-all .ensures .1 .0))
+    (record { sizes-ok = s .pre .0 .sizes-ok; in-image = search needs; small = search needs }, omega (arith, p .put .ensures .0, u .undo-all .ensures .1 .0))
 
 same-length : tie.Need-same-length
 same-length c = search needs

@@ -16,7 +16,7 @@ use Rattle.laws.specs.inner.Lists.{All, none as nil, more, All-take, take-past,
 use Rattle.slot.specs.Slot.{readOf, wholeOf, entryShape, stampShape}
 use Rattle.slot.specs.declared.Content.{Content}
 use Rattle.slot.specs.declared.Content.the-variants.{Empty, Torn, Entry, Stamp}
-use Rattle.image.specs.Image.{imageLength, baseOf, logStart, logOf}
+use Rattle.image.specs.Image.{formerLength, baseOf, logStart, logOf}
 use Rattle.image.specs.inner.ImageLaws.{getD-log}
 use Rattle.image.specs.Stores.{Store, stored}
 use Rattle.image.specs.inner.StoresLaws.{lastAt, length-stored, getD-stored, stored-append, stored-over, stored-again}
@@ -217,11 +217,11 @@ zeros-again at n {l} h i x =
     (λ f. ap (lastAt (zeros at n) i) (zeroing-off at (at + n) h i x (inr (ltb-false i (at + n) f)))))
 
 -- ---- some log words cleared
-all-clearing : (z : Sizes) (words : List ℕ) → All (Zeroing (1 + z.words) (imageLength z)) (clearing z words)
+all-clearing : (z : Sizes) (words : List ℕ) → All (Zeroing (1 + z.words) (formerLength z)) (clearing z words)
 unfolding clearing
 all-clearing z [] = nil
 all-clearing z (i ∷ is) =
-    split (leb (1 + z.words) i && ltb i (imageLength z))
+    split (leb (1 + z.words) i && ltb i (formerLength z))
     (λ e. rw e (more (leb-true _ _ (and-left _ _ e), ltb-true _ _ (and-right (leb (1 + z.words) i) _ e), refl) (all-clearing z is)))
     (λ e. rw e (all-clearing z is))
 
@@ -245,8 +245,8 @@ module _ (z : Sizes) (c : List ℕ) (pos : 0 < length c) where
   unfolding U
   undo-data = data-undo z c
 
-  all-zs : All (Zeroing (1 + z.words) (imageLength z)) zs
-  unfolding zs imageLength
+  all-zs : All (Zeroing (1 + z.words) (formerLength z)) zs
+  unfolding zs formerLength
   all-zs = all-zeroing (1 + z.words) (1 + z.words) (2 * z.lanes * z.slots) _ (omega arith) (omega arith)
 
   -- once the base is stored, and any zeros of log words
@@ -269,17 +269,17 @@ module _ (z : Sizes) (c : List ℕ) (pos : 0 < length c) where
   unfolding late based lastAt
   late-at l i h = getD-stored (based l) (stored U c) i (rw length-stored h)
 
-  module _ (l : List Store) (h : All (Zeroing (1 + z.words) (imageLength z)) l) where
+  module _ (l : List Store) (h : All (Zeroing (1 + z.words) (formerLength z)) l) where
     late-base : baseOf (late l) ≡ newBase z c
     unfolding baseOf
-    late-base = late-at l 0 pos ∙ zeroing-off (1 + z.words) (imageLength z) h 0 (newBase z c) (inl (omega arith))
+    late-base = late-at l 0 pos ∙ zeroing-off (1 + z.words) (formerLength z) h 0 (newBase z c) (inl (omega arith))
 
     late-word : (i : ℕ) → z.words < i → Same0 (getD (late l) i 0) (getD c i 0)
     late-word i g =
         split (ltb i (length c))
         (λ e. let b = ltb-true i (length c) e in
         rw (late-at l i b, ne-eqb 0 i (λ p. omega arith), getD-stored U c i b, off-data z.words undo-data i (getD c i 0) (inr g))
-        (zeroing-at (1 + z.words) (imageLength z) h i (getD c i 0)))
+        (zeroing-at (1 + z.words) (formerLength z) h i (getD c i 0)))
         (λ e. inr (List·getD-eq-default (late l) 0 (omega (arith, length-late l, ltb-false i (length c) e))))
 
     -- no timestamp is above the base
@@ -292,7 +292,7 @@ module _ (z : Sizes) (c : List ℕ) (pos : 0 < length c) where
 
     -- the zeros made before do not show
     late-over : (i x : ℕ) → lastAt (based zs) i (lastAt (based l) i x) ≡ lastAt (based zs) i x
-    unfolding based zs lastAt imageLength
+    unfolding based zs lastAt formerLength
     late-over i x = by (eqb 0 i) refl
       where
         by : (b : Bool) → eqb 0 i ≡ b → lastAt zs i (cond b (newBase z c) (lastAt l i (cond b (newBase z c) x))) ≡ lastAt zs i (cond b (newBase z c) x)

@@ -6,8 +6,9 @@ use Prim.Native.Nat.{ℕ, suc, _+_, _-_, _*_, _≤_, _<_}
 use native.Mathlib.Omega.{arith}
 use lib.ListN.{length, getD, take, replicate, length-append}
 use borrow.Author.Tests.{le-leb, lt-leb, ne-eqb, not-false}
-use Rattle.image.specs.Image.{buffersOk, imageLength, baseOf}
-use Rattle.image.specs.inner.ImageLaws.{Buffers, buffers-in}
+use Rattle.image.specs.Image.{baseOf, imageLength, sizesAtEnd, trailerOk}
+use Rattle.image.specs.inner.Facts.{IsImage}
+use Rattle.image.specs.inner.ImageLaws.{sizes-in, length-small, all-in, former-buffers, trailer-in}
 use Rattle.image.specs.Stores.{Store, stored}
 use Rattle.image.specs.inner.StoresLaws.{length-stored}
 use Rattle.image.specs.declared.Sizes.{Sizes}
@@ -15,11 +16,12 @@ use Rattle.log.specs.declared.Timestamp.{Timestamp}
 use Rattle.record.specs.Record.{startRecord}
 use Rattle.record.specs.declared.Record.{Record}
 use Rattle.store.specs.Machine.{Machine}
-use Rattle.store.specs.Calls.{badBuffers, started}
+use Rattle.store.specs.Calls.{started}
 use Rattle.store.specs.inner.StoreLaws.{first-none}
 use Rattle.store.specs.Interface.{machineOf}
 use Rattle.recovery.specs.declared.Recovered.the-variants.{Refused, Cut, Finished}
-use Rattle.recovery.specs.Recovery.{boundary, undoStores, newBase, tornIn, zeros, recoveryStores, recoveredNvm, recoverRefusal, allMade, recoverStep}
+use Rattle.recovery.specs.Recovery.{boundary, undoStores, newBase, tornIn, zeros, recoveryStores, recoveredNvm, allMade, recoveredBy}
+use Rattle.recovery.specs.Recovery.{recoverRefusal, recoverStep, recoverReadRefusal, recoverReadStep}
 use Rattle.recovery.specs.inner.Limit.{limited}
 use Rattle.recovery.specs.inner.LimitLaws.{limited-append, length-zeros}
 
@@ -58,30 +60,81 @@ pub recovered-long : (z : Sizes) (image : List ℕ) (limit : ℕ) (nvm : List �
 unfolding recoveredNvm
 recovered-long z image limit nvm e = ap length e ∙ length-stored (take limit (recoveryStores z image)) image
 
--- ---- the call
-pub some-word : (z : Sizes) (cache nvm flags : ℕ) → buffersOk z cache nvm flags ≡ true → 0 < nvm
+-- ---- what the calls know where they are not refused: an image, and two buffers of its length
+pub record Recoverable (z : Sizes) (cache nvm flags : List ℕ) : Type 0 where
+  pub image : IsImage z nvm
+  pub same-cache : length cache ≡ length nvm
+  pub same-flags : length flags ≡ length nvm
+
+pub recover-checked : (z : Sizes) (m : Machine) → recoverRefusal z m ≡ 0 → Recoverable z (m .cache) (m .nvm) (m .flags)
+unfolding recoverRefusal
+recover-checked z m e =
+    let b = former-buffers z _ _ _ (not-false _ (first-none _ _ (λ t. omega arith) e .0)) in
+    record {
+      image = record { sizes-ok = b .sizes-ok; in-image = rw (b .same-nvm) (b .fits); small = rw (b .same-nvm) (b .small) };
+      same-cache = sym (b .same-nvm);
+      same-flags = b .same-flags ∙ sym (b .same-nvm);
+    }
+
+-- an image with a trailer is an image of the sizes that it tells
+pub trailer-image : (image : List ℕ) → trailerOk image ≡ true → IsImage (sizesAtEnd image) image
 unfolding imageLength
-some-word z cache nvm flags e = omega (arith, buffers-in z cache nvm flags e .in-nvm)
+trailer-image image e =
+    let t = trailer-in image e in
+    let s = length-small _ (sizes-in _ (t .0)) in
+    record { sizes-ok = t .0; in-image = omega (arith, t .1); small = omega (arith, t .1, s) }
 
-pub recover-checked : (z : Sizes) (m : Machine) → recoverRefusal z m ≡ 0 → Buffers z (length (m .cache)) (length (m .nvm)) (length (m .flags))
-unfolding recoverRefusal badBuffers
-recover-checked z m e = buffers-in z _ _ _ (not-false _ (first-none _ _ (λ t. omega arith) e .0))
+pub read-long : (m : Machine) → recoverReadRefusal m ≡ 0 → 4 ≤ length (m .nvm)
+unfolding recoverReadRefusal imageLength
+read-long m e =
+    let b = first-none _ _ (λ t. omega arith) (first-none _ _ (λ t. omega arith) e .1) in
+    omega (arith, trailer-in _ (not-false _ (b .0)) .1)
 
-module _ (z : Sizes) (limit number : ℕ) (m : Machine) (e : number ≡ recoverRefusal z m) where
-  pub recover-refused : (number ≡ 0 → ⊥) → record { answer = Refused number; machine = m } ≡ recoverStep z limit m
-  unfolding recoverStep
-  recover-refused h = rw (← e, ne-eqb number 0 h)
+pub read-checked : (m : Machine) → recoverReadRefusal m ≡ 0 → Recoverable (sizesAtEnd (m .nvm)) (m .cache) (m .nvm) (m .flags)
+unfolding recoverReadRefusal
+read-checked m e =
+    let a = first-none _ _ (λ t. omega arith) e in
+    let b = first-none _ _ (λ t. omega arith) (a .1) in
+    let l = all-in _ _ _ _ (not-false _ (a .0)) in
+    record { image = trailer-image _ (not-false _ (b .0)); same-cache = l .in-cache; same-flags = l .in-flags }
 
-  module _ (h : number ≡ 0) (all : ℕ) (a : all ≡ length (recoveryStores z (m .nvm))) where
-    pub recover-cut : (nvm : List ℕ) → nvm ≡ recoveredNvm z limit (m .nvm) → limit < all
-        → record { answer = Cut; machine = machineOf (m .state) (m .cache) nvm (m .flags) } ≡ recoverStep z limit m
-    unfolding recoverStep allMade
-    recover-cut nvm n l = rw (n, ← e, h, ← a, lt-leb all limit l)
+-- ---- the outcomes of both
+-- refused, with a number that is not 0
+pub by-refused : (z : Sizes) (limit number : ℕ) (m : Machine) → (number ≡ 0 → ⊥)
+    → record { answer = Refused number; machine = m } ≡ recoveredBy z limit number m
+unfolding recoveredBy
+by-refused z limit number m h = rw (ne-eqb number 0 h)
 
-    pub recover-finished : (state : Record) (cache nvm flags : List ℕ) (b : Timestamp) (undone torn : ℕ)
-        → b ≡ boundary z (m .nvm) → undone ≡ length (undoStores z (m .nvm)) → torn ≡ tornIn z (m .nvm) → nvm ≡ recoveredNvm z limit (m .nvm)
-        → state ≡ startRecord (getD nvm 0 0) → cache ≡ nvm → flags ≡ replicate (imageLength z) 0 → all ≤ limit
-        → record { answer = Finished (record { boundary = b; undone = undone; torn = torn }); machine = machineOf state cache nvm flags }
-        ≡ recoverStep z limit m
-    unfolding recoverStep allMade started baseOf tornIn
-    recover-finished state cache nvm flags b undone torn e₁ e₂ e₀ e₃ e₄ e₅ e₆ l = rw (e₁, e₂, e₀, e₄, e₅, e₆, e₃, ← e, h, ← a, le-leb all limit l)
+module _ (z : Sizes) (limit : ℕ) (m : Machine) (all : ℕ) (a : all ≡ length (recoveryStores z (m .nvm))) where
+  pub by-cut : (nvm : List ℕ) → nvm ≡ recoveredNvm z limit (m .nvm) → limit < all
+      → record { answer = Cut; machine = machineOf (m .state) (m .cache) nvm (m .flags) } ≡ recoveredBy z limit 0 m
+  unfolding recoveredBy allMade
+  by-cut nvm n l = rw (n, ← a, lt-leb all limit l)
+
+  pub by-finished : (state : Record) (cache nvm flags : List ℕ) (b : Timestamp) (undone torn : ℕ)
+      → b ≡ boundary z (m .nvm) → undone ≡ length (undoStores z (m .nvm)) → torn ≡ tornIn z (m .nvm) → nvm ≡ recoveredNvm z limit (m .nvm)
+      → state ≡ startRecord (getD nvm 0 0) → cache ≡ nvm → flags ≡ replicate (length nvm) 0 → all ≤ limit
+      → record { answer = Finished (record { boundary = b; undone = undone; torn = torn }); machine = machineOf state cache nvm flags }
+      ≡ recoveredBy z limit 0 m
+  unfolding recoveredBy allMade started baseOf tornIn
+  by-finished state cache nvm flags b undone torn e₁ e₂ e₀ e₃ e₄ e₅ e₆ l = rw (e₁, e₂, e₀, e₄, e₅, e₆, e₃, ← a, le-leb all limit l)
+
+-- ---- as each call says it
+pub recover-refused : (z : Sizes) (limit number : ℕ) (m : Machine) → number ≡ recoverRefusal z m → (number ≡ 0 → ⊥)
+    → record { answer = Refused number; machine = m } ≡ recoverStep z limit m
+unfolding recoverStep
+recover-refused z limit number m e h = rw (← e) (by-refused z limit number m h)
+
+pub recover-taken : (z : Sizes) (limit : ℕ) (m : Machine) → recoverRefusal z m ≡ 0 → recoveredBy z limit 0 m ≡ recoverStep z limit m
+unfolding recoverStep
+recover-taken z limit m e = rw e
+
+pub read-refused : (limit number : ℕ) (m : Machine) → number ≡ recoverReadRefusal m → (number ≡ 0 → ⊥)
+    → record { answer = Refused number; machine = m } ≡ recoverReadStep limit m
+unfolding recoverReadStep
+read-refused limit number m e h = rw (← e) (by-refused (sizesAtEnd (m .nvm)) limit number m h)
+
+pub read-taken : (z : Sizes) (limit : ℕ) (m : Machine) → z ≡ sizesAtEnd (m .nvm) → recoverReadRefusal m ≡ 0
+    → recoveredBy z limit 0 m ≡ recoverReadStep limit m
+unfolding recoverReadStep
+read-taken z limit m s e = rw (s, e)

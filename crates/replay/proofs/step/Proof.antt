@@ -1,4 +1,4 @@
--- `step` is safe, and does not pass the end of the input: an op ends within it. The parts of the buffers are as long as the image. Assumes nothing.
+-- `step` is safe, and does not pass the end of the input: an op ends within it. The parts of the buffers are as long as the op is given. Assumes nothing.
 use native.Mathlib.Omega.{arith}
 use lib.ListN.{length-take}
 use borrow.Author.Needs.{needs}
@@ -23,23 +23,23 @@ op-length-requires c κs = search needs
 returns : tie.Need-returns
 returns c = search needs
 
+shared-slice-read-code : tie.Need-shared-slice-read-code
+shared-slice-read-code c = search needs
+
+sub-words : tie.Need-sub-words
+sub-words c = search needs
+
+part-words-start : tie.Need-part-words-start
+part-words-start c = search needs
+
+part-words-end : tie.Need-part-words-end
+part-words-end c = search needs
+
 lent-requires : tie.Need-lent-requires
 lent-requires c κs = search needs
 
-shared-slice-read-perform : tie.Need-shared-slice-read-perform
-shared-slice-read-perform c = search needs
-
-sub-perform : tie.Need-sub-perform
-sub-perform c = search needs
-
-part-perform-start : tie.Need-part-perform-start
-part-perform-start c = search needs
-
-part-perform-end : tie.Need-part-perform-end
-part-perform-end c = search needs
-
-add-t12 : tie.Need-add-t12
-add-t12 c = search needs
+add-t17 : tie.Need-add-t17
+add-t17 c = search needs
 
 slice-relend-prefix-perform : tie.Need-slice-relend-prefix-perform
 slice-relend-prefix-perform c = search needs
@@ -77,7 +77,7 @@ returns-2 c = search needs
 pub step-spec : {M : Type 1} → statement M
 step-spec =
     tie.close
-    (tie.spec mul-rest sub-rest part-rest-start part-rest-end op-length-requires returns lent-requires
-    shared-slice-read-perform sub-perform part-perform-start part-perform-end add-t12 slice-relend-prefix-perform
+    (tie.spec mul-rest sub-rest part-rest-start part-rest-end op-length-requires returns shared-slice-read-code
+    sub-words part-words-start part-words-end lent-requires add-t17 slice-relend-prefix-perform
     slice-aggregate-perform slice-relend-prefix-perform-2 slice-aggregate-perform-2 slice-relend-prefix-perform-3
     slice-aggregate-perform-3 perform-requires same-length same-length-2 same-length-3 returns-2)

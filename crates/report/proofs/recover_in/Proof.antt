@@ -1,27 +1,24 @@
--- `report::recover_in` meets its contract: the image decoded is the one that the report is about, and recovery's step on it is recovery's answer.
+-- `report::recover_in` meets its contract: each arm is that of its place of the sizes.
 -- Assumes nothing.
 use borrow.Author.Needs.{needs}
-use Rattle.report.specs.Report.{noLimit}
-use Rattle.report.specs.inner.ReadingLaws.{read-sized, read-long}
-use Rattle.report.specs.inner.PrintingLaws.{put-same}
-use Rattle.report.specs.inner.ReportLaws.{report-recovered}
 use Rattle.report.proofs.recover_in.Statement.{statement}
 use Rattle.report.proofs.recover_in.Tie as tie
 
-decode-requires : tie.Need-decode-requires
-decode-requires c κs =
-    let s = c .before .before .before .before .before .before in
-    read-long _ _ (s .pre .0 .well) (s .pre .0 .sizes) _ (s .pre .1 .0 .in-nvm)
+enum-told : tie.Need-enum-told
+enum-told c = search needs
 
-recover-requires : tie.Need-recover-requires
-recover-requires c κs = search needs
+recover-given-requires : tie.Need-recover-given-requires
+recover-given-requires c κs =
+    let e = c .before .before .before .before in
+    rw (e .enum-told .given .1) at (e .before .before .before .before .before .before .before .pre)
 
-put-answer-requires : tie.Need-put-answer-requires
-put-answer-requires c κs =
-    let r = c .before .before .before .before .before .before .before .before in
-    let d = r .before .before .before .before .before .before in
-    let s = d .before .before .before .before .before .before .before in
-    (record { sizes-ok = read-sized _ _ (s .pre .0 .well) (s .pre .0 .sizes); in-image = search needs }, s .pre .1 .1)
+enum-told-2 : tie.Need-enum-told-2
+enum-told-2 c = search needs
+
+recover-told-requires : tie.Need-recover-told-requires
+recover-told-requires c κs =
+    let e = c .before .before .before .before in
+    rw (e .enum-told2 .given .1) at (e .before .before .before .before .before .before .before .pre)
 
 same-length : tie.Need-same-length
 same-length c = search needs
@@ -36,21 +33,29 @@ same-length-4 : tie.Need-same-length-4
 same-length-4 c = search needs
 
 returns : tie.Need-returns
-unfolding noLimit
 returns c =
-    let a = c .before .before in
-    let r = a .before .before .before .before .before .before .before .before .before in
-    let d = r .before .before .before .before .before .before in
-    let s = d .before .before .before .before .before .before .before in
-    let i = s .pre .0 in
-    let b = s .pre .1 .0 in
-    put-same
-    (report-recovered _ _ _ _ _ (r .recover .result) _ _ _ _ (i .well) (i .sizes) (b .no-cache) (d .decode .ensures) (b .in-nvm) (b .no-flags)
-    (r .recover .ensures))
-    (a .put-answer .ensures)
+    let r = c .before .before .before .before .before .before .before .before in
+    rw (r .before .before .before .before .before .enum-told .given .1) (r .recover-given .ensures)
+
+same-length-5 : tie.Need-same-length-5
+same-length-5 c = search needs
+
+same-length-6 : tie.Need-same-length-6
+same-length-6 c = search needs
+
+same-length-7 : tie.Need-same-length-7
+same-length-7 c = search needs
+
+same-length-8 : tie.Need-same-length-8
+same-length-8 c = search needs
+
+returns-2 : tie.Need-returns-2
+returns-2 c =
+    let r = c .before .before .before .before .before .before .before .before in
+    rw (r .before .before .before .before .before .enum-told2 .given .1) (r .recover-told .ensures)
 
 pub recover-in-spec : {M : Type 1} → statement M
 recover-in-spec =
     tie.close
-    (tie.spec decode-requires recover-requires put-answer-requires same-length same-length-2 same-length-3 same-length-4
-    returns)
+    (tie.spec enum-told recover-given-requires enum-told-2 recover-told-requires same-length same-length-2 same-length-3
+    same-length-4 returns same-length-5 same-length-6 same-length-7 same-length-8 returns-2)

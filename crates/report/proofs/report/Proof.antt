@@ -1,32 +1,17 @@
--- `report::report` meets its contract: nothing where there is no room, a refusal where the input is not well formed, and otherwise what recovery on blank
+-- `report::report` meets its contract: nothing where there is no room, a refusal where the input is refused, and otherwise what recovery on blank
 -- buffers prints. Assumes nothing.
-use Prim.Native.Nat.{_≤_}
-use mathlib.Core.Path.{_≡_, refl, sym, _∙_}
-use mathlib.Core.Bool.{true}
+use mathlib.Core.Path.{refl, sym, _∙_}
 use native.Mathlib.Omega.{arith}
-use borrow.Author.Tests.{not-true, not-false}
 use borrow.Author.Needs.{needs}
-use Rattle.image.specs.Image.{maxImage}
-use Rattle.image.specs.inner.ImageLaws.{sizes-in, length-small}
-use Rattle.report.specs.Report.{wellFormed}
-use Rattle.report.specs.inner.ReadingLaws.{well-long, read-sized}
-use Rattle.report.specs.inner.ReportLaws.{report-refused, printed-none, printed-all, blank-part, blank-room, blank-long, put-counts, put-shows, put-keeps}
+use Rattle.report.specs.inner.ReportLaws.{report-refused, printed-none, printed-all, blank-part, blank-long, put-counts, put-shows, put-keeps}
 use Rattle.report.proofs.report.Statement.{statement}
 use Rattle.report.proofs.report.Tie as tie
 
-well : (c : tie.Else2) → wellFormed (c .before .before .before .before .before .args .input .now) ≡ true
-well c = sym (c .before .well-formed .ensures) ∙ not-false _ (c .if2 .left)
-
-small : (c : tie.After-image-length) → c .image-length .result ≤ maxImage
-small c =
-    let s = c .before in
-    omega (arith, c .image-length .ensures, length-small _ (sizes-in _ (read-sized _ _ (well (s .before)) (s .sizes-in .ensures))))
-
 returns : tie.Need-returns
-returns c = (search needs, (printed-none _ _ (c .if1 .taken), refl))
+returns c = (search needs, (printed-none _ _ _ (c .if1 .taken), refl))
 
-well-formed-requires : tie.Need-well-formed-requires
-well-formed-requires c κs = search needs
+refusal-requires : tie.Need-refusal-requires
+refusal-requires c κs = search needs
 
 put-refused-requires : tie.Need-put-refused-requires
 put-refused-requires c κs = search needs
@@ -41,17 +26,13 @@ returns-2 c =
     let w = t .before in (
       put-counts p,
       (
-        put-shows p ∙ report-refused _ (sym (w .well-formed .ensures) ∙ not-true _ (t .if2 .taken))
-            ∙ printed-all _ _ (omega (arith, w .before .if1 .left)),
+        put-shows p ∙ report-refused _ _ _ (w .refusal .ensures) (t .if2 .taken) ∙ printed-all _ _ _ (omega (arith, w .before .if1 .left)),
         put-keeps p,
       ),
     )
 
-sizes-in-requires : tie.Need-sizes-in-requires
-sizes-in-requires c κs = omega (arith, well-long _ (well c))
-
-image-length-requires : tie.Need-image-length-requires
-image-length-requires c κs = read-sized _ _ (well (c .before)) (c .sizes-in .ensures)
+image-words-requires : tie.Need-image-words-requires
+image-words-requires c κs = search needs
 
 blank-words-requires : tie.Need-blank-words-requires
 blank-words-requires c κs = search needs
@@ -63,34 +44,28 @@ blank-flags-requires : tie.Need-blank-flags-requires
 blank-flags-requires c κs = search needs
 
 array-borrow-prefix-cache : tie.Need-array-borrow-prefix-cache
-array-borrow-prefix-cache c =
-    let b = c .before .before in
-    blank-room _ _ _ (small (b .before)) (b .blank-words .ensures)
+array-borrow-prefix-cache c = search needs
 
 slice-aggregate-recover-in : tie.Need-slice-aggregate-recover-in
 slice-aggregate-recover-in c =
     let b = c .before .before .before in
-    blank-long _ _ _ (small (b .before)) (b .blank-words .ensures)
+    blank-long _ _ _ (b .before .image-words .ensures .1) (b .blank-words .ensures)
 
 array-borrow-prefix-nvm : tie.Need-array-borrow-prefix-nvm
-array-borrow-prefix-nvm c =
-    let b = c .before .before in
-    blank-room _ _ _ (small (b .before .before)) (b .blank-words2 .ensures)
+array-borrow-prefix-nvm c = search needs
 
 slice-aggregate-recover-in-2 : tie.Need-slice-aggregate-recover-in-2
 slice-aggregate-recover-in-2 c =
     let b = c .before .before .before in
-    blank-long _ _ _ (small (b .before .before)) (b .blank-words2 .ensures)
+    blank-long _ _ _ (b .before .before .image-words .ensures .1) (b .blank-words2 .ensures)
 
 array-borrow-prefix-flags : tie.Need-array-borrow-prefix-flags
-array-borrow-prefix-flags c =
-    let b = c .before .before in
-    blank-room _ _ _ (small (b .before .before .before)) (b .blank-flags .ensures)
+array-borrow-prefix-flags c = search needs
 
 slice-aggregate-recover-in-3 : tie.Need-slice-aggregate-recover-in-3
 slice-aggregate-recover-in-3 c =
     let b = c .before .before .before in
-    blank-long _ _ _ (small (b .before .before .before)) (b .blank-flags .ensures)
+    blank-long _ _ _ (b .before .before .before .image-words .ensures .1) (b .blank-flags .ensures)
 
 recover-in-requires : tie.Need-recover-in-requires
 recover-in-requires c κs =
@@ -98,15 +73,17 @@ recover-in-requires c κs =
     let v = f .before in
     let k = v .before in
     let l = k .before in
-    let e = l .before .before in (
-      record { well = well e; sizes = l .before .sizes-in .ensures },
+    let n = l .image-words .ensures in
+    let e = l .before in
+    let w = e .before in (
+      sym (w .refusal .ensures) ∙ e .if2 .left,
       (
         record {
-          no-cache = blank-part _ _ _ (small l) (k .blank-words .ensures) _ (l .image-length .ensures);
-          in-nvm = sym (blank-long _ _ _ (small l) (v .blank-words2 .ensures)) ∙ l .image-length .ensures;
-          no-flags = blank-part _ _ _ (small l) (f .blank-flags .ensures) _ (l .image-length .ensures);
+          no-cache = blank-part _ _ _ (n .1) (k .blank-words .ensures) _ (n .0);
+          in-nvm = sym (blank-long _ _ _ (n .1) (v .blank-words2 .ensures)) ∙ n .0;
+          no-flags = blank-part _ _ _ (n .1) (f .blank-flags .ensures) _ (n .0);
         },
-        omega (arith, e .before .before .if1 .left),
+        omega (arith, w .before .if1 .left),
       ),
     )
 
@@ -117,13 +94,13 @@ returns-3 : tie.Need-returns-3
 returns-3 c =
     let r = c .before .before .before .before .before in
     let p = r .recover-in .ensures in
-    let e = r .before .before .before .before .before .before .before .before .before .before in
-    (put-counts p, (put-shows p ∙ printed-all _ _ (omega (arith, e .before .before .if1 .left)), put-keeps p))
+    let e = r .before .before .before .before .before .before .before .before .before in
+    (put-counts p, (put-shows p ∙ printed-all _ _ _ (omega (arith, e .before .before .if1 .left)), put-keeps p))
 
 pub report-spec : {M : Type 1} → statement M
 report-spec =
     tie.close
-    (tie.spec returns well-formed-requires put-refused-requires same-length returns-2 sizes-in-requires
-    image-length-requires blank-words-requires blank-words-requires-2 blank-flags-requires array-borrow-prefix-cache
+    (tie.spec returns refusal-requires put-refused-requires same-length returns-2 image-words-requires
+    blank-words-requires blank-words-requires-2 blank-flags-requires array-borrow-prefix-cache
     slice-aggregate-recover-in array-borrow-prefix-nvm slice-aggregate-recover-in-2 array-borrow-prefix-flags
     slice-aggregate-recover-in-3 recover-in-requires same-length-2 returns-3)

@@ -1,15 +1,38 @@
 -- `report::report_input` meets its contract: the output buffer has room for any report, so what is printed is the report of the bytes that were read.
 -- Assumes nothing.
+use Prim.Native.Nat.{_+_, _≤_}
+use mathlib.Core.Path.{sym}
+use native.Mathlib.Omega.{arith}
+use lib.ListN.{length}
+use lib.Seq.{length-take-le}
 use borrow.Author.Needs.{needs}
-use Rattle.report.specs.inner.ReportLaws.{reported}
+use Rattle.report.specs.Report.{longest}
+use Rattle.report.specs.inner.ReadingLaws.{longest-few}
+use Rattle.report.specs.inner.ReportLaws.{reported, within, taken-few}
 use Rattle.report.proofs.report_input.Statement.{statement}
 use Rattle.report.proofs.report_input.Tie as tie
+
+-- the part that is lent is one of the buffer's
+fits : (c : tie.After-taken) → c .taken .result ≤ length (c .before .input-buffer .result)
+fits c = omega (arith, c .taken .ensures, longest-few (c .before .before .args .place), c .before .input-buffer .ensures)
+
+-- no more bytes are read than that
+got : (c : tie.After-input2) → c .before .read-full .result ≤ c .before .before .before .taken .result
+got c =
+    let t = c .before .before .before in
+    omega (arith, length-take-le (t .taken .result) (t .before .input-buffer .result) (fits t))
 
 input-buffer-requires : tie.Need-input-buffer-requires
 input-buffer-requires c κs = search needs
 
+taken-requires : tie.Need-taken-requires
+taken-requires c κs = search needs
+
+array-borrow-prefix-input : tie.Need-array-borrow-prefix-input
+array-borrow-prefix-input c = fits c
+
 slice-aggregate-read-full : tie.Need-slice-aggregate-read-full
-slice-aggregate-read-full c = search needs
+slice-aggregate-read-full c = sym (length-take-le _ _ (fits (c .before)))
 
 read-full-requires : tie.Need-read-full-requires
 read-full-requires c κs = search needs
@@ -18,10 +41,14 @@ output-buffer-requires : tie.Need-output-buffer-requires
 output-buffer-requires c κs = search needs
 
 array-share-prefix-input : tie.Need-array-share-prefix-input
-array-share-prefix-input c = search needs
+array-share-prefix-input c =
+    let f = c .before .before in
+    within _ (f .read-full .last .1 .0) _ (f .read-full .ensures .0)
 
 slice-aggregate-report : tie.Need-slice-aggregate-report
-slice-aggregate-report c = search needs
+slice-aggregate-report c =
+    let f = c .before .before .before in
+    sym (length-take-le _ _ (within _ (f .read-full .last .1 .0) _ (f .read-full .ensures .0)))
 
 slice-aggregate-report-2 : tie.Need-slice-aggregate-report-2
 slice-aggregate-report-2 c = search needs
@@ -42,11 +69,14 @@ returns : tie.Need-returns
 returns c =
     let r = c .before .before .before in
     let e = r .report .ensures in
-    reported _ _ _ _ (search needs) (search needs) (e .0 .1) (e .1 .0)
+    let i = r .before .before .before .before in
+    let t = i .before .before .before in
+    let few : i .before .read-full .result ≤ longest (t .before .before .args .place) + 1 = omega (arith, got i, t .taken .ensures) in
+    reported _ _ _ _ _ (taken-few _ _ _ few) (search needs) (e .0 .1) (e .1 .0)
 
 pub report-input-spec : {M : Type 1} → statement M
 report-input-spec =
     tie.close
-    (tie.spec input-buffer-requires slice-aggregate-read-full read-full-requires output-buffer-requires
-    array-share-prefix-input slice-aggregate-report slice-aggregate-report-2 report-requires array-share-prefix-output
-    slice-aggregate-write-all write-all-requires returns)
+    (tie.spec input-buffer-requires taken-requires array-borrow-prefix-input slice-aggregate-read-full
+    read-full-requires output-buffer-requires array-share-prefix-input slice-aggregate-report slice-aggregate-report-2
+    report-requires array-share-prefix-output slice-aggregate-write-all write-all-requires returns)

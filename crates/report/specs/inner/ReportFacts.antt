@@ -1,23 +1,23 @@
 -- Inner: how the code goes, need not be believed. What the functions that read and print ask for and leave. Assumes nothing.
-use Prim.Native.Nat.{ℕ, _+_, _≤_}
+use Prim.Native.Nat.{ℕ, _+_, _/_, _≤_}
 use mathlib.Core.Path.{_≡_}
-use mathlib.Core.Bool.{true}
 use mathlib.Core.List.{List, _++_}
 use lib.ListN.{length, take, drop}
-use Rattle.image.specs.Image.{imageLength}
-use Rattle.image.specs.declared.Sizes.{Sizes}
-use Rattle.report.specs.Report.{sizesIn, wellFormed, blank}
+use Rattle.image.specs.Image.{formerLength}
+use Rattle.report.specs.Report.{sizesIn, blank}
+use Rattle.report.specs.declared.SizesAt.{SizesAt}
+use Rattle.report.specs.declared.SizesAt.the-variants.{Start, End}
 
--- the sizes of a well formed input
-pub record SizesOf (z : Sizes) (input : List ℕ) : Type 0 where
-  pub well : wellFormed input ≡ true
-  pub sizes : z ≡ sizesIn input
+-- how many words the image of an input has
+unfoldable pub imageWords : SizesAt → List ℕ → ℕ
+imageWords Start input = formerLength (sizesIn Start input)
+imageWords End input = length input / 8
 
--- buffers of one image, with nothing in cache and flags
-pub record Blanks (z : Sizes) (cache nvm flags : List ℕ) : Type 0 where
-  pub no-cache : cache ≡ blank (imageLength z)
-  pub in-nvm : length nvm ≡ imageLength z
-  pub no-flags : flags ≡ blank (imageLength z)
+-- buffers of an image of n words, with nothing in cache and flags
+pub record Blanks (n : ℕ) (cache nvm flags : List ℕ) : Type 0 where
+  pub no-cache : cache ≡ blank n
+  pub in-nvm : length nvm ≡ n
+  pub no-flags : flags ≡ blank n
 
 -- a buffer with a text in it from place `at` on
 unfoldable pub putAt : (at : ℕ) → (text buffer : List ℕ) → List ℕ

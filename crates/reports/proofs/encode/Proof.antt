@@ -8,10 +8,10 @@ use Rattle.reports.proofs.encode.Statement.{statement}
 use Rattle.reports.proofs.encode.Tie as tie
 
 abbrev Inv-loop : tie.InvT-loop
-Inv-loop words input₀ i₀ i-end input i = (i ≤ i-end) × (length input ≡ length input₀)
+Inv-loop words at input₀ i₀ i-end input i = (i ≤ i-end) × (length input ≡ length input₀)
 
 abbrev μ-loop : tie.MeasureT-loop
-μ-loop words input₀ i₀ i-end input i = i-end - i
+μ-loop words at input₀ i₀ i-end input i = i-end - i
 
 mul-i-end : tie.Need-mul-i-end Inv-loop μ-loop
 mul-i-end c = search needs
@@ -27,6 +27,9 @@ shared-slice-read-byte-of c = search needs
 
 byte-of-requires : tie.Need-byte-of-requires Inv-loop μ-loop
 byte-of-requires c κs = search needs
+
+add-input : tie.Need-add-input Inv-loop μ-loop
+add-input c = search needs
 
 slice-write-input : tie.Need-slice-write-input Inv-loop μ-loop
 slice-write-input c = search needs
@@ -50,4 +53,4 @@ pub encode-spec : {M : Type 1} → statement M
 encode-spec =
     tie.close
     (tie.spec Inv-loop μ-loop mul-i-end loop-holds mul-byte-of shared-slice-read-byte-of byte-of-requires
-    slice-write-input add-i loop-less loop-again same-length returns)
+    add-input slice-write-input add-i loop-less loop-again same-length returns)

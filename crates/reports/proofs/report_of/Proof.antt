@@ -15,6 +15,18 @@ slice-aggregate-encode c = search needs
 encode-requires : tie.Need-encode-requires
 encode-requires c κs = search needs
 
+mul-encode : tie.Need-mul-encode
+mul-encode c = search needs
+
+sub-encode : tie.Need-sub-encode
+sub-encode c = search needs
+
+slice-aggregate-encode-2 : tie.Need-slice-aggregate-encode-2
+slice-aggregate-encode-2 c = search needs
+
+encode-requires-2 : tie.Need-encode-requires-2
+encode-requires-2 c κs = search needs
+
 array-share-prefix-input : tie.Need-array-share-prefix-input
 array-share-prefix-input c = search needs
 
@@ -33,5 +45,6 @@ returns c = search needs
 pub report-of-spec : {M : Type 1} → statement M
 report-of-spec =
     tie.close
-    (tie.spec large-buffer-requires slice-aggregate-encode encode-requires array-share-prefix-input
-    slice-aggregate-report report-requires same-length returns)
+    (tie.spec large-buffer-requires slice-aggregate-encode encode-requires mul-encode sub-encode
+    slice-aggregate-encode-2 encode-requires-2 array-share-prefix-input slice-aggregate-report report-requires
+    same-length returns)

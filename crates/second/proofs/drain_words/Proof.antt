@@ -10,8 +10,8 @@ Inv-loop arena₀ lane i₀ i-end arena i = Unit
 abbrev μ-loop : tie.MeasureT-loop
 μ-loop arena₀ lane i₀ i-end arena i = i-end - i
 
-length-requires : tie.Need-length-requires Inv-loop μ-loop
-length-requires c κs = search needs
+get-requires : tie.Need-get-requires Inv-loop μ-loop
+get-requires c κs = search needs
 
 loop-holds : tie.Need-loop-holds Inv-loop μ-loop
 loop-holds c = search needs
@@ -34,4 +34,4 @@ returns c = search needs
 pub drain-words-spec : {M : Type 1} → statement M
 drain-words-spec =
     tie.close
-    (tie.spec Inv-loop μ-loop length-requires loop-holds drain-word-requires add-i loop-less loop-again returns)
+    (tie.spec Inv-loop μ-loop get-requires loop-holds drain-word-requires add-i loop-less loop-again returns)

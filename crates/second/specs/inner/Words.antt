@@ -35,9 +35,12 @@ fieldAt ws lane field = wordAt ws 1 (bitOr ((lane * 2 ^ 6) % 2 ^ 64) field)
 abbrev pub pairRow : (lane i : ℕ) → ℕ
 pairRow lane i = bitOr (bitOr 256 ((lane * 2 ^ 4) % 2 ^ 64)) i
 
--- the words of an image with the W, T and N that are in the words 8, 9 and 10 of region 0
+-- the words of an image with the W, T and N that are in the words 8, 9 and 10 of region 0: without its trailer, and with it
+unfoldable pub formerIn : List ℕ → ℕ
+formerIn ws = sum (sum 1 (wordAt ws 0 8)) ((product (wordAt ws 0 9) (wordAt ws 0 10) * 2 ^ 1) % 2 ^ 64)
+
 unfoldable pub lengthIn : List ℕ → ℕ
-lengthIn ws = sum (sum 1 (wordAt ws 0 8)) ((product (wordAt ws 0 9) (wordAt ws 0 10) * 2 ^ 1) % 2 ^ 64)
+lengthIn ws = sum (formerIn ws) 4
 
 -- the place in such an image of a slot's first word
 unfoldable pub placeIn : List ℕ → (lane slot : ℕ) → ℕ

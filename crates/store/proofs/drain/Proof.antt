@@ -36,7 +36,7 @@ drain-requires : tie.Need-drain-requires
 drain-requires c κs =
     let r = c .before .before .before in
     let k = checked _ _ _ _ _ _ (sym (r .before .drain-refusal .ensures) ∙ r .if1 .left) in
-    (omega (arith, lane-small _ _ (k .image .sizes-ok) (k .lane-below)), (k .in-nvm ∙ sym (k .image .in-image), k .in-flags ∙ sym (k .image .in-image)))
+    (omega (arith, lane-small _ _ (k .image .sizes-ok) (k .lane-below)), (k .same-nvm, k .same-flags))
 
 same-length-3 : tie.Need-same-length-3
 same-length-3 c = search needs

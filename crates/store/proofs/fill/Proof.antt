@@ -32,7 +32,7 @@ returns c =
       d .fill-image .ensures,
       (
         n .fill-image2 .ensures,
-        f .clear-flags .ensures ∙ ap (λ k. replicate k 0) (d .before .before .before .before .before .before .pre .1 .1 .1),
+        f .clear-flags .ensures ∙ ap (λ k. replicate k 0) (d .before .before .before .before .before .before .pre .1 .1 .1 .1),
       ),
     )
 

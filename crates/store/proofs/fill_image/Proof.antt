@@ -1,66 +1,69 @@
--- `store::fill_image` meets its contract: base timestamp, start words and zeros are the parts of Format's image.
--- Assumes nothing.
-use mathlib.Core.Path.{sym, _∙_, ap}
-use lib.ListN.{length}
+-- `store::fill_image` meets its contract: the body, and after it the trailer. Assumes nothing.
+use mathlib.Core.Path.{sym, _∙_}
+use native.Mathlib.Omega.{arith}
 use denote.Ref.{now}
 use borrow.Author.Needs.{needs}
-use Rattle.image.specs.Image.{imageLength}
-use Rattle.store.specs.inner.FormatLaws.{length-startImage, start-inside, logs-inside, begun-cleared}
+use Rattle.image.specs.inner.ImageLaws.{sizes-in, length-small}
+use Rattle.store.specs.inner.FormatLaws.{body-inside, body-room, trailer-inside, trailer-room, trailer-put}
 use Rattle.store.proofs.fill_image.Statement.{statement}
 use Rattle.store.proofs.fill_image.Tie as tie
 
-add-end : tie.Need-add-end
-add-end c = search needs
+former-length-requires : tie.Need-former-length-requires
+former-length-requires c κs = search needs
 
-slice-write-words : tie.Need-slice-write-words
-unfolding imageLength
-slice-write-words c = search needs
+slice-relend-prefix-fill-body : tie.Need-slice-relend-prefix-fill-body
+slice-relend-prefix-fill-body c =
+    let s = c .before .before .before in
+    body-inside (s .args .sizes) (now (s .args .words)) _ (s .pre .1 .1) (c .former-length .ensures)
 
-sub-copy-words : tie.Need-sub-copy-words
-sub-copy-words c = search needs
+slice-aggregate-fill-body : tie.Need-slice-aggregate-fill-body
+slice-aggregate-fill-body c =
+    let s = c .before .before .before .before in
+    sym (body-room (s .args .sizes) _ _ (s .pre .1 .1) (c .before .former-length .ensures))
 
-part-copy-words-start : tie.Need-part-copy-words-start
-part-copy-words-start c = search needs
+fill-body-requires : tie.Need-fill-body-requires
+fill-body-requires c κs =
+    let s = c .before .before .before .before in
+    (s .pre .1 .0, sym (slice-aggregate-fill-body c) ∙ c .before .former-length .ensures)
 
-part-copy-words-end : tie.Need-part-copy-words-end
-part-copy-words-end c = let s = c .before .before in start-inside (s .args .sizes) (now (s .args .start)) (now (s .args .words)) (s .pre .0) (s .pre .1)
+mul-put-trailer : tie.Need-mul-put-trailer
+mul-put-trailer c =
+    let f = c .before .before .before .before in
+    omega (arith, f .former-length .ensures, length-small _ (sizes-in _ (f .before .before .before .pre .0)))
 
-copy-words-requires : tie.Need-copy-words-requires
-copy-words-requires c κs = search needs
+sub-put-trailer : tie.Need-sub-put-trailer
+sub-put-trailer c =
+    let b = c .before .before in
+    let f = b .before .before in
+    let s = f .before .before .before in
+    trailer-inside (s .args .sizes) _ _ _ _ (s .pre .1 .0) (s .pre .1 .1) (f .former-length .ensures) (b .fill-body .ensures)
 
-mul-clear-words : tie.Need-mul-clear-words
-mul-clear-words c = search needs
+part-put-trailer-start : tie.Need-part-put-trailer-start
+part-put-trailer-start c = sub-put-trailer c
 
-sub-clear-words : tie.Need-sub-clear-words
-sub-clear-words c =
-    let d = c .before .before in
-    let s = d .before .before .before .before in
-    logs-inside (s .args .sizes) (now (s .args .start)) (now (s .args .words)) (s .pre .0) (s .pre .1) _ (d .copy-words .ensures)
+part-put-trailer-end : tie.Need-part-put-trailer-end
+part-put-trailer-end c = search needs
 
-part-clear-words-start : tie.Need-part-clear-words-start
-part-clear-words-start c = sub-clear-words c
+put-trailer-requires : tie.Need-put-trailer-requires
+put-trailer-requires c κs =
+    let b = c .before .before .before in
+    let f = b .before .before in
+    let s = f .before .before .before in
+    (s .pre .0, trailer-room (s .args .sizes) _ _ _ _ (s .pre .1 .0) (s .pre .1 .1) (f .former-length .ensures) (b .fill-body .ensures))
 
-part-clear-words-end : tie.Need-part-clear-words-end
-part-clear-words-end c = search needs
-
-clear-words-requires : tie.Need-clear-words-requires
-clear-words-requires c κs = search needs
+same-length : tie.Need-same-length
+same-length c = search needs
 
 returns : tie.Need-returns
 returns c =
-    let e = c .before .before in
-    let d = e .before .before .before .before in
-    let s = d .before .before .before .before in
-    begun-cleared (s .args .sizes) (now (s .args .start)) (now (s .args .words)) (s .pre .0) (s .pre .1) _ (d .copy-words .ensures) _ (e .clear-words .ensures)
-
-same-length : tie.Need-same-length
-same-length c =
-    let s = c .before .before .before .before .before .before .before .before .before .before in
-    ap length (returns c) ∙ length-startImage (s .args .sizes) (now (s .args .start)) (s .pre .0) ∙ sym (s .pre .1)
+    let p = c .before .before in
+    let b = p .before .before .before .before in
+    let f = b .before .before in
+    let s = f .before .before .before in
+    trailer-put (s .args .sizes) _ _ _ _ (s .pre .1 .0) (s .pre .1 .1) (f .former-length .ensures) (b .fill-body .ensures) _ (p .put-trailer .ensures)
 
 pub fill-image-spec : {M : Type 1} → statement M
 fill-image-spec =
     tie.close
-    (tie.spec add-end slice-write-words sub-copy-words part-copy-words-start part-copy-words-end copy-words-requires
-    mul-clear-words sub-clear-words part-clear-words-start part-clear-words-end clear-words-requires same-length
-    returns)
+    (tie.spec former-length-requires slice-relend-prefix-fill-body slice-aggregate-fill-body fill-body-requires
+    mul-put-trailer sub-put-trailer part-put-trailer-start part-put-trailer-end put-trailer-requires same-length returns)

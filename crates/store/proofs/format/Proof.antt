@@ -1,8 +1,10 @@
 -- `store::format` meets its contract: a refused call is the step refused, and otherwise the filled buffers and the start record are a start.
 -- Assumes nothing.
 use mathlib.Core.Path.{sym, _∙_}
+use denote.Ref.{now}
 use borrow.Author.Needs.{needs}
 use Rattle.store.specs.Calls.{formatStep, started}
+use Rattle.store.specs.inner.FormatLaws.{length-startImage}
 use Rattle.store.specs.inner.StoreLaws.{format-checked, step-refused, step-taken}
 use Rattle.store.proofs.format.Statement.{statement}
 use Rattle.store.proofs.format.Tie as tie
@@ -36,7 +38,7 @@ fill-requires : tie.Need-fill-requires
 fill-requires c κs =
     let r = c .before .before .before in
     let k = format-checked _ _ _ (sym (r .before .format-refusal .ensures) ∙ r .if1 .left) in
-    (k .1, (k .0 .in-cache, (k .0 .in-nvm, k .0 .in-flags)))
+    (k .0, (k .2, (k .1 .in-cache, (k .1 .in-nvm, k .1 .in-flags))))
 
 same-length-4 : tie.Need-same-length-4
 same-length-4 c = search needs
@@ -53,7 +55,15 @@ returns-2 c =
     let w = c .before .before .before .before .before .before in
     let r = w .before .before .before .before in
     let b = r .before .before .before .before .before in
-    rw (b .start-record .ensures, w .fill .ensures .0, w .fill .ensures .1 .0, w .fill .ensures .1 .1)
+    let k = format-checked _ _ _ (sym (r .before .format-refusal .ensures) ∙ r .if1 .left) in
+    let s = b .before .before .before .before .before in
+    rw (
+      b .start-record .ensures,
+      w .fill .ensures .0,
+      w .fill .ensures .1 .0,
+      w .fill .ensures .1 .1,
+      ← (length-startImage (s .args .sizes) (now (s .args .start)) (k .2)),
+    )
     (step-taken _ _ _ _ (r .before .format-refusal .ensures) (r .if1 .left))
 
 pub format-spec : {M : Type 1} → statement M

@@ -4,28 +4,28 @@ use mathlib.Core.Path.{sym, _∙_}
 use borrow.Author.Tests.{not-true, not-false, ne-eqb, eq-eqb}
 use borrow.Author.Needs.{needs}
 use Rattle.store.specs.Machine.{firstCause}
-use Rattle.store.specs.Calls.{formatRefusal, badBuffers}
+use Rattle.store.specs.Calls.{formatRefusal}
 use Rattle.store.proofs.format_refusal.Statement.{statement}
 use Rattle.store.proofs.format_refusal.Tie as tie
 
-buffers-ok-requires : tie.Need-buffers-ok-requires
-buffers-ok-requires c κs = search needs
+format-ok-requires : tie.Need-format-ok-requires
+format-ok-requires c κs = search needs
 
 returns : tie.Need-returns
-unfolding formatRefusal badBuffers firstCause
-returns c = rw (sym (c .before .buffers-ok .ensures) ∙ not-true _ (c .if1 .taken))
+unfolding formatRefusal firstCause
+returns c = rw (sym (c .before .format-ok .ensures) ∙ not-true _ (c .if1 .taken))
 
 returns-2 : tie.Need-returns-2
-unfolding formatRefusal badBuffers firstCause
+unfolding formatRefusal firstCause
 returns-2 c =
     let b = c .before .before in
-    rw (sym (b .before .buffers-ok .ensures) ∙ not-false _ (b .if1 .left), ne-eqb _ _ (c .if2 .taken))
+    rw (sym (b .before .format-ok .ensures) ∙ not-false _ (b .if1 .left), ne-eqb _ _ (c .if2 .taken))
 
 returns-3 : tie.Need-returns-3
-unfolding formatRefusal badBuffers firstCause
+unfolding formatRefusal firstCause
 returns-3 c =
     let b = c .before .before in
-    rw (sym (b .before .buffers-ok .ensures) ∙ not-false _ (b .if1 .left), eq-eqb _ _ (c .if2 .left))
+    rw (sym (b .before .format-ok .ensures) ∙ not-false _ (b .if1 .left), eq-eqb _ _ (c .if2 .left))
 
 pub format-refusal-spec : {M : Type 1} → statement M
-format-refusal-spec = tie.close (tie.spec buffers-ok-requires returns returns-2 returns-3)
+format-refusal-spec = tie.close (tie.spec format-ok-requires returns returns-2 returns-3)

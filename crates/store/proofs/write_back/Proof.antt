@@ -22,7 +22,7 @@ write-back-requires : tie.Need-write-back-requires
 write-back-requires c κs =
     let r = c .before in
     let k = writeBack-checked _ _ _ (sym (r .before .write-back-refusal .ensures) ∙ r .if1 .left) in
-    (omega (arith, k .0 .in-cache, k .1), omega (arith, k .0 .in-nvm, k .1))
+    (k .1, omega (arith, k .0 .same-nvm, k .1))
 
 same-length-2 : tie.Need-same-length-2
 same-length-2 c = search needs

@@ -3,7 +3,6 @@
 use mathlib.Core.Path.{sym, _∙_}
 use borrow.Author.Tests.{not-true, not-false, le-leb, lt-leb}
 use borrow.Author.Needs.{needs}
-use Rattle.image.specs.inner.ImageLaws.{buffers-in}
 use Rattle.store.specs.Machine.{firstCause}
 use Rattle.store.specs.Calls.{writeBackRefusal, badBuffers}
 use Rattle.store.proofs.write_back_refusal.Statement.{statement}
@@ -16,21 +15,18 @@ returns : tie.Need-returns
 unfolding writeBackRefusal badBuffers firstCause
 returns c = rw (sym (c .before .buffers-ok .ensures) ∙ not-true _ (c .if1 .taken))
 
-image-length-requires : tie.Need-image-length-requires
-image-length-requires c κs = buffers-in _ _ _ _ (sym (c .before .buffers-ok .ensures) ∙ not-false _ (c .if1 .left)) .sizes-ok
-
 returns-2 : tie.Need-returns-2
 unfolding writeBackRefusal badBuffers firstCause
 returns-2 c =
-    let b = c .before .before in
-    rw (sym (b .before .buffers-ok .ensures) ∙ not-false _ (b .if1 .left), ← (c .before .image-length .ensures), le-leb _ _ (c .if2 .taken))
+    let b = c .before in
+    rw (sym (b .before .buffers-ok .ensures) ∙ not-false _ (b .if1 .left), le-leb _ _ (c .if2 .taken))
 
 returns-3 : tie.Need-returns-3
 unfolding writeBackRefusal badBuffers firstCause
 returns-3 c =
-    let b = c .before .before in
-    rw (sym (b .before .buffers-ok .ensures) ∙ not-false _ (b .if1 .left), ← (c .before .image-length .ensures), lt-leb _ _ (c .if2 .left))
+    let b = c .before in
+    rw (sym (b .before .buffers-ok .ensures) ∙ not-false _ (b .if1 .left), lt-leb _ _ (c .if2 .left))
 
 pub write-back-refusal-spec : {M : Type 1} → statement M
 write-back-refusal-spec =
-    tie.close (tie.spec buffers-ok-requires returns image-length-requires returns-2 returns-3)
+    tie.close (tie.spec buffers-ok-requires returns returns-2 returns-3)

@@ -13,7 +13,7 @@ use Rattle.txn.specs.inner.TxnLaws.{few-writes, run-low}
 use Rattle.txn.specs.inner.WritesLaws.{length-padded, take-padded, count-few}
 use Rattle.txn.specs.declared.Write.{Write}
 use Rattle.txn.specs.declared.Writes.{Writes}
-use Rattle.image.specs.Image.{maxWords, imageLength, dataOf}
+use Rattle.image.specs.Image.{maxWords, formerLength, dataOf}
 use Rattle.image.specs.inner.Facts.{IsImage}
 use Rattle.image.specs.inner.ImageLaws.{sizes-in, length-data}
 use Rattle.image.specs.declared.Sizes.{Sizes}
@@ -34,7 +34,7 @@ unfolding dataOf
 part-data z cache = rw (add-sub-cancel-left 1 (z .words))
 
 pub data-part : (z : Sizes) (cache : List ℕ) → IsImage z cache → DataPart z cache
-unfolding imageLength
+unfolding formerLength
 data-part z cache i =
     record {
       most = sizes-in z (i .sizes-ok) .words-high;

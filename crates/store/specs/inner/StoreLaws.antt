@@ -13,7 +13,7 @@ use borrow.Author.Tests.{ne-eqb, eqb-true, leb-false, ltb-true, ltb-false, not-f
 use Rattle.laws.specs.inner.Tests.{split}
 use Rattle.txn.specs.Txn.{maxWrites, current, txnOk}
 use Rattle.image.specs.Image.{maxLanes, sizesOk, imageLength}
-use Rattle.image.specs.inner.ImageLaws.{sizes-in, Buffers, buffers-in}
+use Rattle.image.specs.inner.ImageLaws.{sizes-in, AllAre, format-in, Buffers, buffers-in}
 use Rattle.image.specs.Flush.{drainedNvm, drainedFlags}
 use Rattle.image.specs.declared.Sizes.{Sizes}
 use Rattle.log.specs.Log.{latestIn}
@@ -78,9 +78,9 @@ checked z state cache nvm flags L e =
     let h = lane-causes z (machineOf state cache nvm flags) L e in
     let k = good-buffers z (machineOf state cache nvm flags) (h .0) in
     record {
-      image = record { sizes-ok = k .sizes-ok; in-image = k .in-cache };
-      in-nvm = k .in-nvm;
-      in-flags = k .in-flags;
+      image = record { sizes-ok = k .sizes-ok; in-image = k .fits; small = k .small };
+      same-nvm = k .same-nvm;
+      same-flags = k .same-flags;
       in-range = not-false _ (h .1);
       lane-below = leb-false (z .lanes) L (h .2);
     }
@@ -114,19 +114,21 @@ module _ (z : Sizes) (L : ℕ) (m : Machine) (cs : List Cause) where
 -- ---- what Format and write-back know where they are not refused
 module _ (z : Sizes) (m : Machine) where
   pub format-checked : (start : List ℕ) → formatRefusal z start m ≡ 0
-      → Buffers z (length (m .cache)) (length (m .nvm)) (length (m .flags)) × (length start ≡ z .words)
-  unfolding formatRefusal badBuffers
+      → (sizesOk z ≡ true) × AllAre (imageLength z) (length (m .cache)) (length (m .nvm)) (length (m .flags)) × (length start ≡ z .words)
+  unfolding formatRefusal
   format-checked start e =
       let a = first-none _ _ (λ q. omega arith) e in
       let b = first-none _ _ (λ q. omega arith) (a .1) in
-      (good-buffers z m (a .0), eqb-true (length start) (z .words) (not-false _ (b .0)))
+      let f = format-in z _ _ _ (not-false _ (a .0)) in
+      (f .0, f .1, eqb-true (length start) (z .words) (not-false _ (b .0)))
 
-  pub writeBack-checked : (i : ℕ) → writeBackRefusal z i m ≡ 0 → Buffers z (length (m .cache)) (length (m .nvm)) (length (m .flags)) × (i < imageLength z)
+  pub writeBack-checked : (i : ℕ) → writeBackRefusal z i m ≡ 0
+      → Buffers z (length (m .cache)) (length (m .nvm)) (length (m .flags)) × (i < length (m .cache))
   unfolding writeBackRefusal badBuffers
   writeBack-checked i e =
       let a = first-none _ _ (λ q. omega arith) e in
       let b = first-none _ _ (λ q. omega arith) (a .1) in
-      (good-buffers z m (a .0), leb-false (imageLength z) i (b .0))
+      (good-buffers z m (a .0), leb-false (length (m .cache)) i (b .0))
 
 -- ---- steps, where a call has found the number of its refusal
 module _ (number refusal : ℕ) (m : Machine) (step : Step) (e : number ≡ refusal) where

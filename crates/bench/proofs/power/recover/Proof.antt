@@ -31,8 +31,8 @@ loop-less c = search needs
 loop-again : tie.Need-loop-again Inv-loop μ-loop
 loop-again c = search needs
 
-call-requires : tie.Need-call-requires Inv-loop μ-loop
-call-requires c κs = search needs
+recover-within-requires : tie.Need-recover-within-requires Inv-loop μ-loop
+recover-within-requires c κs = search needs
 
 returns-2 : tie.Need-returns-2 Inv-loop μ-loop
 returns-2 c = search needs
@@ -41,4 +41,4 @@ pub recover-spec : {M : Type 1} → statement M
 recover-spec =
     tie.close
     (tie.spec Inv-loop μ-loop loop-holds recover-once-requires kind-requires returns add-counter loop-less loop-again
-    call-requires returns-2)
+    recover-within-requires returns-2)

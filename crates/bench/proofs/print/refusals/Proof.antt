@@ -5,10 +5,10 @@ use Rattle.bench.proofs.print.refusals.Statement.{statement}
 use Rattle.bench.proofs.print.refusals.Tie as tie
 
 abbrev Inv-loop : tie.InvT-loop
-Inv-loop arena n₀ t4 t5 t6 n = Unit
+Inv-loop arena n₀ t4 n = Unit
 
 abbrev μ-loop : tie.MeasureT-loop
-μ-loop arena n₀ t4 t5 t6 n = 11 - n
+μ-loop arena n₀ t4 n = 11 - n
 
 slice-aggregate-text : tie.Need-slice-aggregate-text Inv-loop μ-loop
 slice-aggregate-text c = search needs
@@ -19,23 +19,8 @@ text-requires c κs = search needs
 loop-holds : tie.Need-loop-holds Inv-loop μ-loop
 loop-holds c = search needs
 
-slice-aggregate-counted : tie.Need-slice-aggregate-counted Inv-loop μ-loop
-slice-aggregate-counted c = search needs
-
-counted-requires : tie.Need-counted-requires Inv-loop μ-loop
-counted-requires c κs = search needs
-
-slice-aggregate-counted-2 : tie.Need-slice-aggregate-counted-2 Inv-loop μ-loop
-slice-aggregate-counted-2 c = search needs
-
-plus-requires : tie.Need-plus-requires Inv-loop μ-loop
-plus-requires c κs = search needs
-
-get-requires : tie.Need-get-requires Inv-loop μ-loop
-get-requires c κs = search needs
-
-counted-requires-2 : tie.Need-counted-requires-2 Inv-loop μ-loop
-counted-requires-2 c κs = search needs
+refusal-requires : tie.Need-refusal-requires Inv-loop μ-loop
+refusal-requires c κs = search needs
 
 add-n : tie.Need-add-n Inv-loop μ-loop
 add-n c = search needs
@@ -45,6 +30,9 @@ loop-less c = search needs
 
 loop-again : tie.Need-loop-again Inv-loop μ-loop
 loop-again c = search needs
+
+refusal-requires-2 : tie.Need-refusal-requires-2 Inv-loop μ-loop
+refusal-requires-2 c κs = search needs
 
 slice-aggregate-text-2 : tie.Need-slice-aggregate-text-2 Inv-loop μ-loop
 slice-aggregate-text-2 c = search needs
@@ -58,6 +46,5 @@ returns c = search needs
 pub refusals-spec : {M : Type 1} → statement M
 refusals-spec =
     tie.close
-    (tie.spec Inv-loop μ-loop slice-aggregate-text text-requires loop-holds slice-aggregate-counted counted-requires
-    slice-aggregate-counted-2 plus-requires get-requires counted-requires-2 add-n loop-less loop-again
-    slice-aggregate-text-2 text-requires-2 returns)
+    (tie.spec Inv-loop μ-loop slice-aggregate-text text-requires loop-holds refusal-requires add-n loop-less loop-again
+    refusal-requires-2 slice-aggregate-text-2 text-requires-2 returns)

@@ -31,6 +31,9 @@ loop-less c = search needs
 loop-again : tie.Need-loop-again Inv-loop μ-loop
 loop-again c = search needs
 
+fill-trailer-requires : tie.Need-fill-trailer-requires Inv-loop μ-loop
+fill-trailer-requires c κs = search needs
+
 about-stamp-requires : tie.Need-about-stamp-requires Inv-loop μ-loop
 about-stamp-requires c κs = search needs
 
@@ -44,4 +47,4 @@ pub fill-image-spec : {M : Type 1} → statement M
 fill-image-spec =
     tie.close
     (tie.spec Inv-loop μ-loop fill-data-requires get-requires loop-holds fill-log-requires add-lane loop-less loop-again
-    about-stamp-requires put-requires returns)
+    fill-trailer-requires about-stamp-requires put-requires returns)

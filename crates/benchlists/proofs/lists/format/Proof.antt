@@ -28,6 +28,9 @@ loop-less c = search needs
 loop-again : tie.Need-loop-again Inv-loop μ-loop
 loop-again c = search needs
 
+fit-requires : tie.Need-fit-requires Inv-loop μ-loop
+fit-requires c κs = search needs
+
 get-requires : tie.Need-get-requires Inv-loop μ-loop
 get-requires c κs = search needs
 
@@ -40,5 +43,5 @@ returns c = search needs
 pub format-spec : {M : Type 1} → statement M
 format-spec =
     tie.close
-    (tie.spec Inv-loop μ-loop loop-holds value-requires put-requires add-i loop-less loop-again get-requires
-    call-requires returns)
+    (tie.spec Inv-loop μ-loop loop-holds value-requires put-requires add-i loop-less loop-again fit-requires
+    get-requires call-requires returns)

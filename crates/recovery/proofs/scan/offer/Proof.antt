@@ -5,7 +5,7 @@ use mathlib.Core.Path.{_≡_, sym, ap, _∙_}
 use native.Mathlib.Omega.{arith}
 use denote.Ref.{now}
 use borrow.Author.Needs.{needs}
-use Rattle.image.specs.Image.{imageLength, baseOf, logOf}
+use Rattle.image.specs.Image.{formerLength, baseOf, logOf}
 use Rattle.image.specs.inner.ImageLaws.{sizes-in}
 use Rattle.log.specs.Log.{slotAt}
 use Rattle.recovery.specs.inner.ScanLaws.{OfferedTo, offered-start, offered-low, offered-more, offered-all}
@@ -31,7 +31,7 @@ reads s =
     s .slot-at .ensures ∙ ap (λ x. slotAt (start l .args .sizes .words) x (l .loop .j)) (l .before .log-part .ensures .0)
 
 shared-slice-read-base : tie.Need-shared-slice-read-base Inv-loop μ-loop
-unfolding imageLength
+unfolding formerLength
 shared-slice-read-base c = omega arith
 
 log-part-requires : tie.Need-log-part-requires Inv-loop μ-loop

@@ -6,7 +6,7 @@ use native.Mathlib.Omega.{arith}
 use lib.ListN.{length}
 use denote.Ref.{now}
 use borrow.Author.Needs.{needs}
-use Rattle.image.specs.Image.{maxLanes, maxSlots, imageLength}
+use Rattle.image.specs.Image.{maxLanes, maxSlots, formerLength}
 use Rattle.image.specs.inner.ImageLaws.{sizes-in}
 use Rattle.recovery.specs.inner.LanesLaws.{numbers-small, lane-inside, lent-long}
 use Rattle.recovery.specs.inner.ScanLaws.{Scanned, scanned-none, scanned-more, scanned-low, scanned-all}
@@ -31,7 +31,7 @@ fits : (c : tie.In-loop Inv-loop μ-loop)
 fits c = lane-inside (start c .args .sizes) (c .before .loop .lane) _ (start c .pre .1 .enough) (search needs)
 
 shared-slice-read-t12 : tie.Need-shared-slice-read-t12 Inv-loop μ-loop
-unfolding imageLength
+unfolding formerLength
 shared-slice-read-t12 c = omega arith
 
 loop-holds : tie.Need-loop-holds Inv-loop μ-loop

@@ -7,7 +7,7 @@ use native.Mathlib.Omega.{arith}
 use lib.ListN.{length}
 use denote.Ref.{now}
 use borrow.Author.Needs.{needs}
-use Rattle.image.specs.Image.{imageLength}
+use Rattle.image.specs.Image.{formerLength}
 use Rattle.image.specs.inner.ImageLaws.{sizes-in, logs-small}
 use Rattle.recovery.specs.inner.LimitLaws.{limited-zeros}
 use Rattle.recovery.proofs.stores.clear_logs.Statement.{statement}
@@ -28,7 +28,7 @@ made-requires c κs = search needs
 -- the stretch lies in the image
 inside : (c : tie.After-made)
     → 1 + c .before .before .before .before .before .args .sizes .words + c .made .result ≤ length (now (c .before .before .before .before .before .args .nvm))
-unfolding imageLength
+unfolding formerLength
 inside c =
     let a = c .before .before .before .before .before .args in
     omega (

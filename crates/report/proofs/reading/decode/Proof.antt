@@ -10,15 +10,15 @@ use Rattle.report.proofs.reading.decode.Statement.{statement}
 use Rattle.report.proofs.reading.decode.Tie as tie
 
 abbrev Inv-loop : tie.InvT-loop
-Inv-loop input nvm₀ i₀ i-end nvm i = (i ≤ i-end) × (length nvm ≡ length nvm₀) × (take i nvm ≡ wordsIn input i)
+Inv-loop input first nvm₀ i₀ i-end nvm i = (i ≤ i-end) × (length nvm ≡ length nvm₀) × (take i nvm ≡ wordsIn input first i)
 
 abbrev μ-loop : tie.MeasureT-loop
-μ-loop input nvm₀ i₀ i-end nvm i = i-end - i
+μ-loop input first nvm₀ i₀ i-end nvm i = i-end - i
 
 loop-holds : tie.Need-loop-holds Inv-loop μ-loop
 loop-holds c =
     let a = c .before .before .args in
-    (search needs, search needs, decoded-none (a .input .now) (a .nvm .now))
+    (search needs, search needs, decoded-none (a .input .now) (a .first) (a .nvm .now))
 
 add-word-at : tie.Need-add-word-at Inv-loop μ-loop
 add-word-at c = search needs
@@ -41,7 +41,7 @@ loop-less c = search needs
 loop-again : tie.Need-loop-again Inv-loop μ-loop
 loop-again c =
     let l = c .before .before .loop in
-    (search needs, search needs, decoded-more _ (l .nvm) (l .i) _ (search needs) (l .inv .2) (c .word-at .ensures))
+    (search needs, search needs, decoded-more _ _ (l .nvm) (l .i) _ (search needs) (l .inv .2) (c .word-at .ensures))
 
 same-length : tie.Need-same-length Inv-loop μ-loop
 same-length c = search needs
@@ -49,7 +49,7 @@ same-length c = search needs
 returns : tie.Need-returns Inv-loop μ-loop
 returns c =
     let l = c .before .loop in
-    decoded-all _ (l .nvm) (l .i) _ (search needs) (search needs) (l .inv .2)
+    decoded-all _ _ (l .nvm) (l .i) _ (search needs) (search needs) (l .inv .2)
 
 pub decode-spec : {M : Type 1} → statement M
 decode-spec =

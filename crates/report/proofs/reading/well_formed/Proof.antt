@@ -4,7 +4,7 @@ use mathlib.Core.Path.{sym, _∙_, ap}
 use native.Mathlib.Omega.{arith}
 use borrow.Author.Tests.{not-true, not-false}
 use borrow.Author.Needs.{needs}
-use Rattle.image.specs.Image.{sizesOk, imageLength}
+use Rattle.image.specs.Image.{sizesOk, formerLength}
 use Rattle.image.specs.inner.ImageLaws.{sizes-in, length-small}
 use Rattle.report.specs.inner.ReadingLaws.{short-input, bad-sizes, length-tested}
 use Rattle.report.proofs.reading.well_formed.Statement.{statement}
@@ -24,28 +24,28 @@ returns-2 c =
     let s = c .before .before in
     bad-sizes _ (ap sizesOk (sym (s .sizes-in .ensures)) ∙ sym (c .before .sizes-ok .ensures) ∙ not-true _ (c .if2 .taken))
 
-image-length-requires : tie.Need-image-length-requires
-image-length-requires c κs = sym (c .before .sizes-ok .ensures) ∙ not-false _ (c .if2 .left)
+former-length-requires : tie.Need-former-length-requires
+former-length-requires c κs = sym (c .before .sizes-ok .ensures) ∙ not-false _ (c .if2 .left)
 
 add-result : tie.Need-add-result
 add-result c =
     let b = c .before in
-    omega (arith, c .image-length .ensures, length-small _ (sizes-in _ (sym (b .before .sizes-ok .ensures) ∙ not-false _ (b .if2 .left))))
+    omega (arith, c .former-length .ensures, length-small _ (sizes-in _ (sym (b .before .sizes-ok .ensures) ∙ not-false _ (b .if2 .left))))
 
 mul-result : tie.Need-mul-result
 mul-result c =
     let b = c .before in
-    omega (arith, c .image-length .ensures, length-small _ (sizes-in _ (sym (b .before .sizes-ok .ensures) ∙ not-false _ (b .if2 .left))))
+    omega (arith, c .former-length .ensures, length-small _ (sizes-in _ (sym (b .before .sizes-ok .ensures) ∙ not-false _ (b .if2 .left))))
 
 returns-3 : tie.Need-returns-3
 returns-3 c =
     let b = c .before in
     let s = b .before .before in
     length-tested _ _ (ap sizesOk (sym (s .sizes-in .ensures)) ∙ sym (b .before .sizes-ok .ensures) ∙ not-false _ (b .if2 .left))
-    (c .image-length .ensures ∙ ap imageLength (s .sizes-in .ensures))
+    (c .former-length .ensures ∙ ap formerLength (s .sizes-in .ensures))
 
 pub well-formed-spec : {M : Type 1} → statement M
 well-formed-spec =
     tie.close
-    (tie.spec returns sizes-in-requires sizes-ok-requires returns-2 image-length-requires add-result mul-result
+    (tie.spec returns sizes-in-requires sizes-ok-requires returns-2 former-length-requires add-result mul-result
     returns-3)

@@ -16,8 +16,8 @@ get-requires c κs = search needs
 plus-requires : tie.Need-plus-requires Inv-loop μ-loop
 plus-requires c κs = search needs
 
-length-requires : tie.Need-length-requires Inv-loop μ-loop
-length-requires c κs = search needs
+former-requires : tie.Need-former-requires Inv-loop μ-loop
+former-requires c κs = search needs
 
 loop-holds : tie.Need-loop-holds Inv-loop μ-loop
 loop-holds c = search needs
@@ -40,5 +40,5 @@ returns c = search needs
 pub clear-logs-spec : {M : Type 1} → statement M
 clear-logs-spec =
     tie.close
-    (tie.spec Inv-loop μ-loop get-requires plus-requires length-requires loop-holds list-requires add-i loop-less
+    (tie.spec Inv-loop μ-loop get-requires plus-requires former-requires loop-holds list-requires add-i loop-less
     loop-again returns)

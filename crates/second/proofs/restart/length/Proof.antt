@@ -4,33 +4,15 @@ use Rattle.second.specs.inner.Words.{lengthIn}
 use Rattle.second.proofs.restart.length.Statement.{statement}
 use Rattle.second.proofs.restart.length.Tie as tie
 
-get-requires : tie.Need-get-requires
-get-requires c κs = search needs
-
-get-requires-2 : tie.Need-get-requires-2
-get-requires-2 c κs = search needs
-
-times-requires : tie.Need-times-requires
-times-requires c κs = search needs
-
-get-requires-3 : tie.Need-get-requires-3
-get-requires-3 c κs = search needs
+former-requires : tie.Need-former-requires
+former-requires c κs = search needs
 
 plus-requires : tie.Need-plus-requires
 plus-requires c κs = search needs
 
-plus-requires-2 : tie.Need-plus-requires-2
-plus-requires-2 c κs = search needs
-
 returns : tie.Need-returns
 unfolding lengthIn
-returns c =
-    let e = c .before in
-    let d = e .before in
-    let b = d .before in
-    let a = b .before in
-    rw (c .plus2 .ensures, e .plus .ensures, d .get3 .ensures, b .times .ensures, a .get2 .ensures, a .before .get .ensures)
+returns c = rw (c .plus .ensures, c .before .former .ensures)
 
 pub length-spec : {M : Type 1} → statement M
-length-spec =
-    tie.close (tie.spec get-requires get-requires-2 times-requires get-requires-3 plus-requires plus-requires-2 returns)
+length-spec = tie.close (tie.spec former-requires plus-requires returns)

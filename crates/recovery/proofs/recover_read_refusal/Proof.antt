@@ -1,0 +1,60 @@
+-- `recovery::recover_read_refusal` meets its contract: each return rewrites the definition by the tests that led there.
+-- Assumes nothing.
+use mathlib.Core.Path.{sym, _∙_}
+use borrow.Author.Needs.{needs}
+use borrow.Author.Tests.{not-true, not-false, ne-eqb, eq-eqb}
+use Rattle.image.specs.Image.{baseOf}
+use Rattle.image.specs.inner.ImageLaws.{image-filled}
+use Rattle.store.specs.Machine.{firstCause}
+use Rattle.recovery.specs.Recovery.{oddBase, recoverReadRefusal}
+use Rattle.recovery.specs.inner.RecoveryLaws.{trailer-image}
+use Rattle.recovery.proofs.recover_read_refusal.Statement.{statement}
+use Rattle.recovery.proofs.recover_read_refusal.Tie as tie
+
+all-are-requires : tie.Need-all-are-requires
+all-are-requires c κs = search needs
+
+returns : tie.Need-returns
+unfolding recoverReadRefusal firstCause
+returns c = rw (sym (c .before .all-are .ensures) ∙ not-true _ (c .if1 .taken))
+
+trailer-ok-requires : tie.Need-trailer-ok-requires
+trailer-ok-requires c κs = search needs
+
+returns-2 : tie.Need-returns-2
+unfolding recoverReadRefusal firstCause
+returns-2 c =
+    let b = c .before .before in
+    rw (sym (b .before .all-are .ensures) ∙ not-false _ (b .if1 .left), sym (c .before .trailer-ok .ensures) ∙ not-true _ (c .if2 .taken))
+
+shared-slice-read-if3 : tie.Need-shared-slice-read-if3
+shared-slice-read-if3 c =
+    let e = c .before in
+    image-filled _ _ (trailer-image _ (sym (e .before .trailer-ok .ensures) ∙ not-false _ (e .if2 .left)) .in-image)
+
+returns-3 : tie.Need-returns-3
+unfolding recoverReadRefusal oddBase baseOf firstCause
+returns-3 c =
+    let e = c .before .before in
+    let b = e .before .before in
+    rw (
+      sym (b .before .all-are .ensures) ∙ not-false _ (b .if1 .left),
+      sym (e .before .trailer-ok .ensures) ∙ not-false _ (e .if2 .left),
+      eq-eqb _ _ (c .if3 .taken),
+    )
+
+returns-4 : tie.Need-returns-4
+unfolding recoverReadRefusal oddBase baseOf firstCause
+returns-4 c =
+    let e = c .before .before in
+    let b = e .before .before in
+    rw (
+      sym (b .before .all-are .ensures) ∙ not-false _ (b .if1 .left),
+      sym (e .before .trailer-ok .ensures) ∙ not-false _ (e .if2 .left),
+      ne-eqb _ _ (c .if3 .left),
+    )
+
+pub recover-read-refusal-spec : {M : Type 1} → statement M
+recover-read-refusal-spec =
+    tie.close
+    (tie.spec all-are-requires returns trailer-ok-requires returns-2 shared-slice-read-if3 returns-3 returns-4)
