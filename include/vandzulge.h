@@ -26,7 +26,8 @@
  * (words 1 to W), and Format buffers of the new length with them as start words; timestamps begin again. Format is not safe against power cuts: keep the old image until the
  * new one is complete, of which a trailer is no sign.
  * Nothing in an image says which form it has; the call used decides, so the caller must know. The last four words of an image of the former length can happen to look like a
- * trailer, of other sizes: vandzulge_recover_read then takes them for one, and destroys that image.
+ * trailer, of other sizes: vandzulge_recover_read then takes them for one, and destroys that image. And vandzulge_recover with sizes that are not the image's, whose former
+ * length it happens to have, takes its words for what they are not, a trailer for log words, and destroys it as well.
  *
  * What the caller owes: no null pointer, also where a length is 0; each pointer has its length in elements, aligned; a buffer that is written overlaps no
  * other one; nobody else touches them during a call, nor writes them between calls. All else is checked: any words are taken as a record, transaction or image.

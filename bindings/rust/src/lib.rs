@@ -6,10 +6,10 @@
 //! The library calls nothing but `memcpy` and `memset`, to which only Format hands a part of `nvm`; every other store to `nvm` is one aligned 64-bit word. What is left to the
 //! platform: such a store is whole, also where power fails, and the stores reach the memory in the code's order. The library has no fences.
 //!
-//! An image has [`image_words`] words: the last four, its *trailer*, tell its sizes and how many words stand before them, and [`Store::recover_read`] goes by it. Images of earlier
-//! libraries have no trailer, and [`former_words`] words. Those are recovered with their sizes given, by [`Store::recover`], and can be used on: every other call but Format takes both.
-//! Nothing in an image says which form it has: the last four words of one without a trailer may look like one, and `recover_read` then destroys it. `include/vandzulge.h` says how
-//! an image is moved to the new form.
+//! An image has [`image_words`] words: the last four, its *trailer*, tell its sizes and how many words stand before them, and [`Store::recover_read`] goes by it. Images of
+//! earlier libraries have no trailer, and [`former_words`] words. Those are recovered with their sizes given, by [`Store::recover`], and can be used on: every other call but
+//! Format takes both. Nothing in an image says which form it has: the last four words of one without a trailer may look like one, and `recover_read` then destroys it.
+//! `include/vandzulge.h` says how an image is moved to the new form.
 
 pub mod images;
 pub mod plain;

@@ -198,11 +198,14 @@ fn write_back_goes_by_the_length() {
 #[test]
 fn the_call_decides_which_form_an_image_has() {
     let random = &mut Random::new(8);
+    let mut lookalikes = 0;
     for sizes in RECOVERED {
         for logs in images::ALL {
             let mut image = images::former_image(sizes, logs);
             let length = image.len();
+            // the smallest image has the length of no image with a trailer
             let Some(trailer) = trailers::fitting(random, length) else { continue };
+            lookalikes += 1;
             image[length - 4..].copy_from_slice(&trailer);
             let mut read = cut(sizes, image.clone());
             assert_eq!(both(&mut read, &Call::RecoverRead(usize::MAX), "as one of the new length"), 0);
@@ -212,4 +215,5 @@ fn the_call_decides_which_form_an_image_has() {
             assert_eq!(given.nvm[length - 4..], [0; 4]);
         }
     }
+    assert!(lookalikes >= 2 * images::ALL.len(), "{lookalikes} images that look like both");
 }

@@ -38,16 +38,21 @@ pub record Live (z : Sizes) (h : History) (m : Machine) : Type 0 where
 unfoldable pub endOf : Sizes → List ℕ → List ℕ
 endOf z image = drop (formerLength z) image
 
+-- a buffer with this end, and so of this length
+pub record HasEnd (z : Sizes) (end : List ℕ) (buffer : List ℕ) : Type 0 where
+  pub long : length buffer ≡ formerLength z + length end
+  pub ends : endOf z buffer ≡ end
+
 -- of a running store: the same in non-volatile memory and in the cache, and flushed by no lane, so that no drain stores to it
 pub record Ends (z : Sizes) (end : List ℕ) (m : Machine) : Type 0 where
-  pub nvm : endOf z (m .nvm) ≡ end
-  pub cache : endOf z (m .cache) ≡ end
-  pub unflushed : endOf z (m .flags) ≡ replicate (length end) 0
+  pub nvm : HasEnd z end (m .nvm)
+  pub cache : HasEnd z end (m .cache)
+  pub unflushed : HasEnd z (replicate (length end) 0) (m .flags)
 
 -- ---- a store: of one without a record nothing but its end is claimed until recovery has finished
 abbrev pub InStep : Sizes → (end : List ℕ) → History → System → Type 0
 InStep z end h (live m) = Live z h m × Ends z end m
-InStep z end h (down nvm j found) = endOf z nvm ≡ end
+InStep z end h (down nvm j found) = HasEnd z end nvm
 
 -- ---- answers
 -- would the append of a call write a slot of a sequence that is not below the least floor, floors as after its lane's drain: cause 9, the one that
@@ -84,7 +89,7 @@ writeBackAnswer z end i = cond (leb (formerLength z + length end) i) (answer.Ref
 
 -- ---- recovery
 -- the answer of a recovery with this limit that finds these cells: cut exactly where stores remain past the limit, else their boundary,
--- how many entries they have to undo, and how many of their slots are torn. Never a refusal: recovery of a formatted store is taken
+-- how many entries they have to undo, and how many of their slots are torn. Never a refusal: recovery by the call that fits is taken
 unfoldable pub recoveryAnswer : Sizes → (limit : ℕ) → (cells : List ℕ) → Recovered
 recoveryAnswer z limit cells =
     cond (allMade z limit cells) (Finished (record { boundary = boundary z cells; undone = length (undoStores z cells); torn = tornIn z cells })) Cut
@@ -148,7 +153,7 @@ Holds d z end y h (e ∷ es) =
     Agrees d z end h e y × Holds d z end (happens d z y e .system) (fed z e (happens d z y e .reply) (happens d z y e .found) h) es
 
 -- the theorem about a store: for all sizes, buffers and start words that Format is not to refuse, and all lists of events that begin with it;
--- the history before it does not matter. It holds of ours (`CrashTheorem.crash-theorem`), and of none of the wrong ones in `proofs/worked/WrongStores`
+-- the history before it does not matter. It holds of ours (`CrashTheorem.crash-theorem`), and not of wrong ones (`proofs/worked/WrongStores`)
 unfoldable pub CrashTheorem : Design → Type 0
 CrashTheorem d =
     (z : Sizes) (start : List ℕ) (m : Machine) (h : History) → formatRefusal z start m ≡ 0
@@ -175,9 +180,14 @@ mayStore (failsInDrain c ws j) = false
 mayStore (failsAfterDrain c j) = false
 mayStore (failsInRecovery n j) = false
 
+-- of a running store, no lane has flushed it; of one without a record nothing is asked
+abbrev pub Unflushed : Sizes → System → Type 0
+Unflushed z (live m) = endOf z (m .flags) ≡ replicate 4 0
+Unflushed z (down nvm j found) = Unit {0}
+
 -- no other event stores to it: of any store whose cells have it and where no lane has flushed it, whatever the cache holds in its place, it leaves these
--- cells as they are. By the crash theorem every running store is such a one
+-- cells as they are. By the crash theorem every store from a Format on is such a one
 unfoldable pub TrailerTheorem : Design → Type 0
 TrailerTheorem d =
-    (z : Sizes) (m : Machine) (e : Event) → mayStore e ≡ false → endOf z (m .nvm) ≡ trailer z → endOf z (m .flags) ≡ replicate 4 0
-    → endOf z (nvmOf (happens d z (live m) e .system)) ≡ trailer z
+    (z : Sizes) (y : System) (e : Event) → mayStore e ≡ false → endOf z (nvmOf y) ≡ trailer z → Unflushed z y
+    → endOf z (nvmOf (happens d z y e .system)) ≡ trailer z

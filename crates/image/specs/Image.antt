@@ -48,7 +48,8 @@ trailer z = z.words ∷ z.lanes ∷ z.slots ∷ formerLength z ∷ []
 unfoldable pub imageLength : Sizes → ℕ
 imageLength z = formerLength z + 4
 
--- ---- refusal 1: sizes out of range, or one of the three buffers not as long as the image. This is the one place that knows of two lengths
+-- ---- refusal 1: sizes out of range, or one of the three buffers not of a length that the call takes. Of the calls' definitions only these know of two
+-- lengths
 -- is each of the three buffers of n words
 unfoldable pub allAre : (n cache nvm flags : ℕ) → Bool
 allAre n cache nvm flags = eqb cache n && (eqb nvm n && eqb flags n)

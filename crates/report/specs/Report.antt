@@ -1,5 +1,5 @@
--- What programs `recover` and `recover_read` print: words out of bytes, the refusals of an input, and the lines of a report. SPECIFICATION, "Program
--- `recover`". Assumes nothing.
+-- What programs `recover` and `recover_read` print: words out of bytes, the refusals of an input, and the lines of a report. SPECIFICATION, "Programs
+-- `recover` and `recover_read`". Assumes nothing.
 use Prim.Native.Nat.{ℕ, zero, suc, _+_, _-_, _*_, _/_, _%_, _^_, _≤_}
 use mathlib.Core.Bool.{Bool, cond, _&&_}
 use mathlib.Core.List.{List, [], _∷_, _++_}

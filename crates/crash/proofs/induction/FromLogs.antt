@@ -162,10 +162,10 @@ module _ (z : Sizes) (ok : sizesOk z ≡ true) (G : ℕ → Machine → History 
       }
 
   -- what a finished recovery leaves is one
-  pub recovered-fresh : (cells words : List ℕ) → formerLength z ≤ length cells → Form z (endOf z cells) → baseOf cells % 2 ≡ 0
+  recovered-fresh : (cells words : List ℕ) → formerLength z ≤ length cells → Form z (endOf z cells) → baseOf cells % 2 ≡ 0
       → dataOf z (recoveredImage z cells) ≡ words → Inv z G (started (newBase z cells) (recoveredImage z cells)) (opened z words (newBase z cells))
   recovered-fresh cells words size form even same =
-      fresh (newBase z cells) (recoveredImage z cells) words (newBase-even z cells even) (rw (recovered-length z cells size) size)
+      fresh (newBase z cells) (recoveredImage z cells) words (newBase-even z cells even) (rw (recovered-length z cells) size)
       (rw (recovered-end z cells) form) (recovered-base z cells size) same (λ L i. recovered-log z cells size L i)
 
   restarted-so : (cells : List ℕ) (h : History) → AtCut z cells h → Inv z G (started (newBase z cells) (recoveredImage z cells)) (restarted z cells h)
@@ -216,7 +216,7 @@ module _ (G : Sizes → ℕ → Machine → History → Type 0) (laws : (z : Siz
       let size : formerLength z ≤ length (m .nvm) = omega (arith, a .1) in
       let form = inl (no-end z (m .nvm) (a .1)) in
       let v = recovered-fresh z (a .0) (G z) (laws z (a .0)) (m .nvm) (dataOf z (recoveredImage z (m .nvm))) size form (a .2) refl in
-      let long : length (recoveredImage z (m .nvm)) ≡ formerLength z + 0 = omega (arith, recovered-length z (m .nvm) size, a .1) in
+      let long : length (recoveredImage z (m .nvm)) ≡ formerLength z + 0 = omega (arith, recovered-length z (m .nvm), a .1) in
       let g = starts-from (λ z. Inv z (G z)) AtCut its-laws z (a .0) [] (inl refl) _ _ v long es in
       subst
       (λ (r : Restarted). (r .answer ≡ recoveryAnswer z limit (m .nvm))

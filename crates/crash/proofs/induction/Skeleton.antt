@@ -8,16 +8,17 @@ use Prim.Native.Nat.{ℕ, _+_, _-_, _≤_, _%_}
 use native.Mathlib.Omega.{arith}
 use lib.Dec.{eqb, leb}
 use lib.ListN.{length, getD}
-use borrow.Author.Tests.{eqb-true, eq-eqb, ne-eqb, not-false}
+use borrow.Author.Tests.{eqb-true, eq-eqb, ne-eqb}
 use Rattle.laws.specs.inner.Tests.{split, and-left, and-right}
 use Rattle.image.specs.Image.{sizesOk, formerLength, trailer, imageLength, allAre, formatOk, buffersOk, baseOf, dataOf}
-use Rattle.image.specs.inner.ImageLaws.{buffers-in, format-in, format-good}
+use Rattle.image.specs.inner.ImageLaws.{buffers-in, format-good}
 use Rattle.image.specs.Flush.{flushed, writtenBack, drainedNvm}
 use Rattle.image.specs.inner.FlushLaws.{length-writtenBack, length-drainedNvm}
 use Rattle.image.specs.declared.Sizes.{Sizes}
 use Rattle.store.specs.Machine.{Machine, Step, firstCause, unless, said}
 use Rattle.store.specs.Calls.{badBuffers, started, startImage, drained, formatRefusal, formatStep, writeBackRefusal, writeBackStep}
 use Rattle.store.specs.inner.FormatLaws.{length-startImage}
+use Rattle.store.specs.inner.StoreLaws.{format-checked}
 use Rattle.store.specs.declared.Answer.the-variants as answer
 use Rattle.recovery.specs.Recovery.{boundary, newBase, recoveredNvm, Restarted, told}
 use Rattle.crash.specs.Events.{Call, drain, Junk, Event, format, writeBack, call, recover, fails, failsInDrain, failsAfterDrain, failsInRecovery}
@@ -26,7 +27,7 @@ use Rattle.crash.specs.Events.{bare, foundOr, afterStep, afterFormat, re
 use Rattle.crash.specs.History.{History, opened, wordsBelow, settled, restarted, taken, afterCall}
 use Rattle.crash.specs.History.{afterRecovered, fedAnswer, fedFailure, fed, leastFloorOf}
 use Rattle.crash.specs.Theorem.{Live, endOf, InStep, Answers, formatAnswer, NotBelow, RecoveryReply, Replied, Holds, CrashTheorem}
-use Rattle.crash.proofs.induction.Moves.{none-holds, Known}
+use Rattle.crash.proofs.induction.Moves.{Known}
 use Rattle.recovery.specs.inner.AgainLaws.{recoveredImage}
 use Rattle.recovery.specs.inner.FreshLaws.{recovered-length, recovered-none}
 use Rattle.crash.proofs.lane.Ends.{Form, Tailed, same-end, length-end, ends-known}
@@ -82,14 +83,6 @@ format-answer z ok end start m (inr e) s =
     let n : length (m .nvm) ≡ formerLength z + 4 = omega (arith, s .nvm, ap length e) in
     formats-at z start m (format-good z _ _ _ ok (record { in-cache = s .cache ∙ n; in-nvm = n; in-flags = s .flags ∙ n })) ∙ rw e
 
-format-true : (z : Sizes) (start : List ℕ) (m : Machine) → formatRefusal z start m ≡ 0
-    → (formatOk z (length (m .cache)) (length (m .nvm)) (length (m .flags)) ≡ true) × (length start ≡ z.words)
-unfolding formatRefusal
-format-true z start m e =
-    let c₁ = none-holds _ _ _ e in
-    let c₂ = none-holds _ _ _ (c₁ .1) in
-    (not-false _ (c₁ .0), eqb-true (length start) z.words (not-false _ (c₂ .0)))
-
 -- ---- write-back
 abbrev written : ℕ → Machine → Machine
 written i m = record { state = m .state; cache = m .cache; nvm = writtenBack i (m .cache) (m .nvm); flags = m .flags }
@@ -143,11 +136,15 @@ module _ (z : Sizes) (ok : sizesOk z ≡ true) (end : List ℕ) (form : Form z e
       let b = buffers-in z _ _ _ (laws .buffers m h (v .inv)) in
       record { nvm = v .long; cache = sym (b .same-nvm); flags = b .same-flags ∙ sym (b .same-nvm) }
 
+  lost-long : (nvm : List ℕ) (j : Junk) (found : List ℕ) (h : History) → Lost nvm j found h → length nvm ≡ formerLength z + length end
+  lost-long nvm j found h l = omega (arith, length-end z nvm, ap length (l .ends), l .leads .size)
+
   in-step : (y : System) (h : History) → Good y h → InStep z end h y
   unfolding Good
   in-step (live m) h v =
-      (laws .lives m h (v .inv), ends-known z end m form (laws .size (m .nvm) h (laws .cuts m h (v .inv))) (v .long) (laws .tails m h (v .inv)))
-  in-step (down nvm j found) h v = v .ends
+      let s = sized-now m h v in
+      (laws .lives m h (v .inv), ends-known z end m form (s .nvm) (s .cache) (s .flags) (laws .tails m h (v .inv)))
+  in-step (down nvm j found) h v = record { long = lost-long nvm j (foundOr nvm found) h v; ends = v .ends }
 
   -- power fails, and leaves these cells, as many as there were
   loses : (was nvm : List ℕ) (j : Junk) (h : History) → length was ≡ length nvm → Cells nvm h → Lost nvm (fit was j) nvm h
@@ -165,7 +162,7 @@ module _ (z : Sizes) (ok : sizesOk z ≡ true) (end : List ℕ) (form : Form z e
   module _ (nvm : List ℕ) (j : Junk) (found : List ℕ) (h : History) (l : Lost nvm j found h) where
     bare-sized : Sized z end (bare nvm j)
     unfolding bare
-    bare-sized = record { nvm = omega (arith, length-end z nvm, ap length (l .ends), l .leads .size); cache = l .cache; flags = l .flags }
+    bare-sized = record { nvm = lost-long nvm j found h l; cache = l .cache; flags = l .flags }
 
     loses-more : (k : ℕ) (i : Junk) → Lost (recoveredNvm z k nvm) (fit nvm i) found h
     unfolding fit
@@ -205,7 +202,7 @@ module _ (z : Sizes) (ok : sizesOk z ≡ true) (end : List ℕ) (form : Form z e
           none = recovered-none z found (laws .size found h a);
         };
       },
-      record { inv = laws .restarts found h a; long = recovered-length z found (laws .size found h a) ∙ leads-length z l ∙ s .nvm },
+      record { inv = laws .restarts found h a; long = recovered-length z found ∙ leads-length z l ∙ s .nvm },
     )
 
     -- by the call that fits
@@ -408,14 +405,14 @@ module _ (Inv : Sizes → Machine → History → Type 0) (AtCut : Sizes → Lis
   pub crash-theorem-from : CrashTheorem vandzulge
   unfolding CrashTheorem vandzulge happens afterFormat fed fedAnswer said started trailer imageLength
   crash-theorem-from z start m h e es =
-      let f = format-true z start m e in
-      let ok = format-in z _ _ _ (f .0) .0 in
-      let v = laws z ok .formats start (f .1) in
+      let f = format-checked z m start e in
+      let ok = f .0 in
+      let v = laws z ok .formats start (f .2) in
       let w : formatStep z start m ≡ record { answer = answer.Done; machine = started 0 (startImage z start) }
-      = formats-at z start m (f .0) ∙ rw (eq-eqb (length start) (z .words) (f .1)) in
-      let g = starts-from z ok (trailer z) (inr refl) (started 0 (startImage z start)) (opened z start 0) v (length-startImage z start (f .1)) es in (
+      = formats-at z start m (format-good z _ _ _ ok (f .1)) ∙ rw (eq-eqb (length start) (z .words) (f .2)) in
+      let g = starts-from z ok (trailer z) (inr refl) (started 0 (startImage z start)) (opened z start 0) v (length-startImage z start (f .2)) es in (
         record {
-          reply = ap (λ (s : Step). s .answer) w ∙ rw (eq-eqb (length start) (z .words) (f .1));
+          reply = ap (λ (s : Step). s .answer) w ∙ rw (eq-eqb (length start) (z .words) (f .2));
           store = subst (λ (s : Step).
               InStep z (trailer z) (cond (said (s .answer) .refused) h (opened z start 0)) (cond (said (s .answer) .refused) (live m) (live (s .machine))))
               (sym w) (g .0);

@@ -53,11 +53,11 @@ module _ (z : Sizes) where
   pub same-length : (a b : List ℕ) → formerLength z ≤ length a → formerLength z ≤ length b → length (endOf z a) ≡ length (endOf z b) → length a ≡ length b
   same-length a b h g e = omega (arith, length-end a, length-end b)
 
-  pub end-at : (l : List ℕ) (i : ℕ) → getD (endOf z l) i 0 ≡ getD l (formerLength z + i) 0
+  end-at : (l : List ℕ) (i : ℕ) → getD (endOf z l) i 0 ≡ getD l (formerLength z + i) 0
   unfolding endOf
   end-at l i = getD-drop (formerLength z) l i 0
 
-  pub end-same : (a b : List ℕ) → length a ≡ length b
+  end-same : (a b : List ℕ) → length a ≡ length b
       → ((i : ℕ) → formerLength z + i < length a → getD a (formerLength z + i) 0 ≡ getD b (formerLength z + i) 0) → endOf z a ≡ endOf z b
   end-same a b e f =
       ext-getD 0 (endOf z a) (endOf z b) (length-end a ∙ ap (λ (n : ℕ). n - formerLength z) e ∙ sym (length-end b))
@@ -75,7 +75,7 @@ module _ (z : Sizes) where
   end-stored image none = refl
   end-stored image (more {x = x} p h) = end-stored (set image (x .at) (x .value)) h ∙ end-set image (x .at) (x .value) p
 
-  pub end-flushed : (L : ℕ) {xs : List Store} (flags : List ℕ) → All (λ x. x .at < formerLength z) xs → endOf z (flushAll L (places xs) flags) ≡ endOf z flags
+  end-flushed : (L : ℕ) {xs : List Store} (flags : List ℕ) → All (λ x. x .at < formerLength z) xs → endOf z (flushAll L (places xs) flags) ≡ endOf z flags
   unfolding flushAll places
   end-flushed L flags none = refl
   end-flushed L flags (more {x = x} p h) =
@@ -101,7 +101,7 @@ module _ (z : Sizes) where
       (ap (λ (k : ℕ). flushed L (getD flags k 0)) (let q : i ≡ formerLength z + (i - formerLength z) = omega (arith, ltb-false i (formerLength z) h) in q)
       ∙ rw (zero-at flags n e (i - formerLength z), flushed-zero L)))
 
-  pub end-cleared : (L n : ℕ) (flags : List ℕ) → endOf z flags ≡ replicate n 0 → endOf z (drainedFlags L flags) ≡ replicate n 0
+  end-cleared : (L n : ℕ) (flags : List ℕ) → endOf z flags ≡ replicate n 0 → endOf z (drainedFlags L flags) ≡ replicate n 0
   end-cleared L n flags e =
       end-same (drainedFlags L flags) flags (length-drainedFlags L flags)
       (λ i h. getD-drainedFlags L flags (formerLength z + i) ∙ rw (zero-at flags n e i, unflush-zero L))
@@ -175,30 +175,37 @@ form-buffers z cache image flags ok size (inr e) c f =
     format-either z _ _ _ (format-good z _ _ _ ok (record { in-cache = c ∙ n; in-nvm = n; in-flags = f ∙ n }))
 
 -- ---- of a machine
-module _ (z : Sizes) (m : Machine) (cl : formerLength z ≤ length (m .cache)) (nl : formerLength z ≤ length (m .nvm)) (fl : formerLength z ≤ length (m .flags))
-    (t : Tailed z m) where
-  pub tail-nvm : (nvm : List ℕ) → endOf z nvm ≡ endOf z (m .nvm)
-      → Tailed z (record { state = m .state; cache = m .cache; nvm = nvm; flags = m .flags })
-  tail-nvm nvm e = record { form = rw e (t .form); cache = rw e (t .cache); flags = rw e (t .flags) }
+pub tail-nvm : (z : Sizes) (m : Machine) → Tailed z m → (nvm : List ℕ) → endOf z nvm ≡ endOf z (m .nvm)
+    → Tailed z (record { state = m .state; cache = m .cache; nvm = nvm; flags = m .flags })
+tail-nvm z m t nvm e = record { form = rw e (t .form); cache = rw e (t .cache); flags = rw e (t .flags) }
 
-  pub tail-drained : (L : ℕ) → Tailed z (drained z L m)
-  unfolding drained
-  tail-drained L =
-      let c = same-length z (m .cache) (m .nvm) cl nl (ap length (t .cache)) in
-      let f = same-length z (m .flags) (m .nvm) fl nl (ap length (t .flags) ∙ length-replicate {A = ℕ} (length (endOf z (m .nvm))) 0) in
-      let n = length (endOf z (m .nvm)) in
-      let e = end-drained z L n (m .flags) (m .cache) (m .nvm) (t .flags) f c in
-      record { form = rw e (t .form); cache = rw e (t .cache); flags = rw e (end-cleared z L n (m .flags) (t .flags)) }
+pub tail-changed : (z : Sizes) (m : Machine) → Tailed z m → (L : ℕ) {xs : List Store} (r : Record) → All (λ x. x .at < formerLength z) xs
+    → Tailed z (changed L xs r m)
+unfolding changed
+tail-changed z m t L r h =
+    record { form = t .form; cache = end-stored z (m .cache) h ∙ t .cache; flags = end-flushed z L (m .flags) h ∙ t .flags }
 
-  pub tail-changed : (L : ℕ) {xs : List Store} (r : Record) → All (λ x. x .at < formerLength z) xs → Tailed z (changed L xs r m)
-  unfolding changed
-  tail-changed L r h =
-      record { form = t .form; cache = end-stored z (m .cache) h ∙ t .cache; flags = end-flushed z L (m .flags) h ∙ t .flags }
+pub tail-drained : (z : Sizes) (m : Machine) → formerLength z ≤ length (m .cache) → formerLength z ≤ length (m .nvm) → formerLength z ≤ length (m .flags)
+    → Tailed z m → (L : ℕ) → Tailed z (drained z L m)
+unfolding drained
+tail-drained z m cl nl fl t L =
+    let n = length (endOf z (m .nvm)) in
+    let c = same-length z (m .cache) (m .nvm) cl nl (ap length (t .cache)) in
+    let f = same-length z (m .flags) (m .nvm) fl nl (ap length (t .flags) ∙ length-replicate {A = ℕ} n 0) in
+    let e = end-drained z L n (m .flags) (m .cache) (m .nvm) (t .flags) f c in
+    record { form = rw e (t .form); cache = rw e (t .cache); flags = rw e (end-cleared z L n (m .flags) (t .flags)) }
 
--- a machine whose end is known by its length
-pub ends-known : (z : Sizes) (end : List ℕ) (m : Machine) → Form z end → formerLength z ≤ length (m .nvm)
-    → length (m .nvm) ≡ formerLength z + length end → Tailed z m → Ends z end m
-ends-known z end m f h n t =
+-- a machine whose end is known by its lengths
+pub ends-known : (z : Sizes) (end : List ℕ) (m : Machine) → Form z end → length (m .nvm) ≡ formerLength z + length end
+    → length (m .cache) ≡ length (m .nvm) → length (m .flags) ≡ length (m .nvm) → Tailed z m → Ends z end m
+ends-known z end m f n c g t =
     let k : length (m .nvm) - formerLength z ≡ length end = omega arith in
     let e = same-end z (endOf z (m .nvm)) end (t .form) f (length-end z (m .nvm) ∙ k) in
-    record { nvm = e; cache = t .cache ∙ e; unflushed = t .flags ∙ ap (λ (l : List ℕ). replicate (length l) 0) e }
+    record {
+      nvm = record { long = n; ends = e };
+      cache = record { long = c ∙ n; ends = t .cache ∙ e };
+      unflushed = record {
+        long = g ∙ n ∙ ap (λ (i : ℕ). formerLength z + i) (sym (length-replicate {A = ℕ} (length end) 0));
+        ends = t .flags ∙ ap (λ (l : List ℕ). replicate (length l) 0) e;
+      };
+    }

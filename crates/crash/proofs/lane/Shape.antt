@@ -70,7 +70,7 @@ module _ (z : Sizes) (m : Machine) (s : Shape z m) where
         in-cache = s .in-cache;
         in-nvm = rw l (s .in-nvm);
         in-flags = s .in-flags;
-        tail = tail-nvm z m (s .in-cache) (s .in-nvm) (s .in-flags) (s .tail) nvm e;
+        tail = tail-nvm z m (s .tail) nvm e;
         lanes = s .lanes;
         clock = s .clock;
         even = s .even;
@@ -128,7 +128,7 @@ module _ (z : Sizes) (m : Machine) (s : Shape z m) where
           in-cache = rw (length-stored xs (m .cache)) (s .in-cache);
           in-nvm = s .in-nvm;
           in-flags = rw (length-flushAll L (places xs) (m .flags)) (s .in-flags);
-          tail = tail-changed z m (s .in-cache) (s .in-nvm) (s .in-flags) (s .tail) L r within;
+          tail = tail-changed z m (s .tail) L r within;
           lanes = l;
           clock = even;
           even = rw b (s .even);

@@ -39,15 +39,15 @@ not-former z image size e n = omega (arith, end-sized z image size e)
 -- ---- not refused, by the call that fits
 module _ (z : Sizes) (ok : sizesOk z ≡ true) (m : Machine) (size : formerLength z ≤ length (m .nvm))
     (cache : length (m .cache) ≡ length (m .nvm)) (flags : length (m .flags) ≡ length (m .nvm)) (even : baseOf (m .nvm) % 2 ≡ 0) where
-  former-taken : endOf z (m .nvm) ≡ [] → recoverRefusal z m ≡ 0
+  given-taken : endOf z (m .nvm) ≡ [] → recoverRefusal z m ≡ 0
   unfolding recoverRefusal firstCause oddBase
-  former-taken e =
+  given-taken e =
       let n = end-none z (m .nvm) size e in
       rw (former-good z _ _ _ ok (record { in-cache = cache ∙ n; in-nvm = n; in-flags = flags ∙ n }), ne-eqb (baseOf (m .nvm) % 2) 1 (λ p. omega arith))
 
-  read-taken : endOf z (m .nvm) ≡ trailer z → recoverReadRefusal m ≡ 0
+  told-taken : endOf z (m .nvm) ≡ trailer z → recoverReadRefusal m ≡ 0
   unfolding recoverReadRefusal firstCause oddBase
-  read-taken e =
+  told-taken e =
       rw (
         all-good _ _ _ _ (record { in-cache = cache; in-nvm = refl; in-flags = flags }),
         end-ok z (m .nvm) size e ok,
@@ -56,9 +56,9 @@ module _ (z : Sizes) (ok : sizesOk z ≡ true) (m : Machine) (size : formerLengt
 
   pub recovery-taken : (limit : ℕ) → Form z (endOf z (m .nvm)) → recoveryOf vandzulge z limit m ≡ recoveredBy z limit 0 m
   unfolding recoveryOf isFormer vandzulge recoverStep recoverReadStep
-  recovery-taken limit (inl e) = rw (eq-eqb (length (m .nvm)) (formerLength z) (end-none z (m .nvm) size e), former-taken e)
+  recovery-taken limit (inl e) = rw (eq-eqb (length (m .nvm)) (formerLength z) (end-none z (m .nvm) size e), given-taken e)
   recovery-taken limit (inr e) =
-      rw (ne-eqb (length (m .nvm)) (formerLength z) (not-former z (m .nvm) size e), end-sizes z (m .nvm) size e, read-taken e)
+      rw (ne-eqb (length (m .nvm)) (formerLength z) (not-former z (m .nvm) size e), end-sizes z (m .nvm) size e, told-taken e)
 
 -- and what a recovery that power cuts short leaves is what the call would
 pub cut-taken : (z : Sizes) (n : ℕ) (nvm : List ℕ) → formerLength z ≤ length nvm → Form z (endOf z nvm) → cutShortOf vandzulge z n nvm ≡ recoveredNvm z n nvm

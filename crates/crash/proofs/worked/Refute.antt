@@ -1,5 +1,5 @@
--- How the crash theorem is shown to be false of a wrong store: a list of events, computed,
--- at whose end the store has other numbers than the theorem gives. Assumes nothing.
+-- How a theorem is shown to be false of a wrong store: a list of events, or one event, computed, at whose end the store has other numbers than the
+-- theorem gives. Assumes nothing.
 use Prim.Native.Nat.{ℕ}
 use mathlib.Core.Path.{_≡_, refl, ap, sym, _∙_}
 use mathlib.Core.Bool.{Bool, true, false, not, _&&_}
@@ -164,8 +164,8 @@ endSides z (down nvm j found) = record { has = endOf z nvm; due = trailer z }
 
 end-due : (z : Sizes) (h : History) (y : System) → InStep z (trailer z) h y → endSides z y .has ≡ endSides z y .due
 unfolding endSides
-end-due z h (live m) v = rw (v .1 .nvm, v .1 .cache, v .1 .unflushed)
-end-due z h (down nvm j found) v = v
+end-due z h (live m) v = rw (v .1 .nvm .ends, v .1 .cache .ends, v .1 .unflushed .ends)
+end-due z h (down nvm j found) v = v .ends
 
 -- ---- a list of events
 pub record World : Type 0 where
@@ -273,12 +273,12 @@ trailerDiffers d z m e has due =
     not (mayStore e) && (same (endOf z (m .nvm)) (trailer z) && (same (endOf z (m .flags)) (replicate 4 0) && differ (trailerSides d z m e) has due))
 
 pub wrong-trailer : (d : Design) (z : Sizes) (m : Machine) (e : Event) (has due : List ℕ) → trailerDiffers d z m e has due ≡ true → TrailerTheorem d → ⊥
-unfolding trailerDiffers trailerSides TrailerTheorem
+unfolding trailerDiffers trailerSides TrailerTheorem nvmOf
 wrong-trailer d z m e has due t c =
     let a = and-right (not (mayStore e)) _ t in
     let b = and-right (same (endOf z (m .nvm)) (trailer z)) _ a in
     differ-not (trailerSides d z m e) has due (and-right (same (endOf z (m .flags)) (replicate 4 0)) _ b)
-    (c z m e (not-true _ (and-left _ _ t)) (same-true _ _ (and-left _ _ a)) (same-true _ _ (and-left _ _ b)))
+    (c z (live m) e (not-true _ (and-left _ _ t)) (same-true _ _ (and-left _ _ a)) (same-true _ _ (and-left _ _ b)))
 
 -- one name that opens all of this, for the lists that the checker computes
 unfoldable pub refuting : ℕ

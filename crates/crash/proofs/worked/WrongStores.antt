@@ -1,13 +1,13 @@
--- Wrong stores, and for each a list of events at whose end the crash theorem is false of it:
--- the traps of this design, and stores that do too little or too much. Assumes nothing.
+-- Wrong stores, and for each events after which the crash theorem, or one of the two theorems beside it, is false of it: the traps of this design, and
+-- stores that do too little or too much. Assumes nothing.
 use Prim.Native.Nat.{ℕ, zero, suc, _+_, _-_, _*_}
 use mathlib.Core.Path.{refl}
-use mathlib.Core.Bool.{Bool, false, cond, _&&_, _||_}
+use mathlib.Core.Bool.{Bool, false, cond, not, _&&_, _||_}
 use mathlib.Core.List.{List, [], _∷_, _++_}
 use lib.Dec.{eqb, leb, ltb}
 use lib.ListN.{length, getD, set, take, drop, replicate}
 use Rattle.txn.specs.Txn.{Instruction, instructions, Rule, former, emit, passed, applied}
-use Rattle.image.specs.Image.{formerLength, imageLength, sizesAtEnd, trailerOk, dataOf, logStart, baseOf}
+use Rattle.image.specs.Image.{formerLength, allAre, formatOk, sizesAtEnd, trailerOk, dataOf, logStart, baseOf}
 use Rattle.image.specs.Flush.{flushAll}
 use Rattle.image.specs.Stores.{Store, stored}
 use Rattle.image.specs.declared.Sizes.{Sizes}
@@ -17,12 +17,12 @@ use Rattle.log.specs.declared.Timestamp.{Timestamp}
 use Rattle.log.specs.declared.Timestamp.the-variants.{None, At}
 use Rattle.record.specs.Record.{startRecord, noPair, laneAt, isLogged, loggedIn, withLane}
 use Rattle.record.specs.declared.Lane.{Lane}
-use Rattle.store.specs.Machine.{Machine, Step, said}
+use Rattle.store.specs.Machine.{Machine, Step, firstCause, said}
 use Rattle.store.specs.Calls.{startImage, started, drained, writesOn, logged}
 use Rattle.store.specs.Calls.{formatStep, writeBackStep, logRefusalBy, logStepBy, redoStep, validateStepBy, markStep}
 use Rattle.store.specs.declared.Answer.the-variants.{Refused, Logged, Stale}
 use Rattle.recovery.specs.Recovery.{completeOf, ordered, undone, undoSequences, undoStores, newBase, tornIn, zeros, recoveredNvm, Restarted}
-use Rattle.recovery.specs.Recovery.{recoveredBy, recoverStep, recoverReadStep}
+use Rattle.recovery.specs.Recovery.{recoveredBy, oddBase, recoverRefusal, recoverStep, recoverReadRefusal, recoverReadStep}
 use Rattle.recovery.specs.declared.Finished.{Finished}
 use Rattle.recovery.specs.declared.Recovered.{Recovered}
 use Rattle.recovery.specs.declared.Recovered.the-variants as recovereds
@@ -90,12 +90,14 @@ formatting f =
     }
 
 -- in the stores that its recovery makes
-unfoldable recoverBy : (Sizes → List ℕ → List Store) → Sizes → (limit : ℕ) → Machine → Restarted
-recoverBy stores z limit m =
+unfoldable recoverBy : (Sizes → List ℕ → List Store) → Sizes → (limit number : ℕ) → Machine → Restarted
+recoverBy stores z limit number m =
     let nvm = stored (take limit (stores z (m .nvm))) (m .nvm) in
-    cond (leb (length (stores z (m .nvm))) limit)
+    cond (eqb number 0)
+    (cond (leb (length (stores z (m .nvm))) limit)
     (record { answer = recoveredBy z limit 0 m .answer; machine = started (baseOf nvm) nvm })
-    (record { answer = recovereds.Cut; machine = record { state = m .state; cache = m .cache; nvm = nvm; flags = m .flags } })
+    (record { answer = recovereds.Cut; machine = record { state = m .state; cache = m .cache; nvm = nvm; flags = m .flags } }))
+    (record { answer = recovereds.Refused number; machine = m })
 
 unfoldable storing : (Sizes → List ℕ → List Store) → Design
 storing stores =
@@ -103,8 +105,8 @@ storing stores =
       format = formatStep;
       writeBack = writeBackStep;
       call = callStep;
-      recover = recoverBy stores;
-      recoverRead = λ limit m. recoverBy stores (sizesAtEnd (m .nvm)) limit m;
+      recover = λ z limit m. recoverBy stores z limit (recoverRefusal z m) m;
+      recoverRead = λ limit m. recoverBy stores (sizesAtEnd (m .nvm)) limit (recoverReadRefusal m) m;
       cutShort = λ z n nvm. stored (take n (stores z nvm)) nvm;
     }
 
@@ -537,7 +539,15 @@ readsCache =
       writeBack = writeBackStep;
       call = callStep;
       recover = recoverStep;
-      recoverRead = λ limit m. recoveredBy (sizesAtEnd (m .cache)) limit (cond (trailerOk (m .cache)) 0 14) m;
+      recoverRead = λ limit m.
+          let n = length (m .nvm) in
+          let number =
+          firstCause
+          (record { number = 1; holds = not (allAre n (length (m .cache)) n (length (m .flags))) }
+          ∷ record { number = 14; holds = not (trailerOk (m .cache)) }
+          ∷ oddBase m
+          ∷ []) in
+          recoveredBy (sizesAtEnd (m .cache)) limit number m;
       cutShort = recoveredNvm;
     }
 
@@ -552,7 +562,9 @@ takesSized =
       format = formatStep;
       writeBack = writeBackStep;
       call = callStep;
-      recover = λ z limit m. recoveredBy z limit (cond (eqb (length (m .nvm)) (imageLength z)) 0 1) m;
+      recover = λ z limit m.
+          let fits = formatOk z (length (m .cache)) (length (m .nvm)) (length (m .flags)) in
+          recoveredBy z limit (firstCause (record { number = 1; holds = not fits } ∷ oddBase m ∷ [])) m;
       recoverRead = recoverReadStep;
       cutShort = recoveredNvm;
     }
@@ -570,7 +582,8 @@ trailerDrained =
     (λ z c m.
     let s = callStep z c m in
     let nvm = take (formerLength z) (s .machine .nvm) ++ drop (formerLength z) (s .machine .cache) in
-    record { answer = s .answer; machine = record { state = s .machine .state; cache = s .machine .cache; nvm = nvm; flags = s .machine .flags } })
+    cond (said (s .answer) .refused) s
+    (record { answer = s .answer; machine = record { state = s .machine .state; cache = s .machine .cache; nvm = nvm; flags = s .machine .flags } }))
 
 trailer-drained : TrailerTheorem trailerDrained → ⊥
 unfolding made trailerDrained

@@ -1,6 +1,7 @@
 -- `image::trailer_ok` meets its contract: each return is one of the laws of the trailer. Assumes nothing.
 use mathlib.Core.Path.{_≡_, sym, ap, _∙_}
 use mathlib.Core.Bool.{true}
+use native.Mathlib.Omega.{arith}
 use borrow.Author.Tests.{not-true, not-false}
 use borrow.Author.Needs.{needs}
 use denote.Ref.{now}
@@ -48,7 +49,8 @@ returns-3 c =
     let f = c .before in
     let e = f .before .before in
     let s = e .before .before in
-    trailer-fourth _ (s .before .if1 .left) (right e) _ (f .former-length .ensures ∙ ap formerLength (s .sizes-at-end .ensures)) (c .if3 .taken)
+    trailer-fourth _ (s .before .if1 .left) (right e) _ (f .former-length .ensures ∙ ap formerLength (s .sizes-at-end .ensures))
+    (λ e. omega (arith, e, c .if3 .taken))
 
 image-length-requires : tie.Need-image-length-requires
 image-length-requires c κs = known (c .before .before .before)
@@ -59,7 +61,8 @@ returns-4 c =
     let f = i .before in
     let e = f .before .before in
     let s = e .before .before in
-    trailer-long _ (s .before .if1 .left) (right e) _ (f .former-length .ensures ∙ ap formerLength (s .sizes-at-end .ensures)) (i .if3 .left)
+    trailer-long _ (s .before .if1 .left) (right e) _ (f .former-length .ensures ∙ ap formerLength (s .sizes-at-end .ensures))
+    (omega (arith, i .if3 .left))
     _ (c .image-length .ensures ∙ ap imageLength (s .sizes-at-end .ensures))
 
 pub trailer-ok-spec : {M : Type 1} → statement M

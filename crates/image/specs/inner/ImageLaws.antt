@@ -108,7 +108,7 @@ module _ (z : Sizes) (cache nvm flags : ℕ) where
   unfolding formatOk
   format-in e = (and-left (sizesOk z) _ e, all-in _ _ _ _ (and-right (sizesOk z) _ e))
 
-  pub format-buffers : formatOk z cache nvm flags ≡ true → Buffers z cache nvm flags
+  format-buffers : formatOk z cache nvm flags ≡ true → Buffers z cache nvm flags
   unfolding imageLength
   format-buffers e = let a = format-in e in long-buffers _ (a .0) (omega arith) (omega arith) (a .1)
 
@@ -181,6 +181,18 @@ module _ (image : List ℕ) where
       let a = and-right (leb 4 (length image)) _ e in
       let b = and-right (sizesOk (sizesAtEnd image)) _ a in
       (and-left (sizesOk (sizesAtEnd image)) _ a, eqb-true _ _ (and-right (eqb (getD image (length image - 1) 0) (formerLength (sizesAtEnd image))) _ b))
+
+  pub trailer-four : trailerOk image ≡ true → 4 ≤ length image
+  unfolding imageLength
+  trailer-four e = omega (arith, trailer-in e .1)
+
+  -- it is then an image of the sizes that it tells
+  pub trailer-image : trailerOk image ≡ true → IsImage (sizesAtEnd image) image
+  unfolding imageLength
+  trailer-image e =
+      let t = trailer-in e in
+      let s = length-small _ (sizes-in _ (t .0)) in
+      record { sizes-ok = t .0; in-image = omega (arith, t .1); small = omega (arith, t .1, s) }
 
 -- an image has a word
 pub image-filled : (z : Sizes) (n : ℕ) → formerLength z ≤ n → 0 < n

@@ -4,10 +4,9 @@ use mathlib.Core.Path.{sym, _∙_}
 use borrow.Author.Needs.{needs}
 use borrow.Author.Tests.{not-true, not-false, ne-eqb, eq-eqb}
 use Rattle.image.specs.Image.{baseOf}
-use Rattle.image.specs.inner.ImageLaws.{image-filled}
+use Rattle.image.specs.inner.ImageLaws.{image-filled, trailer-image}
 use Rattle.store.specs.Machine.{firstCause}
 use Rattle.recovery.specs.Recovery.{oddBase, recoverReadRefusal}
-use Rattle.recovery.specs.inner.RecoveryLaws.{trailer-image}
 use Rattle.recovery.proofs.recover_read_refusal.Statement.{statement}
 use Rattle.recovery.proofs.recover_read_refusal.Tie as tie
 

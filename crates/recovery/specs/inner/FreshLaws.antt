@@ -30,12 +30,12 @@ stores-within z c =
     (All-map (λ x d. d .1)
     (all-zeroing (1 + z.words) (1 + z.words) (2 * z.lanes * z.slots) (1 + z.words + 2 * z.lanes * z.slots) (omega arith) (omega arith))))
 
-module _ (z : Sizes) (c : List ℕ) (size : formerLength z ≤ length c) where
-  pub recovered-length : length (recoveredImage z c) ≡ length c
-  recovered-length = length-stored (recoveryStores z c) c
+pub recovered-length : (z : Sizes) (c : List ℕ) → length (recoveredImage z c) ≡ length c
+recovered-length z c = length-stored (recoveryStores z c) c
 
+module _ (z : Sizes) (c : List ℕ) (size : formerLength z ≤ length c) where
   recovered-fits : formerLength z ≤ length (recoveredImage z c)
-  recovered-fits = rw recovered-length size
+  recovered-fits = rw (recovered-length z c) size
 
   -- what stands at word i: the undo stores, then the base, then the zeros
   at : (i : ℕ) → i < length c

@@ -1,14 +1,13 @@
 -- Inner: how the code goes, need not be believed. Laws of recovery: all stores together, and the call's three outcomes. Assumes nothing.
 use mathlib.Core.Path.{_≡_, sym, ap, _∙_}
-use mathlib.Core.Bool.{true}
 use mathlib.Core.List.{List, [], _∷_, _++_}
 use Prim.Native.Nat.{ℕ, suc, _+_, _-_, _*_, _≤_, _<_}
 use native.Mathlib.Omega.{arith}
 use lib.ListN.{length, getD, take, replicate, length-append}
 use borrow.Author.Tests.{le-leb, lt-leb, ne-eqb, not-false}
-use Rattle.image.specs.Image.{baseOf, imageLength, sizesAtEnd, trailerOk}
+use Rattle.image.specs.Image.{baseOf, sizesAtEnd}
 use Rattle.image.specs.inner.Facts.{IsImage}
-use Rattle.image.specs.inner.ImageLaws.{sizes-in, length-small, all-in, former-buffers, trailer-in}
+use Rattle.image.specs.inner.ImageLaws.{all-in, former-buffers, trailer-four, trailer-image}
 use Rattle.image.specs.Stores.{Store, stored}
 use Rattle.image.specs.inner.StoresLaws.{length-stored}
 use Rattle.image.specs.declared.Sizes.{Sizes}
@@ -76,19 +75,11 @@ recover-checked z m e =
       same-flags = b .same-flags ∙ sym (b .same-nvm);
     }
 
--- an image with a trailer is an image of the sizes that it tells
-pub trailer-image : (image : List ℕ) → trailerOk image ≡ true → IsImage (sizesAtEnd image) image
-unfolding imageLength
-trailer-image image e =
-    let t = trailer-in image e in
-    let s = length-small _ (sizes-in _ (t .0)) in
-    record { sizes-ok = t .0; in-image = omega (arith, t .1); small = omega (arith, t .1, s) }
-
 pub read-long : (m : Machine) → recoverReadRefusal m ≡ 0 → 4 ≤ length (m .nvm)
-unfolding recoverReadRefusal imageLength
+unfolding recoverReadRefusal
 read-long m e =
     let b = first-none _ _ (λ t. omega arith) (first-none _ _ (λ t. omega arith) e .1) in
-    omega (arith, trailer-in _ (not-false _ (b .0)) .1)
+    trailer-four _ (not-false _ (b .0))
 
 pub read-checked : (m : Machine) → recoverReadRefusal m ≡ 0 → Recoverable (sizesAtEnd (m .nvm)) (m .cache) (m .nvm) (m .flags)
 unfolding recoverReadRefusal
@@ -100,7 +91,7 @@ read-checked m e =
 
 -- ---- the outcomes of both
 -- refused, with a number that is not 0
-pub by-refused : (z : Sizes) (limit number : ℕ) (m : Machine) → (number ≡ 0 → ⊥)
+by-refused : (z : Sizes) (limit number : ℕ) (m : Machine) → (number ≡ 0 → ⊥)
     → record { answer = Refused number; machine = m } ≡ recoveredBy z limit number m
 unfolding recoveredBy
 by-refused z limit number m h = rw (ne-eqb number 0 h)

@@ -3,10 +3,11 @@
 use mathlib.Core.Path.{sym, _∙_}
 use borrow.Author.Tests.{not-true, not-false}
 use borrow.Author.Needs.{needs}
+use Rattle.image.specs.inner.ImageLaws.{trailer-four}
 use Rattle.report.specs.Report.{noLimit}
 use Rattle.report.specs.inner.ReadingLaws.{end-fits}
 use Rattle.report.specs.inner.PrintingLaws.{put-same}
-use Rattle.report.specs.inner.ReportLaws.{report-told, report-untold, end-four, end-image}
+use Rattle.report.specs.inner.ReportLaws.{report-told, report-untold, end-image}
 use Rattle.report.proofs.recover_told.Statement.{statement}
 use Rattle.report.proofs.recover_told.Tie as tie
 
@@ -39,7 +40,7 @@ returns c =
 sizes-at-end-requires : tie.Need-sizes-at-end-requires
 sizes-at-end-requires c κs =
     let e = c .before in
-    end-four _ (sym (e .before .trailer-ok .ensures) ∙ not-false _ (e .if1 .left))
+    trailer-four _ (sym (e .before .trailer-ok .ensures) ∙ not-false _ (e .if1 .left))
 
 recover-read-requires : tie.Need-recover-read-requires
 recover-read-requires c κs = search needs

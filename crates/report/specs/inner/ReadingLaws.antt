@@ -1,5 +1,5 @@
--- Inner: how the code goes, need not be believed. Laws of reading: a word is two halves of four bytes; the image word by word; which inputs are well
--- formed. Assumes nothing.
+-- Inner: how the code goes, need not be believed. Laws of reading: a word is two halves of four bytes; the image word by word, and how many words it has;
+-- which inputs are well formed, and which are refused. Assumes nothing.
 use mathlib.Core.Path.{_≡_, refl, sym, ap, _∙_}
 use mathlib.Core.Logic.{_≢_}
 use mathlib.Core.Bool.{true, false, and-false}
@@ -126,7 +126,7 @@ module _ (input : List ℕ) where
   taken-words h e = rw (le-ltb (longest End) (length input) h, eq-eqb (length input % 8) 0 e)
 
   -- an input that is not refused, with the sizes at the start
-  pub is-well : inputRefusal Start input ≡ 0 → wellFormed input ≡ true
+  is-well : inputRefusal Start input ≡ 0 → wellFormed input ≡ true
   unfolding inputRefusal
   is-well e = split (wellFormed input) (λ w. w) (λ w. absurd (let z : 1 ≡ 0 = refused-form w ∙ e in omega arith))
 
@@ -137,7 +137,7 @@ module _ (input : List ℕ) where
   start-sized e = well-sized input (is-well e)
 
   -- and an image alone
-  pub end-short : inputRefusal End input ≡ 0 → length input ≤ longest End
+  end-short : inputRefusal End input ≡ 0 → length input ≤ longest End
   end-short e =
       split (ltb (longest End) (length input))
       (λ t. absurd (let z : 14 ≡ 0 = refused-long (ltb-true _ _ t) ∙ e in omega arith))

@@ -11,9 +11,9 @@ use lib.ListN.{length, take, drop, replicate, length-append, length-drop, length
 use lib.Seq.{length-take-le, take-all}
 use borrow.Author.Tests.{ne-eqb, le-leb, lt-leb, leb-true, leb-false}
 use Rattle.laws.specs.inner.Tests.{split}
-use Rattle.image.specs.Image.{maxWords, sizesOk, formerLength, imageLength, allAre, sizesAtEnd, trailerOk, dataOf}
+use Rattle.image.specs.Image.{maxWords, sizesOk, formerLength, allAre, sizesAtEnd, trailerOk, dataOf}
 use Rattle.image.specs.inner.Facts.{IsImage}
-use Rattle.image.specs.inner.ImageLaws.{sizes-in, length-small, all-good, trailer-in}
+use Rattle.image.specs.inner.ImageLaws.{sizes-in, length-small, all-good, trailer-image}
 use Rattle.image.specs.declared.Sizes.{Sizes}
 use Rattle.log.specs.declared.Timestamp.{Timestamp}
 use Rattle.store.specs.Interface.{blankOf}
@@ -66,7 +66,7 @@ module _ (p : SizesAt) (input : List ℕ) where
   unfolding reportOf
   report-refused number e h = rw (← e, ne-eqb number 0 h)
 
-  pub report-taken : inputRefusal p input ≡ 0 → restartText (sizesIn p input) (recoveredFrom p input) ≡ reportOf p input
+  report-taken : inputRefusal p input ≡ 0 → restartText (sizesIn p input) (recoveredFrom p input) ≡ reportOf p input
   unfolding reportOf
   report-taken e = rw e
 
@@ -149,17 +149,10 @@ start-image input z nvm t s l =
     let e : length nvm ≡ formerLength z = rw s l in
     record { sizes-ok = ok; in-image = omega arith; small = omega (arith, length-small z (sizes-in z ok)) }
 
-module _ (image : List ℕ) (t : trailerOk image ≡ true) where
-  pub end-four : 4 ≤ length image
-  unfolding imageLength
-  end-four = omega (arith, trailer-in image t .1)
-
-  pub end-image : (z : Sizes) (nvm : List ℕ) → z ≡ sizesAtEnd image → length nvm ≡ length image → IsImage z nvm
-  unfolding imageLength
-  end-image z nvm s l =
-      let ok : sizesOk z ≡ true = rw s (trailer-in image t .0) in
-      let e : length nvm ≡ formerLength z + 4 = rw s (l ∙ trailer-in image t .1) in
-      record { sizes-ok = ok; in-image = omega arith; small = omega (arith, length-small z (sizes-in z ok)) }
+pub end-image : (image : List ℕ) → trailerOk image ≡ true → (z : Sizes) (nvm : List ℕ) → z ≡ sizesAtEnd image → length nvm ≡ length image → IsImage z nvm
+end-image image t z nvm s l =
+    let i = trailer-image image t in
+    rw s (record { sizes-ok = i .sizes-ok; in-image = rw l (i .in-image); small = rw l (i .small) })
 
 -- ---- an input of which the first bytes were read
 -- the number that refuses one that is too long
