@@ -103,10 +103,17 @@ module _ (z : Sizes) (cache nvm flags : ℕ) where
         same-flags = omega (arith, a .in-cache, a .in-flags);
       }
 
+  -- the test of one length, and what it tells
+  long-in : (n : ℕ) → (sizesOk z && allAre n cache nvm flags) ≡ true → (sizesOk z ≡ true) × AllAre n cache nvm flags
+  long-in n e = (and-left (sizesOk z) _ e, all-in n cache nvm flags (and-right (sizesOk z) _ e))
+
+  long-good : (n : ℕ) → sizesOk z ≡ true → AllAre n cache nvm flags → (sizesOk z && allAre n cache nvm flags) ≡ true
+  long-good n s a = rw (s, all-good n cache nvm flags a)
+
   -- with a trailer
   pub format-in : formatOk z cache nvm flags ≡ true → (sizesOk z ≡ true) × AllAre (imageLength z) cache nvm flags
   unfolding formatOk
-  format-in e = (and-left (sizesOk z) _ e, all-in _ _ _ _ (and-right (sizesOk z) _ e))
+  format-in = long-in (imageLength z)
 
   format-buffers : formatOk z cache nvm flags ≡ true → Buffers z cache nvm flags
   unfolding imageLength
@@ -115,7 +122,7 @@ module _ (z : Sizes) (cache nvm flags : ℕ) where
   -- without
   pub former-in : formerOk z cache nvm flags ≡ true → (sizesOk z ≡ true) × AllAre (formerLength z) cache nvm flags
   unfolding formerOk
-  former-in e = (and-left (sizesOk z) _ e, all-in _ _ _ _ (and-right (sizesOk z) _ e))
+  former-in = long-in (formerLength z)
 
   pub former-buffers : formerOk z cache nvm flags ≡ true → Buffers z cache nvm flags
   former-buffers e = let a = former-in e in long-buffers _ (a .0) (omega arith) (omega arith) (a .1)
@@ -148,11 +155,11 @@ module _ (z : Sizes) (cache nvm flags : ℕ) where
 
   pub format-good : sizesOk z ≡ true → AllAre (imageLength z) cache nvm flags → formatOk z cache nvm flags ≡ true
   unfolding formatOk
-  format-good s a = rw (s, all-good _ _ _ _ a)
+  format-good = long-good (imageLength z)
 
   pub former-good : sizesOk z ≡ true → AllAre (formerLength z) cache nvm flags → formerOk z cache nvm flags ≡ true
   unfolding formerOk
-  former-good s a = rw (s, all-good _ _ _ _ a)
+  former-good = long-good (formerLength z)
 
 -- ---- the trailer, as it is tested
 module _ (image : List ℕ) where
