@@ -37,6 +37,18 @@
  * the words that its lane has flushed before it changes the cache; recovery stores the entries undone, then the base word, then the log words in rising order, each only
  * where it is not 0 yet, and then changes the cache. It stores to no trailer.
  *
+ * What a power cut can lose. Recovery looks in each lane's log in nvm for the newest timestamp that has all its entries. The lane gives this timestamp, or nothing where it is a
+ * mark, which closes no entries. The least that is given is the boundary: all sequences at or above it are undone, those of marked lanes too, and commits below it stay. Where no
+ * lane gives one, nothing is undone and every commit stays.
+ * In the record each lane has a floor or none: at no cut does the lane give less than its floor, and without one it gives nothing. So a commit is safe, at this cut and at every
+ * later one, as soon as each lane that has a floor has it above the commit's timestamp.
+ *   A drain of the lane, also the one that each of its steps begins with, makes the floor the newest timestamp in the lane's log, where there is one, and ends the floor where that
+ *   is a mark. Where a lane has no floor, the next timestamp that Log or Mark appends sets it: a mark is the floor until it is drained.
+ *   A drain alone does not make a commit safe: the floor of its lane is then the commit's own timestamp, and what is at the boundary is undone. A Mark and then a Drain of the lane
+ *   end the floor; a later logged transaction and then a Drain raise it above the commit.
+ *   A lane that was marked and then drained, and has made no step but drains since, delays nobody: from that drain on the commits of the other lanes become safe by those lanes' own
+ *   steps and drains alone. The next timestamp that is appended to its log gives it a floor again.
+ *
  * Refusals, the lowest number wins, but 14 comes before 10:
  *    1 a size out of range, or a slice of another length      6 Log on a lane that holds a transaction
  *    2 a record field out of range                            7 Redo or Validate on an idle lane
@@ -44,6 +56,7 @@
  *    4 word not in the image                                  9 the append would overwrite a sequence that recovery may need
  *    5 transaction not as above                              10 recovery finds an odd base word
  *   14 recovery without sizes: fewer than four words, a size in the trailer out of range, or a fourth word or a length of nvm that does not agree with these sizes
+ * What recovery may need, for 9: the sequences that are not below the least floor, floors as after the drain that Log or Mark begins with; none where no lane has a floor.
  *
  * Costs are given in passes: over the flags or the image (its whole length), over one lane's log (N slots). Calls with a record read and write it whole.
  */
@@ -79,7 +92,7 @@ uint64_t vandzulge_format(size_t words, size_t lanes, size_t slots, const uint64
 uint64_t vandzulge_write_back(size_t words, size_t lanes, size_t slots,
     const uint64_t *cache, size_t cache_len, uint64_t *nvm, size_t nvm_len, const uint8_t *flags, size_t flags_len, size_t word);
 
-/* Drain: copies every word that the lane has flushed to nvm, and clears its bits. Refusals 1 to 3. One pass over the flags, one over the lane's log.
+/* Drain: copies every word that the lane has flushed to nvm, clears its bits, and moves or ends its floor. Refusals 1 to 3. One pass over the flags, one over the lane's log.
  * Log, Redo, Validate and Mark begin with it. The pass over the log is repeated for each greatest timestamp in it that is not complete, which no run of calls leaves there. */
 uint64_t vandzulge_drain(size_t words, size_t lanes, size_t slots,
     const uint64_t *cache, size_t cache_len, uint64_t *nvm, size_t nvm_len, uint8_t *flags, size_t flags_len,
@@ -103,7 +116,7 @@ uint64_t vandzulge_validate(size_t words, size_t lanes, size_t slots,
     uint64_t *cache, size_t cache_len, uint64_t *nvm, size_t nvm_len, uint8_t *flags, size_t flags_len,
     uint64_t *record, size_t record_len, uint64_t *answer, size_t answer_len, size_t lane, const uint64_t *txn, size_t txn_len);
 
-/* Mark: appends a timestamp over no entries; a logged transaction of the lane is dropped.
+/* Mark: appends a timestamp over no entries; a logged transaction of the lane is dropped. The next drain of the lane ends its floor.
  * Answer: 1 where one was dropped, else 0; timestamp; 0, 0. Refusals 1 to 3, 8, 9. A drain, and a look at 17 slots of the lane's log. */
 uint64_t vandzulge_mark(size_t words, size_t lanes, size_t slots,
     uint64_t *cache, size_t cache_len, uint64_t *nvm, size_t nvm_len, uint8_t *flags, size_t flags_len,
@@ -111,12 +124,12 @@ uint64_t vandzulge_mark(size_t words, size_t lanes, size_t slots,
 
 /* Recovery with sizes given, after a power cut, of an image of the former length: from nvm alone, with at most `limit` stores to it, the words at one boundary; the record's old
  * words are not read.
- * Answer: 0, 0, 0, 0 where stores remain (cut; the record is untouched and lost: recover again, or format); 1, 0, undone, torn where there was no boundary;
- * 2, boundary, undone, torn. undone: how many log entries were undone. torn: how many of the TN log slots were torn in nvm as this call found it: they held something,
- * but no whole entry or timestamp. A cut leaves a torn slot where one of its two words had not reached the memory, and so does a recovery cut short between two words
- * of a slot that it clears; by itself it is no sign of damage. A log word that is 0 already counts as stored. Refusals 1, 10. One pass over the logs, one over the image, a store
- * for each entry undone, and for each sequence undone, or timestamp that is not complete, at most 8 steps in a tree and a look at each lane: docs/PERFORMANCE.md has the
- * worst images. */
+ * Answer: 0, 0, 0, 0 where stores remain (cut; the record is untouched and lost: recover again, or format); 1, 0, 0, torn where no lane gave a boundary, and this call undid
+ * nothing (one that was cut before it may have); 2, boundary, undone, torn. undone: how many log entries were undone. torn: how many of the TN log slots were torn in nvm as this
+ * call found it: they held something, but no whole entry or timestamp. A cut leaves a torn slot where one of its two words had not reached the memory, and so does a recovery cut
+ * short between two words of a slot that it clears; by itself it is no sign of damage. A log word that is 0 already counts as stored. Refusals 1, 10. One pass over the logs, one
+ * over the image, a store for each entry undone, and for each sequence undone, or timestamp that is not complete, at most 8 steps in a tree and a look at each lane:
+ * docs/PERFORMANCE.md has the worst images. */
 uint64_t vandzulge_recover(size_t words, size_t lanes, size_t slots,
     uint64_t *cache, size_t cache_len, uint64_t *nvm, size_t nvm_len, uint8_t *flags, size_t flags_len,
     uint64_t *record, size_t record_len, uint64_t *answer, size_t answer_len, size_t limit);

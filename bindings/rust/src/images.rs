@@ -7,9 +7,11 @@ use crate::{former_words, Sizes};
 pub enum Logs {
     /// every slot 0, 0
     Empty,
-    /// every slot a complete mark, all with the same timestamp: all are undone
+    /// every slot a complete mark, timestamps in no order: no lane gives a boundary, and nothing is undone
+    Marked,
+    /// every slot a complete mark, but the first lane ends with a sequence of one entry, all with the same timestamp: it is the boundary, and all are undone
     EqualMarks,
-    /// every slot a complete mark, timestamps in no order; those of every lane but the first are all above the boundary
+    /// the same with timestamps in no order; those of every lane but the first are all above the boundary
     MixedMarks,
     /// complete sequences of one entry, timestamps in no order; those of every lane but the first are all above the boundary
     Singles,
@@ -23,8 +25,8 @@ pub enum Logs {
     Torn,
 }
 
-pub const ALL: [Logs; 8] =
-    [Logs::Empty, Logs::EqualMarks, Logs::MixedMarks, Logs::Singles, Logs::EqualSequences, Logs::MixedSequences, Logs::Incomplete, Logs::Torn];
+pub const ALL: [Logs; 9] =
+    [Logs::Empty, Logs::Marked, Logs::EqualMarks, Logs::MixedMarks, Logs::Singles, Logs::EqualSequences, Logs::MixedSequences, Logs::Incomplete, Logs::Torn];
 
 /// The image with base 0 and data words 1, 2, 3 and so on.
 pub fn image(sizes: Sizes, logs: Logs) -> Vec<u64> {
@@ -56,13 +58,23 @@ pub fn former_image(sizes: Sizes, logs: Logs) -> Vec<u64> {
 fn slot_words(sizes: Sizes, logs: Logs, lane: usize, slot: usize) -> [u64; 2] {
     match logs {
         Logs::Empty => [0, 0],
-        Logs::EqualMarks => closing(0, 2),
-        Logs::MixedMarks => closing(0, mixed(sizes, lane, slot)),
+        Logs::Marked => closing(0, mixed(sizes, lane, slot)),
+        Logs::EqualMarks => among_marks(sizes, lane, slot, 2),
+        Logs::MixedMarks => among_marks(sizes, lane, slot, mixed(sizes, lane, slot)),
         Logs::Singles => in_sequence(sizes, 1, slot, mixed(sizes, lane, slot)),
         Logs::EqualSequences => in_sequence(sizes, 16, slot, 2),
         Logs::MixedSequences => in_sequence(sizes, 16, slot, mixed(sizes, lane, slot)),
         Logs::Incomplete => closing(1, mixed(sizes, lane, slot)),
         Logs::Torn => [8 * (slot as u64 % sizes.words as u64 + 1) + 1, 2 * slot as u64],
+    }
+}
+
+/// A slot of logs full of marks, but for the last two of lane 0: an entry and the timestamp that closes it.
+fn among_marks(sizes: Sizes, lane: usize, slot: usize, stamp: u64) -> [u64; 2] {
+    match (lane, sizes.slots - slot) {
+        (0, 2) => entry(sizes, slot),
+        (0, 1) => closing(1, stamp),
+        _ => closing(0, stamp),
     }
 }
 
@@ -75,20 +87,24 @@ fn in_sequence(sizes: Sizes, entries: usize, slot: usize, stamp: u64) -> [u64; 2
     } else if slot % length == entries {
         closing(entries as u64, stamp)
     } else {
-        [8 * (slot as u64 % sizes.words as u64 + 1) + 1, 2 * slot as u64 + 1]
+        entry(sizes, slot)
     }
+}
+
+fn entry(sizes: Sizes, slot: usize) -> [u64; 2] {
+    [8 * (slot as u64 % sizes.words as u64 + 1) + 1, 2 * slot as u64 + 1]
 }
 
 fn closing(count: u64, stamp: u64) -> [u64; 2] {
     [8 * (4096 + count) + 1, stamp + 1]
 }
 
-/// Distinct timestamps in no order: lane 0 has the least ones.
+/// Distinct timestamps in no order: lane 0 has the least ones, and its last slot the greatest of these.
 fn mixed(sizes: Sizes, lane: usize, slot: usize) -> u64 {
     let number = if lane == 0 {
         // 101 is prime and divides no number of slots in range but 101 and 202
         let step = if sizes.slots % 101 == 0 { 103 } else { 101 };
-        slot * step % sizes.slots
+        sizes.slots - 1 - (slot + 1) * step % sizes.slots
     } else {
         let others = (sizes.lanes - 1) * sizes.slots;
         let step = if others % 1_009 == 0 { 1_013 } else { 1_009 };

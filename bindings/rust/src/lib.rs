@@ -10,6 +10,10 @@
 //! earlier libraries have no trailer, and [`former_words`] words. Those are recovered with their sizes given, by [`Store::recover`], and can be used on: every other call but
 //! Format takes both. Nothing in an image says which form it has: the last four words of one without a trailer may look like one, and `recover_read` then destroys it.
 //! `include/vandzulge.h` says how an image is moved to the new form.
+//!
+//! After a power cut a lane gives its newest timestamp, or nothing where that is a mark; the least that is given is the *boundary*, and commits at or above it are undone. A lane's
+//! *floor* in the record bounds from below what it gives; without one it gives nothing. So a commit is safe once each lane that has a floor has it above the commit's timestamp. A
+//! lane that was marked and then drained has none until its log is appended to again, and delays no other lane. `include/vandzulge.h` says more.
 
 pub mod images;
 pub mod plain;
@@ -69,7 +73,7 @@ pub enum Refusal {
     Idle,
     /// 8: the clock is spent
     Spent,
-    /// 9: the append would overwrite a sequence that recovery may need
+    /// 9: the append would overwrite a sequence that recovery may need, one not below the least floor
     Overwrite,
     /// 10: recovery finds an odd base word
     OddBase,
@@ -151,7 +155,7 @@ pub struct Mark {
 pub enum Recovery {
     /// Stores remain. The record is lost: only the same recovery or `format` may follow.
     Cut,
-    /// The boundary, how many entries were undone, and how many log slots were torn in the non-volatile memory that this call found.
+    /// The boundary, none where no lane gave one and nothing was undone; how many entries were undone; how many log slots were torn in the non-volatile memory that this call found.
     Finished { boundary: Option<u64>, undone: u64, torn: u64 },
 }
 
@@ -192,7 +196,7 @@ impl Store<'_> {
         taken(raw::write_back(words, lanes, slots, self.cache, self.nvm, self.flags, word))
     }
 
-    /// Copies every word that the lane has flushed to its cell.
+    /// Copies every word that the lane has flushed to its cell. Its floor becomes the newest timestamp in its log, and ends where that is a mark.
     pub fn drain(&mut self, lane: usize) -> Result<(), Refusal> {
         let Sizes { words, lanes, slots } = self.sizes;
         taken(raw::drain(words, lanes, slots, self.cache, self.nvm, self.flags, self.record, lane))
@@ -231,7 +235,7 @@ impl Store<'_> {
         })
     }
 
-    /// Appends an empty sequence, and drops the lane's logged transaction.
+    /// Appends an empty sequence, and drops the lane's logged transaction. The lane's next drain ends its floor.
     pub fn mark(&mut self, lane: usize) -> Result<Mark, Refusal> {
         let Sizes { words, lanes, slots } = self.sizes;
         let mut answer: Answer = [0; ANSWER_WORDS];

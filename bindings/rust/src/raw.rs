@@ -172,7 +172,7 @@ pub fn write_back(words: usize, lanes: usize, slots: usize, cache: &[u64], nvm: 
     unsafe { ffi::vandzulge_write_back(words, lanes, slots, cache.as_ptr(), cache.len(), nvm.as_mut_ptr(), nvm.len(), flags.as_ptr(), flags.len(), word) }
 }
 
-/// Drain of a lane.
+/// Drain of a lane, which moves or ends its floor.
 pub fn drain(words: usize, lanes: usize, slots: usize, cache: &[u64], nvm: &mut [u64], flags: &mut [u8], record: &mut [u64], lane: usize) -> u64 {
     // SAFETY: each pointer and length is that of a slice, and no slice that is written overlaps another.
     unsafe {
@@ -298,7 +298,7 @@ pub fn validate(
     }
 }
 
-/// Mark. Answer: 1 where a logged transaction was dropped, else 0; timestamp; 0, 0.
+/// Mark: the lane's next drain ends its floor. Answer: 1 where a logged transaction was dropped, else 0; timestamp; 0, 0.
 pub fn mark(
     words: usize,
     lanes: usize,
@@ -331,7 +331,8 @@ pub fn mark(
     }
 }
 
-/// Recovery of at most `limit` stores with the sizes given, of an image of the former length. Answer: all 0 where it was cut; 1, 0, undone, torn; 2, boundary, undone, torn.
+/// Recovery of at most `limit` stores with the sizes given, of an image of the former length. Answer: all 0 where it was cut; 1, 0, 0, torn where no lane gave a boundary;
+/// 2, boundary, undone, torn.
 pub fn recover(
     words: usize,
     lanes: usize,

@@ -73,6 +73,27 @@ fn same_on_the_recovery_images() {
     }
 }
 
+/// Each image is the case that it is named for: whether there is a boundary, how many entries are undone, and how many slots are torn.
+#[test]
+fn the_recovery_images_are_what_they_say() {
+    for sizes in RECOVERED {
+        let [lanes, slots] = [sizes.lanes, sizes.slots].map(|number| number as u64);
+        for logs in images::ALL {
+            let mut world = cut(sizes, images::image(sizes, logs));
+            assert_eq!(both(&mut world, &Call::RecoverRead(usize::MAX), "image"), 0);
+            let (boundary, undone, torn) = match logs {
+                images::Logs::Empty | images::Logs::Marked | images::Logs::Incomplete => (false, 0, 0),
+                images::Logs::EqualMarks | images::Logs::MixedMarks => (true, 1, 0),
+                images::Logs::Singles => (true, 1 + (lanes - 1) * (slots / 2), 0),
+                images::Logs::EqualSequences => (true, 16 * lanes * (slots / 17), 0),
+                images::Logs::MixedSequences => (true, 16 + 16 * (lanes - 1) * (slots / 17), 0),
+                images::Logs::Torn => (false, 0, lanes * slots),
+            };
+            assert_eq!((world.answer[0] == 2, world.answer[2], world.answer[3]), (boundary, undone, torn), "{logs:?}, {sizes:?}");
+        }
+    }
+}
+
 #[test]
 fn each_recovery_takes_one_length() {
     for sizes in RECOVERED {

@@ -12,9 +12,40 @@ fn with_length(sizes: Sizes, length: usize, test: impl FnOnce(&mut Store)) {
     test(&mut Store { sizes, cache: &mut vec![0; length], nvm: &mut vec![0; length], flags: &mut vec![0; length], record: &mut [0; RECORD_WORDS] });
 }
 
+/// Power is cut: cache, flags and record are lost.
+fn cut_power(store: &mut Store) {
+    store.cache.fill(77);
+    store.flags.fill(0xff);
+    store.record.fill(99);
+}
+
+/// The lane's floor in the record.
+fn floor(store: &Store, lane: usize) -> Option<u64> {
+    let words = &store.record[2 + 40 * lane..];
+    (words[6] != 0).then_some(words[7])
+}
+
+/// Logs a transaction of one write and commits it, with this timestamp.
+fn commit(store: &mut Store, lane: usize, txn: &[u64], stamp: u64) {
+    assert_eq!(store.log(lane, txn), Ok(Log::Logged { count: 1, stamp: stamp - 2 }));
+    assert_eq!(store.redo(lane), Ok(Redo::Committed { stamp }));
+}
+
+/// Marks a lane that holds no transaction, with this timestamp.
+fn mark(store: &mut Store, lane: usize, stamp: u64) {
+    assert_eq!(store.mark(lane), Ok(Mark { stamp, dropped: false }));
+}
+
+/// A finished recovery that found no torn slots.
+fn finished(boundary: Option<u64>, undone: u64) -> Result<Recovery, Refusal> {
+    Ok(Recovery::Finished { boundary, undone, torn: 0 })
+}
+
 const SIZES: Sizes = Sizes { words: 2, lanes: 2, slots: 34 };
 const COPY_0_TO_1: [u64; 4] = [2, 1, 0, 0];
 const SET_0_TO_2: [u64; 4] = [1, 0, 0, 2];
+const SET_0_TO_5: [u64; 4] = [1, 0, 0, 5];
+const SET_1_TO_7: [u64; 4] = [1, 1, 0, 7];
 const PASS_OVER: [u64; 8] = [5, 0, 0, 1, 1, 0, 0, 9];
 /// Withdrawn: the word whose number is word 0 modulo W becomes 7. And the same where it is passed over if word 1 is 0.
 const POKE: [u64; 4] = [4, 0, 0, 7];
@@ -34,10 +65,7 @@ fn two_lanes_and_a_power_cut() {
             assert_eq!(store.write_back(word), Ok(()));
         }
         assert_eq!(store.nvm[1..3], [2, 2]);
-        // power is cut: cache, flags and record are lost
-        store.cache.fill(77);
-        store.flags.fill(0xff);
-        store.record.fill(99);
+        cut_power(store);
         assert_eq!(store.recover_read(1), Ok(Recovery::Cut));
         assert_eq!(store.recover_read(usize::MAX), Ok(Recovery::Finished { boundary: Some(6), undone: 3, torn: 0 }));
         assert_eq!((store.cache[1..3].to_vec(), store.nvm[1..3].to_vec()), (vec![0, 0], vec![0, 0]));
@@ -74,6 +102,180 @@ fn marks_drains_and_changes() {
         assert_eq!(store.drain(0), Ok(()));
         assert_eq!(store.flags.iter().copied().max(), Some(0));
     });
+}
+
+/// A store of two words 0 whose lane 1 has set word 1 to 7 at 4, was marked at 6 and drained, and rests.
+fn with_lane_1_at_rest(test: impl FnOnce(&mut Store)) {
+    with_store(SIZES, |store| {
+        assert_eq!(store.format(&[0, 0]), Ok(()));
+        commit(store, 1, &SET_1_TO_7, 4);
+        mark(store, 1, 6);
+        assert_eq!(store.drain(1), Ok(()));
+        assert_eq!(floor(store, 1), None);
+        test(store);
+    });
+}
+
+/// Neither lane gives a boundary, since the newest timestamp of each is a mark's. If lane 1's mark at 6 were a boundary, lane 0's commit at 10 would be lost.
+#[test]
+fn a_marked_lane_holds_nothing_back() {
+    with_lane_1_at_rest(|store| {
+        commit(store, 0, &SET_0_TO_2, 10);
+        mark(store, 0, 12);
+        assert_eq!(store.drain(0), Ok(()));
+        assert_eq!((floor(store, 0), floor(store, 1)), (None, None));
+        cut_power(store);
+        assert_eq!(store.recover_read(usize::MAX), finished(None, 0));
+        assert_eq!(store.nvm[..3], [12, 2, 7]);
+    });
+}
+
+/// Lane 0 alone gives a boundary, 14: its first commit, at 10, is below it and stays, as does lane 1's at 4. The second is at the boundary and is undone.
+#[test]
+fn beside_a_lane_at_rest_a_lane_needs_its_own_drains_alone() {
+    with_lane_1_at_rest(|store| {
+        commit(store, 0, &SET_0_TO_2, 10);
+        assert_eq!(store.drain(0), Ok(()));
+        assert_eq!(floor(store, 0), Some(10));
+        commit(store, 0, &SET_0_TO_5, 14);
+        assert_eq!(store.drain(0), Ok(()));
+        // every floor is above 10 now
+        assert_eq!((floor(store, 0), floor(store, 1)), (Some(14), None));
+        cut_power(store);
+        assert_eq!(store.recover_read(usize::MAX), finished(Some(14), 1));
+        assert_eq!(store.nvm[..3], [14, 2, 7]);
+    });
+}
+
+/// A commit can be lost as long as its own lane's floor is not above it: after a drain alone the floor is the commit's timestamp, and after a Mark still.
+#[test]
+fn a_mark_and_its_drain_settle_a_commit() {
+    with_lane_1_at_rest(|store| {
+        commit(store, 0, &SET_0_TO_2, 10);
+        assert_eq!(store.drain(0), Ok(()));
+        assert_eq!(floor(store, 0), Some(10));
+        cut_power(store);
+        assert_eq!(store.recover_read(usize::MAX), finished(Some(10), 1));
+        assert_eq!(store.nvm[1..3], [0, 7]);
+    });
+    with_lane_1_at_rest(|store| {
+        commit(store, 0, &SET_0_TO_2, 10);
+        mark(store, 0, 12);
+        assert_eq!(floor(store, 0), Some(10));
+        // Mark has drained the commit, but the mark itself is in the cache alone
+        cut_power(store);
+        assert_eq!(store.recover_read(usize::MAX), finished(Some(10), 1));
+        assert_eq!(store.nvm[1..3], [0, 7]);
+    });
+    with_lane_1_at_rest(|store| {
+        commit(store, 0, &SET_0_TO_2, 10);
+        mark(store, 0, 12);
+        assert_eq!(store.drain(0), Ok(()));
+        assert_eq!(floor(store, 0), None);
+        cut_power(store);
+        assert_eq!(store.recover_read(usize::MAX), finished(None, 0));
+        assert_eq!(store.nvm[1..3], [2, 7]);
+    });
+}
+
+/// Lane 0 was not marked and gives 4. Lane 1 gives nothing, but its commit at 8 is above 4 and is undone with lane 0's.
+#[test]
+fn a_marked_lane_is_undone_down_to_the_boundary() {
+    with_store(SIZES, |store| {
+        assert_eq!(store.format(&[0, 0]), Ok(()));
+        commit(store, 0, &SET_0_TO_2, 4);
+        assert_eq!(store.drain(0), Ok(()));
+        commit(store, 1, &SET_1_TO_7, 8);
+        mark(store, 1, 10);
+        assert_eq!(store.drain(1), Ok(()));
+        assert_eq!((floor(store, 0), floor(store, 1)), (Some(4), None));
+        cut_power(store);
+        assert_eq!(store.recover_read(usize::MAX), finished(Some(4), 2));
+        assert_eq!(store.nvm[..3], [10, 0, 0]);
+    });
+}
+
+/// A floor ends with the drain of a mark, not with the Mark, and the next timestamp appended sets one again, a mark's too.
+#[test]
+fn a_floor_ends_when_a_mark_is_drained() {
+    with_store(SIZES, |store| {
+        assert_eq!(store.format(&[0, 0]), Ok(()));
+        assert_eq!(floor(store, 1), None);
+        // a mark as the first timestamp of a log
+        mark(store, 1, 2);
+        assert_eq!(floor(store, 1), Some(2));
+        assert_eq!(store.drain(1), Ok(()));
+        assert_eq!(floor(store, 1), None);
+        assert_eq!(store.drain(1), Ok(()));
+        assert_eq!(floor(store, 1), None);
+        // and as a later one; a Log that writes nothing drains it too
+        mark(store, 1, 4);
+        assert_eq!(floor(store, 1), Some(4));
+        assert_eq!(store.log(1, &PASS_OVER), Ok(Log::NoWrites));
+        assert_eq!(floor(store, 1), None);
+        // Log drains the mark at 6 before it appends, and Redo the timestamp that Log gave
+        mark(store, 1, 6);
+        assert_eq!(store.log(1, &SET_1_TO_7), Ok(Log::Logged { count: 1, stamp: 8 }));
+        assert_eq!(floor(store, 1), Some(8));
+        assert_eq!(store.redo(1), Ok(Redo::Committed { stamp: 10 }));
+        assert_eq!(floor(store, 1), Some(8));
+        // Mark drains the commit, and not yet itself; nor do write-backs drain it
+        mark(store, 1, 12);
+        assert_eq!(floor(store, 1), Some(10));
+        for word in 0..image_words(SIZES) {
+            assert_eq!(store.write_back(word), Ok(()));
+        }
+        assert_eq!(floor(store, 1), Some(10));
+        assert_eq!(store.drain(1), Ok(()));
+        assert_eq!((floor(store, 0), floor(store, 1)), (None, None));
+    });
+}
+
+/// Refusal 9 keeps what is not below the least floor, floors as after the lane's drain, and nothing where there is none.
+#[test]
+fn a_marked_lane_keeps_no_slots() {
+    with_store(SIZES, |store| {
+        assert_eq!(store.format(&[0, 0]), Ok(()));
+        mark(store, 1, 2);
+        for _ in 0..SIZES.slots {
+            assert!(store.mark(0).is_ok());
+        }
+        // slot 0 has the mark at 4, and lane 1's floor is 2
+        assert_eq!(store.mark(0), Err(Refusal::Overwrite));
+        assert_eq!(store.drain(1), Ok(()));
+        for _ in 0..3 * SIZES.slots {
+            assert!(store.mark(0).is_ok());
+        }
+    });
+    with_store(SIZES, |store| {
+        let sixteen = SET_0_TO_2.repeat(16);
+        assert_eq!(store.format(&[0, 0]), Ok(()));
+        assert_eq!(store.log(0, &sixteen), Ok(Log::Logged { count: 16, stamp: 2 }));
+        assert_eq!(store.redo(0), Ok(Redo::Committed { stamp: 4 }));
+        mark(store, 0, 6);
+        // from slot 18 around to slot 0, which is of the sequence at 4: the floor is 4, but the drain of the mark ends it
+        assert_eq!(floor(store, 0), Some(4));
+        assert_eq!(store.log(0, &sixteen), Ok(Log::Logged { count: 16, stamp: 8 }));
+        assert_eq!(floor(store, 0), Some(8));
+    });
+}
+
+/// Of two sequences with one timestamp the one in the higher slot decides whether the lane was marked. No run of calls leaves such a log.
+#[test]
+fn of_equal_timestamps_the_higher_slot_decides() {
+    // the old value 9 of word 0, the timestamp 2 that closes it, and the timestamp 2 of a mark
+    let (entry, closing, marked) = ([11, 9], [32_777, 3], [32_769, 3]);
+    for (slots, given, undone, word) in [([entry, closing, marked], None, 0, 0), ([marked, entry, closing], Some(2), 1, 9)] {
+        with_store(SIZES, |store| {
+            assert_eq!(store.format(&[0, 0]), Ok(()));
+            store.nvm[3..9].copy_from_slice(slots.as_flattened());
+            store.cache[3..9].copy_from_slice(slots.as_flattened());
+            assert_eq!(store.drain(0), Ok(()));
+            assert_eq!(floor(store, 0), given);
+            assert_eq!(store.recover_read(usize::MAX), finished(given, undone));
+            assert_eq!(store.nvm[..3], [2, word, 0]);
+        });
+    }
 }
 
 /// A store whose word 0 is 3, with lane 0 as a Log of that POKE left it under the former rule: it wrote word 3 modulo 2, so a Log of a SET of word 1 leaves the same.
@@ -119,9 +321,7 @@ fn the_sizes_are_read_from_the_image() {
         }
         assert_eq!(store.log(0, &SET_0_TO_2), Ok(Log::Logged { count: 1, stamp: 2 }));
         assert_eq!(store.redo(0), Ok(Redo::Committed { stamp: 4 }));
-        store.cache.fill(77);
-        store.flags.fill(0xff);
-        store.record.fill(99);
+        cut_power(store);
         store.sizes = Sizes { words: 1, lanes: 1, slots: 1 };
         assert_eq!(store.recover_read(usize::MAX), Ok(Recovery::Finished { boundary: Some(2), undone: 1, torn: 0 }));
         assert_eq!(store.sizes, SIZES);
@@ -148,9 +348,9 @@ fn an_image_of_the_former_length_is_taken_over() {
         assert_eq!((store.drain(0), store.drain(1)), (Ok(()), Ok(())));
         assert_eq!(store.write_back(138), Ok(()));
         assert_eq!(store.write_back(139), Err(Refusal::Word));
-        // the next start: the commit at 6 stays, below the marks
+        // the next start: both lanes are marked and drained, and the commit at 6 stays
         store.cache.fill(77);
-        assert_eq!(store.recover(usize::MAX), Ok(Recovery::Finished { boundary: Some(8), undone: 0, torn: 0 }));
+        assert_eq!(store.recover(usize::MAX), Ok(Recovery::Finished { boundary: None, undone: 0, torn: 0 }));
         data.extend_from_slice(&store.nvm[1..=SIZES.words]);
         assert_eq!(data, [7, 7]);
     });

@@ -4,6 +4,7 @@ use crate::regions::STORED_NVM;
 use crate::regions::TALLY;
 use crate::session;
 use libc::STDOUT_FILENO;
+use second::fields;
 use second::words::Arena;
 use second::words::CODE;
 use second::words::LANES;
@@ -15,11 +16,11 @@ use second::words::get;
 use second::words::minus;
 use second::words::plus;
 
-fn text(bytes: &[u8]) {
+pub fn text(bytes: &[u8]) {
     io::write_all(STDOUT_FILENO, bytes);
 }
 
-fn counted(name: &[u8], n: u64) {
+pub fn counted(name: &[u8], n: u64) {
     text(name);
     io::print_decimal(STDOUT_FILENO, n);
 }
@@ -64,7 +65,8 @@ fn word(kind: u64) {
     }
 }
 
-fn answer(arena: &Arena) {
+// An answer; then one that ends its line.
+fn said(arena: &Arena) {
     let kind = session::kind(arena);
     match kind {
         second::REFUSED => answered(arena, b"refused "),
@@ -74,6 +76,10 @@ fn answer(arena: &Arena) {
         second::UNBOUNDED => unbounded(arena),
         _ => word(kind),
     }
+}
+
+fn answer(arena: &Arena) {
+    said(arena);
     text(b"\n");
 }
 
@@ -91,9 +97,41 @@ fn call(code: u64) {
     }
 }
 
+// The call that was made.
+pub fn called(arena: &Arena) {
+    call(get(arena, STATE, CODE));
+}
+
+fn floor(arena: &Arena, lane: u64) {
+    let floor = get(arena, STORED, lane << 6 | fields::FLOOR);
+    if floor == fields::NONE {
+        text(b" none");
+    } else {
+        counted(b" ", floor);
+    }
+}
+
+// An answer, and the floors that lanes 0 and 1 have then.
+pub fn floors(arena: &Arena) {
+    said(arena);
+    text(b", floors");
+    floor(arena, 0);
+    floor(arena, 1);
+    text(b"\n");
+}
+
+// An answer of recovery, and what it left: the base timestamp and data words 0 and 1.
+pub fn left(arena: &Arena) {
+    said(arena);
+    counted(b", base ", get(arena, STORED_NVM, 0));
+    counted(b", words ", get(arena, STORED_NVM, 1));
+    counted(b" ", get(arena, STORED_NVM, 2));
+    text(b"\n");
+}
+
 // A call at an edge, and its answer.
 pub fn edge(arena: &Arena, what: &[u8], n: u64) {
-    call(get(arena, STATE, CODE));
+    called(arena);
     counted(what, n);
     text(b": ");
     answer(arena);

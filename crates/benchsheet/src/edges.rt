@@ -339,7 +339,7 @@ fn no_writes(arena: &mut Arena) {
     print::edge(arena, b" without writes, clock ", MAX_STAMP);
 }
 
-fn put_skip(arena: &mut Arena) {
+pub(crate) fn put_skip(arena: &mut Arena) {
     set_row(arena, TXN, 0, 5, 0, 1, 1);
     set_row(arena, TXN, 1, 1, 0, 0, 3);
 }

@@ -1,11 +1,16 @@
 // The bench sheet's half that is run on fixed lists of calls: both sides of the ends of each range, trailers and the
 // lengths that each call takes, the withdrawn POKE, sets of causes of a refusal, the two-lane scenario with recovery
-// cut after each store. The control, which spoils what the store left, is here too. Prints what it ran, what the store
-// answered, and how many calls differed from the second implementation.
+// cut after each store, marked lanes. The control, which spoils what the store left, is here too. Prints what it ran,
+// what the store answered, and how many calls differed from the second implementation.
+mod boundaries;
 mod causes;
 mod control;
 mod edges;
+mod floors;
+mod idle;
 mod lengths;
+mod logs;
+mod overwriting;
 mod scenario;
 mod trailers;
 mod withdrawn;
@@ -66,6 +71,18 @@ const CUTS: u64 = 22;
 
 const FORMER_CUTS: u64 = 23;
 
+const OVER_A_MARK: u64 = 24;
+
+const FLOORS: u64 = 25;
+
+const FLOORS_LISTED: u64 = 26;
+
+const BOUNDARIES: u64 = 27;
+
+const IDLE: u64 = 28;
+
+const IDLE_CUTS: u64 = 29;
+
 // Case i of an edge.
 fn edge(arena: &mut Arena, group: u64, i: u64) {
     match group {
@@ -96,12 +113,24 @@ fn trailer(arena: &mut Arena, group: u64, i: u64) {
     }
 }
 
+// Case i of marked lanes.
+fn mark(arena: &mut Arena, group: u64, i: u64) {
+    match group {
+        OVER_A_MARK => overwriting::marked(arena, i),
+        FLOORS => floors::cases(arena, i),
+        FLOORS_LISTED => floors::list(arena),
+        BOUNDARIES => boundaries::cases(arena, i),
+        IDLE => idle::list(arena),
+        _ => idle::cut(arena, i),
+    }
+}
+
 // Case i of any other group.
 fn case(arena: &mut Arena, group: u64, i: u64) {
     match group {
         SPOILED => control::spoiled(arena, i),
         SETS => causes::every_set(arena, i),
-        OVERWRITING => causes::overwriting(arena, i),
+        OVERWRITING => overwriting::cases(arena, i),
         TWO_LANES => scenario::run(arena),
         CUTS => scenario::run_cut(arena, i),
         _ => scenario::run_former(arena, i),
@@ -116,8 +145,10 @@ fn cases(arena: &mut Arena, group: u64, count: u64) {
             edge(arena, group, i);
         } else if group <= TRAILER_CUTS {
             trailer(arena, group, i);
-        } else {
+        } else if group <= FORMER_CUTS {
             case(arena, group, i);
+        } else {
+            mark(arena, group, i);
         }
     }
 }
@@ -171,7 +202,7 @@ fn spoiled_results(arena: &mut Arena) {
 
 fn refusals(arena: &mut Arena) {
     run(arena, SETS, causes::CASES, b"sets of causes");
-    run(arena, OVERWRITING, 544, b"overwriting");
+    run(arena, OVERWRITING, overwriting::CASES, b"overwriting");
 }
 
 fn two_lanes(arena: &mut Arena) {
@@ -190,6 +221,33 @@ fn two_lanes(arena: &mut Arena) {
     );
 }
 
+fn marks(arena: &mut Arena) {
+    run(
+        arena,
+        OVER_A_MARK,
+        overwriting::MARKED_CASES,
+        b"overwriting, the newest a mark",
+    );
+    run(arena, FLOORS, floors::CASES, b"floors after each call");
+    run(arena, FLOORS_LISTED, 1, b"floors along a list");
+    run(
+        arena,
+        BOUNDARIES,
+        boundaries::CASES,
+        b"boundaries of two lanes",
+    );
+}
+
+fn idle_lane(arena: &mut Arena) {
+    run(arena, IDLE, 1, b"an idle lane");
+    run(
+        arena,
+        IDLE_CUTS,
+        idle::CUTS,
+        b"an idle lane, power fails at its mark",
+    );
+}
+
 fn main() {
     let mut arena = [0u64; ALL];
     first_edges(&mut arena);
@@ -199,4 +257,6 @@ fn main() {
     spoiled_results(&mut arena);
     refusals(&mut arena);
     two_lanes(&mut arena);
+    marks(&mut arena);
+    idle_lane(&mut arena);
 }

@@ -48,24 +48,29 @@ fn step(arena: &mut Arena, i: u64) {
     print::edge(arena, b", lane ", lane);
 }
 
-// Two words of 0, and the six calls.
-fn play(arena: &mut Arena) {
+// A new store, of two words of 0.
+pub(crate) fn format(arena: &mut Arena) {
     edges::start(arena);
     set_row(arena, TXN, 0, 0, 0, 0, 0);
     session::call(arena, second::FORMAT, 0, 2);
+}
+
+// That, and the six calls.
+fn play(arena: &mut Arena) {
+    format(arena);
     for i in 0..6 {
         step(arena, i);
     }
 }
 
-fn write_all_back(arena: &mut Arena) {
+pub(crate) fn write_all_back(arena: &mut Arena) {
     for i in 0..session::length(arena) {
         session::call(arena, second::WRITE_BACK, i, 0);
     }
 }
 
 // Power fails, and recovery finds what is in non-volatile memory.
-fn recover(arena: &mut Arena, limit: u64) {
+pub(crate) fn recover(arena: &mut Arena, limit: u64) {
     put(arena, STATE, SEED, 7);
     power::scramble(arena);
     power::recover_within(arena, limit);

@@ -4,3 +4,8 @@ pub mod Fed
 pub mod Trailer
 pub mod Skeleton
 pub mod FromLogs
+pub mod Lists
+pub mod Pages
+pub mod Kept
+pub mod Idle
+pub mod Safe

@@ -12,7 +12,7 @@ pub mod Ends
 pub mod Restamp
 pub mod View
 pub mod Shown
-pub mod Latest
+pub mod Newest
 pub mod Written
 pub mod Shape
 pub mod Log

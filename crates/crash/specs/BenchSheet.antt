@@ -7,18 +7,23 @@ use Rattle.slot.specs.Slot.{entryOf, stampOf, readOf}
 use Rattle.slot.specs.declared.Content.the-variants.{Empty, Torn}
 use Rattle.txn.specs.Txn.{after}
 use Rattle.image.specs.declared.Sizes.{Sizes}
-use Rattle.log.specs.declared.Timestamp.the-variants.{At}
+use Rattle.log.specs.declared.Timestamp.the-variants.{None, At}
 use Rattle.recovery.specs.Recovery.{boundary}
 
 -- one data word and two lanes of 34 slots
 abbrev pub twoLanes : Sizes
 twoLanes = record { words = 1; lanes = 2; slots = 34 }
 
--- an image whose lanes have a timestamp each, over no entries, in their first slot
-abbrev pub marked : (s t : ℕ) → List ℕ
-marked s t =
-    0 ∷ 0 ∷ stampOf 0 s 1 .address ∷ stampOf 0 s 1 .value ∷ replicate 66 0
-    ++ (stampOf 0 t 1 .address ∷ stampOf 0 t 1 .value ∷ replicate 66 0)
+-- an image of these two logs, with base and word 0
+abbrev pub twoLogs : (a b : List ℕ) → List ℕ
+twoLogs a b = 0 ∷ 0 ∷ a ++ b
+
+-- a log of one sequence stamped s: over one entry, of word 0, or a mark
+abbrev pub closed : (s : ℕ) → List ℕ
+closed s = entryOf 0 0 1 .address ∷ entryOf 0 0 1 .value ∷ stampOf 1 s 1 .address ∷ stampOf 1 s 1 .value ∷ replicate 64 0
+
+abbrev pub marked : (s : ℕ) → List ℕ
+marked s = stampOf 0 s 1 .address ∷ stampOf 0 s 1 .value ∷ replicate 66 0
 
 pub record BenchSheet : Type 0 where
   pub word-3-old-5-wrap-1 : entryOf 3 5 1 ≡ record { address = 35; value = 5 }
@@ -31,4 +36,7 @@ pub record BenchSheet : Type 0 where
   pub empty-0-0 : readOf 1024 0 0 ≡ Empty
   -- ADD of 1 to the greatest word
   pub add-wraps : after 1 (3 ∷ 0 ∷ 0 ∷ 1 ∷ []) ((2 ^ 64 - 1) ∷ []) ≡ 0 ∷ []
-  pub newest-6-and-10 : boundary twoLanes (marked 6 10) ≡ At 6
+  pub newest-6-and-10 : boundary twoLanes (twoLogs (closed 6) (closed 10)) ≡ At 6
+  -- a marked lane gives none
+  pub mark-6-and-10 : boundary twoLanes (twoLogs (marked 6) (closed 10)) ≡ At 10
+  pub marks-6-and-10 : boundary twoLanes (twoLogs (marked 6) (marked 10)) ≡ None

@@ -22,10 +22,16 @@ use Rattle.crash.specs.Events.{Call, logBy, redo, validateBy, mark, drai
 use Rattle.crash.specs.Events.{Event, format, writeBack, call, recover, fails, failsInDrain, failsAfterDrain, failsInRecovery}
 use Rattle.crash.specs.Events.{Reply, answered, recovered, failed, ignored}
 
+-- a lane's newest timestamp: unset at a start, one that closes entries, or a mark's
+pub data Newest : Type 0 where
+  unset : Newest
+  closing : (stamp : ℕ) → Newest
+  marking : (stamp : ℕ) → Newest
+
 -- a lane's page: the transaction it holds, its newest timestamp, its floor
 pub record Page : Type 0 where
   pub held : Option (List ℕ)
-  pub newest : Timestamp
+  pub newest : Newest
   pub floor : Timestamp
 
 -- a commit: its timestamp and its transaction
@@ -41,7 +47,7 @@ pub record History : Type 0 where
   pub pages : List Page
 
 abbrev pub blankPage : Page
-blankPage = record { held = none; newest = None; floor = None }
+blankPage = record { held = none; newest = unset; floor = None }
 
 unfoldable pub pageAt : History → ℕ → Page
 pageAt h L = getD h.pages L blankPage
@@ -68,7 +74,13 @@ unfoldable pub floorOr : Timestamp → Timestamp → Timestamp
 floorOr None b = b
 floorOr (At a) b = At a
 
--- a drain of lane L: its newest timestamp, if any, becomes its floor
+-- a lane's floor after a drain
+unfoldable pub floorOnDrain : Newest → Timestamp → Timestamp
+floorOnDrain unset floor = floor
+floorOnDrain (closing s) floor = At s
+floorOnDrain (marking s) floor = None
+
+-- a drain of lane L: its newest timestamp, if any, becomes its floor; a mark's ends it
 unfoldable pub settled : ℕ → History → History
 settled L h =
     let p = pageAt h L in
@@ -76,18 +88,18 @@ settled L h =
       start = h.start;
       clock = h.clock;
       commits = h.commits;
-      pages = set h.pages L (record { held = p.held; newest = p.newest; floor = floorOr p.newest p.floor });
+      pages = set h.pages L (record { held = p.held; newest = p.newest; floor = floorOnDrain p.newest p.floor });
     }
 
--- a new timestamp of lane L, with what it then holds and what is committed
-unfoldable pub stamped : ℕ → Option (List ℕ) → List (List ℕ) → History → History
-stamped L held txns h =
+-- a new timestamp of lane L, which closes entries or is a mark's, with what the lane then holds and what is committed
+unfoldable pub stamped : ℕ → (ℕ → Newest) → Option (List ℕ) → List (List ℕ) → History → History
+stamped L kind held txns h =
     let s = h.clock + 2 in
     record {
       start = h.start;
       clock = s;
       commits = h.commits ++ map (λ f. record { stamp = s; txn = f }) txns;
-      pages = set h.pages L (record { held = held; newest = At s; floor = floorOr (pageAt h L .floor) (At s) });
+      pages = set h.pages L (record { held = held; newest = kind s; floor = floorOr (pageAt h L .floor) (At s) });
     }
 
 -- lane L holds nothing any more
@@ -111,10 +123,10 @@ isCounted (n ∷ ns) = leb 1 n
 
 -- a call that was taken, by what it answered
 unfoldable pub taken : Call → Said → History → History
-taken (logBy r L f) t h = cond (isCounted t.count) (stamped L (some f) [] (settled L h)) (settled L h)
-taken (redo L) t h = cond t.stale (settled L h) (stamped L none (heldBy (pageAt h L .held)) (settled L h))
-taken (validateBy r L f) t h = cond t.changed (released L (settled L h)) (stamped L none (f ∷ []) (settled L h))
-taken (mark L) t h = stamped L none [] (settled L h)
+taken (logBy r L f) t h = cond (isCounted t.count) (stamped L closing (some f) [] (settled L h)) (settled L h)
+taken (redo L) t h = cond t.stale (settled L h) (stamped L closing none (heldBy (pageAt h L .held)) (settled L h))
+taken (validateBy r L f) t h = cond t.changed (released L (settled L h)) (stamped L closing none (f ∷ []) (settled L h))
+taken (mark L) t h = stamped L marking none [] (settled L h)
 taken (drain L) t h = settled L h
 
 -- a finished recovery that started from these cut cells
@@ -168,9 +180,14 @@ present z h = wordsBelow z None h
 unfoldable pub writesNow : Sizes → List ℕ → History → List Write
 writesNow z f h = run z.words f (present z h)
 
+unfoldable pub stampOf : Newest → Timestamp
+stampOf unset = None
+stampOf (closing s) = At s
+stampOf (marking s) = At s
+
 -- the writes that lane L has logged: those of the transaction that it holds, on the words before its timestamp
 unfoldable pub writesLogged : Sizes → ℕ → History → List Write
-writesLogged z L h = elim (pageAt h L .held) [ none ↦ [] | some f ↦ run z.words f (wordsBelow z (pageAt h L .newest) h) ]
+writesLogged z L h = elim (pageAt h L .held) [ none ↦ [] | some f ↦ run z.words f (wordsBelow z (stampOf (pageAt h L .newest)) h) ]
 
 -- the same words and old values, in the same order
 unfoldable pub sameOlds : List Write → List Write → Bool
@@ -224,7 +241,7 @@ unfoldable pub takenAnswer : Sizes → Call → History → Answer
 takenAnswer z (logBy r L f) h =
     let n = length (writesNow z f h) in
     cond (eqb n 0) answer.NoWrites (answer.Logged (record { count = n; stamp = h.clock + 2 }))
-takenAnswer z (redo L) h = cond (commitAbove (pageAt h L .newest) h.commits) answer.Stale (answer.Committed (h.clock + 2))
+takenAnswer z (redo L) h = cond (commitAbove (stampOf (pageAt h L .newest)) h.commits) answer.Stale (answer.Committed (h.clock + 2))
 takenAnswer z (validateBy r L f) h =
     cond (sameOlds (writesNow z f h) (writesLogged z L h)) (answer.Committed (h.clock + 2)) answer.Changed
 takenAnswer z (mark L) h = answer.Marked (record { stamp = h.clock + 2; dropped = holdsOne L h })

@@ -22,7 +22,7 @@ use Rattle.recovery.specs.declared.Recovered.the-variants.{Refused, Cut, Finish
 use Rattle.crash.specs.Events.{Call, laneOf, System, live, down, nvmOf, Design, happens}
 use Rattle.crash.specs.Events.{Event, format, writeBack, call, recover, fails, failsInDrain, failsAfterDrain, failsInRecovery}
 use Rattle.crash.specs.Events.{Reply, answered, recovered, failed, ignored}
-use Rattle.crash.specs.History.{History, opened, fed, pageAt, present, wordsBelow, leastFloorOf, settled, isSome, causesBy, slotsBy, takenAnswer}
+use Rattle.crash.specs.History.{History, unset, opened, fed, pageAt, present, wordsBelow, leastFloorOf, settled, isSome, causesBy, slotsBy, takenAnswer}
 
 -- ---- a running store
 pub record Live (z : Sizes) (h : History) (m : Machine) : Type 0 where
@@ -73,7 +73,7 @@ pub record Answers (z : Sizes) (h : History) (m : Machine) (c : Call) (a : Answe
   -- is the one that is due
   pub gives : a ≡ answerBy z c h m
   -- and a lane whose log is full has appended since the start
-  pub appended : laneOf c < z .lanes → isFull z c h m ≡ true → pageAt h (laneOf c) .newest ≡ None → ⊥
+  pub appended : laneOf c < z .lanes → isFull z c h m ≡ true → pageAt h (laneOf c) .newest ≡ unset → ⊥
 
 -- without a record no call is answered
 abbrev pub CallReply : Sizes → History → System → Call → Answer → Type 0

@@ -87,10 +87,15 @@ latest (q ∷ qs) = later (sequenceOf q) (latest qs)
 unfoldable pub latestIn : Sizes → List ℕ → ℕ → Latest
 latestIn z image L = latest (completeIn z image L)
 
--- the timestamp that a lane gives to the boundary: its latest sequence's
+-- what a sequence of n entries stamped s gives to the boundary, and to its lane's floor at a drain: its timestamp, but a mark, which closes no entries,
+-- gives none
+unfoldable pub given : (n s : ℕ) → Timestamp
+given n s = cond (eqb n 0) None (At s)
+
+-- what a lane gives to the boundary: what its latest sequence gives
 unfoldable pub contribution : Latest → Timestamp
 contribution Nothing = None
-contribution (Is q) = At q.stamp
+contribution (Is q) = given q.count q.stamp
 
 -- ---- overwriting
 -- how many slots slot j comes after slot k, circularly

@@ -2,5 +2,6 @@
 pub mod LogLaws
 pub mod Search
 pub mod SearchLaws
+pub mod LatestLaws
 pub mod AppendEntries
 pub mod AppendLaws

@@ -5,7 +5,7 @@ ghost use Prim.Native.Nat.{_+_, _*_, _≤_, _<_};
 ghost use lib.ListN.{length};
 ghost use Rattle.image.specs.Image.{maxSlots};
 ghost use Rattle.image.specs.inner.Facts.{IsLog};
-ghost use Rattle.log.specs.Log.{slotAt, back as backOf};
+ghost use Rattle.log.specs.Log.{slotAt, back as backOf, given as givenOf};
 ghost use Rattle.log.specs.inner.Search.{stampHigh, isEntry, entryBack, wholeBack, closedAt};
 use slot::Content;
 use slot::Slot;
@@ -36,6 +36,18 @@ pub enum Latest {
 pub struct Cursor {
     pub slot: usize,
     pub wrap: u64,
+}
+
+// What a sequence gives to the boundary, and to its lane's floor at a drain: its timestamp, but a mark, which closes no
+// entries, gives none.
+pub fn given(count: usize, stamp: u64) -> Timestamp
+    ensures { λ r. ⌜ r ≡ givenOf count stamp ⌝ }
+{
+    if count == 0 {
+        Timestamp::None
+    } else {
+        Timestamp::At(stamp)
+    }
 }
 
 // What slot j says, in an image of `words` data words.

@@ -8,6 +8,7 @@ use Rattle.txn.specs.Txn.{maxWrites}
 use Rattle.txn.specs.declared.Write.{Write}
 use Rattle.image.specs.Image.{maxLanes}
 use Rattle.image.specs.declared.Sizes.{Sizes}
+use Rattle.log.specs.Log.{given}
 use Rattle.log.specs.declared.Timestamp.{Timestamp}
 use Rattle.log.specs.declared.Timestamp.the-variants.{None, At}
 use Rattle.log.specs.declared.Latest.{Latest}
@@ -100,12 +101,12 @@ leastFloor (l ∷ ls) = lesser l.floor (leastFloor ls)
 unfoldable pub boundOf : Sizes → Record → Timestamp
 boundOf z r = leastFloor (take z.lanes r.lanes)
 
--- a lane's floor after a drain: the timestamp of its latest sequence, if it has one
+-- a lane's floor after a drain: what its latest sequence gives, if it has one; so a drained mark ends it
 unfoldable pub floorAfterDrain : Latest → Timestamp → Timestamp
 floorAfterDrain Nothing floor = floor
-floorAfterDrain (Is q) floor = At q.stamp
+floorAfterDrain (Is q) floor = given q.count q.stamp
 
--- after an append stamped s: a first sequence sets it
+-- after an append stamped s, a mark's too: it sets a floor where there is none
 unfoldable pub floorAfterAppend : ℕ → Timestamp → Timestamp
 floorAfterAppend s None = At s
 floorAfterAppend s (At f) = At f

@@ -39,7 +39,8 @@ pub struct Lane {
     // the next slot of the log, and the wrap bit it is written with
     pub next: usize,
     pub wrap: u64,
-    // the low-water mark: the timestamp that the last drained sequence had, or the first's while none is drained
+    // the low-water mark: the timestamp that the last drained sequence had, none if that was a mark; where there is
+    // none, the next sequence sets it
     pub floor: Timestamp,
     // the redo log: a logged transaction's writes, in order
     pub redo: [Pair; MAX_WRITES],
@@ -244,17 +245,17 @@ pub fn bound_of(sizes: Sizes, state: Record) -> Timestamp
     bound
 }
 
-// A lane's floor after a drain that found this latest sequence.
+// A lane's floor after a drain that found this latest sequence: a drained mark ends it.
 pub fn floor_after_drain(latest: Latest, floor: Timestamp) -> Timestamp
     ensures { λ r. ⌜ r ≡ floorAfterDrain latest floor ⌝ }
 {
     match latest {
         Latest::Nothing => floor,
-        Latest::Is(sequence) => Timestamp::At(sequence.stamp),
+        Latest::Is(sequence) => log::given(sequence.count, sequence.stamp),
     }
 }
 
-// A lane's floor after an append: a first sequence sets it.
+// A lane's floor after an append, which sets one where there is none.
 pub fn floor_after_append(stamp: u64, floor: Timestamp) -> Timestamp
     ensures { λ r. ⌜ r ≡ floorAfterAppend stamp floor ⌝ }
 {

@@ -114,8 +114,8 @@ fn offer(sizes: Sizes, nvm: &[u64], lane: usize, stamps: &mut [u64]) -> Seen
     Seen { greatest, torn }
 }
 
-// The timestamp of a lane's latest sequence. Those offered are tried from the greatest down, each over its entries, up
-// to the first complete one; those found incomplete are offered no more.
+// What a lane gives to the boundary, which is what its latest sequence gives. The timestamps offered are tried from the
+// greatest down, each over its entries, up to the first complete one; those found incomplete are offered no more.
 fn latest(sizes: Sizes, nvm: &[u64], lane: usize, stamps: &mut [u64], tree: &mut [u16]) -> Timestamp
     requires { ⌜ IsImage sizes (now nvm) ⌝ }
     requires { ⌜ lane < sizes .lanes ⌝ }
@@ -141,7 +141,7 @@ fn latest(sizes: Sizes, nvm: &[u64], lane: usize, stamps: &mut [u64], tree: &mut
                 continue 'stamps;
             }
         }
-        return Timestamp::At(stamp);
+        return log::given(count, stamp);
     }
 }
 
@@ -171,16 +171,16 @@ fn read_lane(
     let boundary = found.boundary;
     let seen = offer(sizes, nvm, lane, stamps);
     winners::build(stamps, tree);
-    let newest = latest(sizes, nvm, lane, stamps, tree);
+    let given = latest(sizes, nvm, lane, stamps, tree);
     Found {
-        boundary: record::lesser(boundary, newest),
+        boundary: record::lesser(boundary, given),
         base: greater(found.base, seen.greatest),
         torn: found.torn + seen.torn,
     }
 }
 
-// Reads all logs, each lane's timestamps into its part of the array: the boundary, which is the least of the lanes'
-// latest timestamps, the new base, which is the greatest of the base and all whole timestamps, and the torn slots.
+// Reads all logs, each lane's timestamps into its part of the array: the boundary, which is the least timestamp that a
+// lane gives, the new base, which is the greatest of the base and all whole timestamps, and the torn slots.
 pub fn scan(sizes: Sizes, nvm: &[u64], stamps: &mut [u64], tree: &mut [u16]) -> Found
     requires { ⌜ IsImage sizes (now nvm) ⌝ }
     requires { ⌜ LaneRoom sizes (now stamps) (now tree) ⌝ }

@@ -217,10 +217,14 @@ fn drain_words(arena: &mut Arena, lane: u64) {
     }
 }
 
-// A lane's floor after a drain, where its n sequences are in the table.
+// A lane's floor after a drain, where its n sequences are in the table, the newest in row 0: where that one is a mark,
+// which closes no entries, the floor ends.
 fn floor_after(arena: &Arena, lane: u64, n: u64) -> u64 {
     if n == 0 {
         return field(arena, lane, fields::FLOOR);
+    }
+    if cell(arena, FOUND, 0, reading::OF_COUNT) == 0 {
+        return fields::NONE;
     }
     cell(arena, FOUND, 0, reading::OF_STAMP)
 }
@@ -360,7 +364,7 @@ fn tick(arena: &mut Arena) -> u64 {
     stamp
 }
 
-// The timestamp behind the entries, which is a first floor.
+// The timestamp behind the entries, which is the lane's floor where it has none.
 fn append_stamp(arena: &mut Arena, lane: u64, count: u64) -> u64 {
     let stamp = tick(arena);
     let wrap = field(arena, lane, fields::PRESENT);

@@ -70,13 +70,15 @@ pub fn put_trailer(arena: &mut Arena, image: u64) {
     put(arena, image, plus(end, 3), end);
 }
 
-// The boundary: going down the n sequences, the timestamp at which the last of the lanes that have one turns up.
+// The boundary: going down the n sequences, the timestamp at which the last of the lanes that give one turns up. Not
+// all do: a lane turns up with its newest sequence, and gives none where that closes no entries.
 fn boundary_of(arena: &mut Arena, n: u64) -> u64 {
     clear(arena, OWNERS, MAX_LANES);
     let mut boundary = fields::NONE;
     for row in 0..n {
         let lane = cell(arena, FOUND, row, reading::OF_ROW) / MAX_SLOTS;
-        if get(arena, OWNERS, lane) == 0 {
+        let is_mark = cell(arena, FOUND, row, reading::OF_COUNT) == 0;
+        if get(arena, OWNERS, lane) == 0 && !is_mark {
             boundary = cell(arena, FOUND, row, reading::OF_STAMP);
         }
         put(arena, OWNERS, lane, 1);

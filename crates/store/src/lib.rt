@@ -234,7 +234,7 @@ pub fn writes_on(sizes: Sizes, cache: &[u64], txn: &[u64]) -> Writes
     txn::run(txn, &cache[1..end])
 }
 
-// The record after the lane's drain: its floor is its latest sequence's timestamp.
+// The record after the lane's drain: its floor is what its latest sequence gives.
 pub fn drained_state(sizes: Sizes, state: Record, cache: &[u64], lane: usize) -> Record
     requires { ⌜ IsImage sizes (now cache) ⌝ }
     requires { ⌜ lane < sizes .lanes ⌝ }

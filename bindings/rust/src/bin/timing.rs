@@ -229,8 +229,9 @@ fn recoveries(sizes: Sizes) -> Vec<Case> {
     for logs in images::ALL {
         let name = match logs {
             Logs::Empty => "empty logs",
-            Logs::EqualMarks => "every slot a mark, equal timestamps",
-            Logs::MixedMarks => "every slot a mark, mixed timestamps",
+            Logs::Marked => "every slot a mark",
+            Logs::EqualMarks => "marks and one sequence, equal timestamps",
+            Logs::MixedMarks => "marks and one sequence, mixed timestamps",
             Logs::Singles => "sequences of 1, mixed timestamps",
             Logs::EqualSequences => "sequences of 16, equal timestamps",
             Logs::MixedSequences => "sequences of 16, mixed timestamps",
@@ -275,7 +276,7 @@ fn table(title: &str, sizes: Sizes) {
 /// The calls of the growth tables.
 fn growing(sizes: Sizes) -> Vec<Case> {
     let shown = ["Format", "Drain, after a Log of 16 writes", "Log, 16 writes", "Redo, 16 writes", "Validate, 16 writes", "Mark"];
-    let shown_recoveries = ["recovery, empty logs", "recovery, every slot a mark, equal timestamps", "recovery, sequences of 16, equal timestamps"];
+    let shown_recoveries = ["recovery, empty logs", "recovery, marks and one sequence, equal timestamps", "recovery, sequences of 16, equal timestamps"];
     let steps = steps(sizes).into_iter().filter(|case| shown.contains(&case.name.as_str()));
     let recoveries = recoveries(sizes).into_iter().filter(|case| shown_recoveries.contains(&case.name.as_str()));
     steps.chain(recoveries).collect()

@@ -109,11 +109,13 @@ int main(void)
     EXPECT(vandzulge_log(SIZES, FORMER_BUFFERS, RECORD, ANSWER, 0, set, 4) == 0 && answers(1, 16, 0, 0));
     EXPECT(vandzulge_redo(SIZES, FORMER_BUFFERS, RECORD, ANSWER, 0) == 0 && answers(1, 18, 0, 0));
     EXPECT(vandzulge_mark(SIZES, FORMER_BUFFERS, RECORD, ANSWER, 0) == 0 && answers(0, 20, 0, 0));
+    EXPECT(record[8] == 1 && record[9] == 18); /* lane 0's floor is the commit's, until the mark is drained */
     EXPECT(vandzulge_drain(SIZES, FORMER_BUFFERS, RECORD, 0) == 0);
+    EXPECT(record[8] == 0 && record[9] == 0);
     EXPECT(vandzulge_write_back(SIZES, FORMER_BUFFERS, FORMER) == 4);
     EXPECT(vandzulge_format(SIZES, start, WORDS, FORMER_BUFFERS, RECORD) == 1);
     lose();
-    EXPECT(vandzulge_recover(SIZES, FORMER_BUFFERS, RECORD, ANSWER, VANDZULGE_NO_LIMIT) == 0 && answers(2, 20, 0, 0));
+    EXPECT(vandzulge_recover(SIZES, FORMER_BUFFERS, RECORD, ANSWER, VANDZULGE_NO_LIMIT) == 0 && answers(1, 0, 0, 0));
     data[0] = nvm[1];
     data[1] = nvm[2];
     EXPECT(data[0] == 2 && data[1] == 0);

@@ -25,6 +25,9 @@ trailer-requires c κs = search needs
 case-requires : tie.Need-case-requires Inv-loop μ-loop
 case-requires c κs = search needs
 
+mark-requires : tie.Need-mark-requires Inv-loop μ-loop
+mark-requires c κs = search needs
+
 add-i : tie.Need-add-i Inv-loop μ-loop
 add-i c = search needs
 
@@ -40,5 +43,5 @@ returns c = search needs
 pub cases-spec : {M : Type 1} → statement M
 cases-spec =
     tie.close
-    (tie.spec Inv-loop μ-loop clear-requires loop-holds edge-requires trailer-requires case-requires add-i loop-less
-    loop-again returns)
+    (tie.spec Inv-loop μ-loop clear-requires loop-holds edge-requires trailer-requires case-requires mark-requires
+    add-i loop-less loop-again returns)

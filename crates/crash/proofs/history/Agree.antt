@@ -19,7 +19,7 @@ use Rattle.txn.specs.inner.Writes.{noWrite}
 use Rattle.txn.specs.declared.Write.{Write}
 use Rattle.image.specs.Image.{buffersOk, logOf}
 use Rattle.image.specs.declared.Sizes.{Sizes}
-use Rattle.log.specs.Log.{slotAt, latestIn, contribution}
+use Rattle.log.specs.Log.{slotAt, latestIn}
 use Rattle.log.specs.Append.{circular}
 use Rattle.log.specs.inner.SearchLaws.{circular-low}
 use Rattle.log.specs.declared.Timestamp.the-variants.{At}
@@ -29,9 +29,10 @@ use Rattle.record.specs.declared.Phase.{Phase}
 use Rattle.record.specs.declared.Phase.the-variants.{Idle, Holds}
 use Rattle.store.specs.Machine.{Machine}
 use Rattle.store.specs.Calls.{entryMatches, entriesMatch}
-use Rattle.crash.specs.History.{Commit, History, pageAt, writesLogged, sameOlds, isAbove, commitAbove}
+use Rattle.crash.specs.History.{closing, stampOf, Commit, History, pageAt, writesLogged, sameOlds, isAbove, commitAbove}
 use Rattle.crash.specs.Theorem.{Live}
 use Rattle.crash.proofs.recovery.Data.{Rising, last, then}
+use Rattle.crash.proofs.lane.Newest.{newestOf}
 
 -- ---- commits
 -- the timestamp of the last commit, `base` where there is none
@@ -52,7 +53,7 @@ pub record Holding (z : Sizes) (base : ℕ) (h : History) (m : Machine) (L : ℕ
   pub txn : List ℕ
   pub held : pageAt h L .held ≡ some txn
   pub ok : txnBy former maxWrites z.words txn ≡ true
-  pub newest : pageAt h L .newest ≡ At (g .stamp)
+  pub newest : pageAt h L .newest ≡ closing (g .stamp)
   pub above : base ≤ g .stamp
   pub upto : g .stamp ≤ h .clock
   -- its timestamp is no commit's
@@ -73,13 +74,13 @@ pub record Book (z : Sizes) (base : ℕ) (h : History) (m : Machine) : Type 0 wh
   pub upto : All (λ c. c .stamp ≤ h .clock) (h .commits)
   pub low : base ≤ h .clock
   pub last : m .state .last ≡ lastOf base (h .commits)
-  pub stamps : (L s : ℕ) → L < z.lanes → pageAt h L .newest ≡ At s → stampOk (h .clock) s ≡ true
+  pub stamps : (L s : ℕ) → L < z.lanes → stampOf (pageAt h L .newest) ≡ At s → stampOk (h .clock) s ≡ true
   pub holding : (L : ℕ) (g : Logged) → L < z.lanes → laneAt (m .state) L .phase ≡ Holds g → Holding z base h m L g
 
 -- ---- what the cached logs must say
 pub record Logs (z : Sizes) (h : History) (m : Machine) : Type 0 where
-  -- a lane's latest sequence has the newest timestamp of its page
-  pub newest : (L : ℕ) → L < z.lanes → contribution (latestIn z (m .cache) L) ≡ pageAt h L .newest
+  -- a lane's latest sequence has the newest timestamp of its page, and is a mark where that is
+  pub newest : (L : ℕ) → L < z.lanes → newestOf (latestIn z (m .cache) L) ≡ pageAt h L .newest
   -- a lane that holds a transaction has its entries in its log
   pub entries : (L : ℕ) (g : Logged) → L < z.lanes → laneAt (m .state) L .phase ≡ Holds g
       → Entries z.words z.slots (logOf z L (m .cache)) (g .first) (writesLogged z L h)

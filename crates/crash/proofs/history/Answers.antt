@@ -9,14 +9,12 @@ use native.Mathlib.Nat.{le-trans}
 use lib.Dec.{eqb, ltb}
 use lib.ListN.{length}
 use borrow.Author.Tests.{eqb-true, eq-eqb, ne-eqb}
-use Rattle.laws.specs.inner.Tests.{split, clash, and-left, and-right}
+use Rattle.laws.specs.inner.Tests.{clash, and-left, and-right}
 use Rattle.txn.specs.declared.Write.{Write}
 use Rattle.image.specs.Image.{logOf}
 use Rattle.image.specs.declared.Sizes.{Sizes}
-use Rattle.log.specs.Log.{Complete, completeIn, sequenceOf, later, latest, latestIn, contribution, hitsFrom, hits}
-use Rattle.log.specs.declared.Latest.{Latest}
-use Rattle.log.specs.declared.Latest.the-variants.{Nothing, Is}
-use Rattle.log.specs.declared.Sequence.{Sequence}
+use Rattle.log.specs.Log.{completeIn, latestIn, hitsFrom, hits}
+use Rattle.log.specs.inner.LatestLaws.{latest-none}
 use Rattle.log.specs.declared.Timestamp.{Timestamp}
 use Rattle.log.specs.declared.Timestamp.the-variants.{None, At}
 use Rattle.record.specs.Record.{laneAt, isLogged, loggedIn, boundOf, drainedLane}
@@ -25,13 +23,15 @@ use Rattle.store.specs.Calls.{drained, writesOn, isStale, entriesMatch, matches
 use Rattle.store.specs.declared.Answer.{Answer}
 use Rattle.store.specs.declared.Answer.the-variants.{Refused}
 use Rattle.crash.specs.Events.{Call, logBy, redo, validateBy, mark, laneOf, callStep}
-use Rattle.crash.specs.History.{History, pageAt, settled, leastFloorOf, writesLogged, sameOlds, commitAbove, slotsBy, takenAnswer}
+use Rattle.crash.specs.History.{Newest, unset, stampOf, History, pageAt, settled, leastFloorOf}
+use Rattle.crash.specs.History.{writesLogged, sameOlds, commitAbove, slotsBy, takenAnswer}
 use Rattle.crash.specs.Theorem.{isFull, refusalBy, answerBy, Answers}
 use Rattle.crash.proofs.recovery.Data.{oldsOf}
 use Rattle.crash.proofs.induction.Moves.{Known, refusalOf, Drains, quiet, late, plain}
 use Rattle.crash.proofs.induction.Moves.{Move, refusing, draining, logging, redoing, validating, giving-up, marking, call-moves}
 use Rattle.crash.proofs.history.Refusals.{same-writes, same-held, refusal-by, number-is}
-use Rattle.crash.proofs.history.Lanes.{lane-drained, page-settled, drained-floor, bound-agrees}
+use Rattle.crash.proofs.lane.Newest.{unset-nothing, drained-floor}
+use Rattle.crash.proofs.history.Lanes.{lane-drained, page-settled, bound-agrees}
 use Rattle.crash.proofs.history.Agree.{Holding, Book, Logs, is-held, above-last, entries-match}
 
 same-olds : (vs ws : List Write) → sameOlds vs ws ≡ true → oldsOf vs ≡ oldsOf ws
@@ -46,24 +46,11 @@ same-olds (v ∷ vs) (w ∷ ws) t =
     let d = eqb-true (v .old) (w .old) (and-right (eqb (v .word) (w .word)) _ a) in
     rw (c, d, same-olds vs ws b)
 
--- a list that has a latest sequence is not empty, and nothing is hit in an empty one
-later-some : (q : Sequence) (r : Latest) → contribution (later q r) ≡ None → ⊥
-unfolding later contribution
-later-some q Nothing e = absurd (let x : _≡_ {A = ℕ} 0 1 = cc in omega arith)
-later-some q (Is r) e =
-    split (ltb (r .stamp) (q .stamp))
-    (λ t. let f : At (q .stamp) ≡ None = rw t at e in let x : _≡_ {A = ℕ} 0 1 = cc in omega arith)
-    (λ t. let f : At (r .stamp) ≡ None = rw t at e in let x : _≡_ {A = ℕ} 0 1 = cc in omega arith)
-
+-- nothing is hit where nothing is found
 hits-none : (N k n : ℕ) (b : Timestamp) → hits N k n b [] ≡ false
 unfolding hits hitsFrom
 hits-none N k n None = refl
 hits-none N k n (At b) = refl
-
-latest-none : (qs : List Complete) → contribution (latest qs) ≡ None → qs ≡ []
-unfolding latest
-latest-none [] e = refl
-latest-none (q ∷ qs) e = absurd (later-some (sequenceOf q) (latest qs) e)
 
 number-drains : {z : Sizes} {m : Machine} {c : Call} {a : Answer} → Drains z m c a → said a .number ≡ 0
 unfolding said
@@ -77,13 +64,13 @@ module _ (z : Sizes) (base : ℕ) (h : History) (m : Machine) (b : Book z base h
     pub holds-it : Holding z base h m L (loggedIn (laneAt (m .state) L .phase))
     holds-it = b .holding L (loggedIn (laneAt (m .state) L .phase)) lane (is-held (laneAt (m .state) L .phase) held)
 
-    pub same-stale : isStale L m ≡ commitAbove (pageAt h L .newest) (h .commits)
-    unfolding isStale
+    pub same-stale : isStale L m ≡ commitAbove (stampOf (pageAt h L .newest)) (h .commits)
+    unfolding isStale stampOf
     same-stale =
         let g = loggedIn (laneAt (m .state) L .phase) in
         ap (ltb (g .stamp)) (b .last)
         ∙ sym (above-last base (g .stamp) (holds-it .above) (b .rising))
-        ∙ ap (λ (t : Timestamp). commitAbove t (h .commits)) (sym (holds-it .newest))
+        ∙ ap (λ (n : Newest). commitAbove (stampOf n) (h .commits)) (sym (holds-it .newest))
 
     pub same-matches : (ws : List Write) → matches z L ws m ≡ sameOlds ws (writesLogged z L h)
     unfolding matches
@@ -114,10 +101,10 @@ module _ (z : Sizes) (base : ℕ) (h : History) (m : Machine) (b : Book z base h
       bound-agrees z (drained z L m .state) (settled L h) (rw (a .lanes) (b .lanes)) (p .pages ∙ b .pages) (floors-drained L lane)
 
   -- a lane that has appended nothing has no sequence to hit
-  full-appended : (c : Call) → laneOf c < z.lanes → isFull z c h m ≡ true → pageAt h (laneOf c) .newest ≡ None → ⊥
+  full-appended : (c : Call) → laneOf c < z.lanes → isFull z c h m ≡ true → pageAt h (laneOf c) .newest ≡ unset → ⊥
   unfolding isFull latestIn
   full-appended c lane t e =
-      let n = latest-none (completeIn z (m .cache) (laneOf c)) (l .newest (laneOf c) lane ∙ e) in
+      let n = latest-none (completeIn z (m .cache) (laneOf c)) (unset-nothing _ (l .newest (laneOf c) lane ∙ e)) in
       clash _ (rw n at t) (hits-none z.slots (laneAt (m .state) (laneOf c) .next) (slotsBy z c h) (leastFloorOf (settled (laneOf c) h .pages)))
 
   -- ---- the answer

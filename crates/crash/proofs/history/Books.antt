@@ -36,12 +36,13 @@ use Rattle.record.specs.declared.Lane.{Lane}
 use Rattle.store.specs.Machine.{Machine}
 use Rattle.store.specs.Calls.{drained, changed, writesOn, appended, logged, committed, isStale, redoPairs}
 use Rattle.store.specs.Calls as calls
-use Rattle.crash.specs.History.{Commit, Page, History, pageAt, isBelow, replay, isSome, wordsBelow, present}
-use Rattle.crash.specs.History.{floorOr, settled, stamped, released, heldBy, isAbove, commitAbove, writesLogged}
+use Rattle.crash.specs.History.{Newest, unset, closing, marking, stampOf, Commit, Page, History, pageAt, isBelow, replay, isSome, wordsBelow, present}
+use Rattle.crash.specs.History.{floorOr, floorOnDrain, settled, stamped, released, heldBy, isAbove, commitAbove, writesLogged}
 use Rattle.crash.proofs.recovery.Data.{length-replay, replay-snoc, replay-all}
 use Rattle.crash.proofs.induction.Moves.{Known, Ready}
 use Rattle.crash.proofs.history.Lanes.{LaneTo, lane-drained, lane-appended, lane-committed, lane-released}
-use Rattle.crash.proofs.history.Lanes.{PageTo, page-settled, page-stamped, page-released, drained-floor, appended-floor, lane-cases}
+use Rattle.crash.proofs.history.Lanes.{PageTo, page-settled, page-stamped, page-released, appended-floor, lane-cases}
+use Rattle.crash.proofs.lane.Newest.{drained-floor}
 use Rattle.crash.proofs.history.Ranges.{RecordRange, record-range, record-ranged, stamp-later, stamp-now, lane-later, phase-logged}
 use Rattle.crash.proofs.history.Words.{data-appended, data-committed}
 use Rattle.crash.proofs.history.Agree.{lastOf, Holding, Book, Logs}
@@ -67,7 +68,7 @@ pub record Moved (z : Sizes) (base : ℕ) (L : ℕ) (h k : History) (m n : Machi
   pub range : LaneIn z (k .clock) lane
   pub floor : lane .floor ≡ page .floor
   pub held : isLogged (lane .phase) ≡ isSome (page .held)
-  pub newest : (s : ℕ) → page .newest ≡ At s → stampOk (k .clock) s ≡ true
+  pub newest : (s : ℕ) → stampOf (page .newest) ≡ At s → stampOk (k .clock) s ≡ true
   pub holding : (g : Logged) → lane .phase ≡ Holds g → Holding z base k n L g
 
 module _ (z : Sizes) (base : ℕ) (L : ℕ) (lane : L < z.lanes) (h k : History) (m n : Machine) (b : Book z base h m) (v : Moved z base L h k m n) where
@@ -109,10 +110,10 @@ module _ (z : Sizes) (base : ℕ) (L : ℕ) (lane : L < z.lanes) (h k : History)
         upto = upto-onward z h k (v .onward) (b .upto);
         low = le-trans (b .low) (v .onward .clock);
         last = v .last;
-        stamps = λ M s i e. lane-cases (λ M. (s : ℕ) → M < z.lanes → pageAt k M .newest ≡ At s → stampOk (k .clock) s ≡ true) L
-            (λ s i e. v .newest s (ap (λ (p : Page). p .newest) (sym (v .pages .here)) ∙ e))
+        stamps = λ M s i e. lane-cases (λ M. (s : ℕ) → M < z.lanes → stampOf (pageAt k M .newest) ≡ At s → stampOk (k .clock) s ≡ true) L
+            (λ s i e. v .newest s (ap (λ (p : Page). stampOf (p .newest)) (sym (v .pages .here)) ∙ e))
             (λ M d s i e. stamp-later (h .clock) (k .clock) s (v .onward .clock)
-            (b .stamps M s i (ap (λ (p : Page). p .newest) (sym (v .pages .others M d)) ∙ e)))
+            (b .stamps M s i (ap (λ (p : Page). stampOf (p .newest)) (sym (v .pages .others M d)) ∙ e)))
             M s i e;
         holding = λ M g i e. lane-cases (λ M. (g : Logged) → M < z.lanes → laneAt (n .state) M .phase ≡ Holds g → Holding z base k n M g) L
             (λ g i e. v .holding g (ap (λ (l : Lane). l .phase) (sym (v .lanes .here)) ∙ e))
@@ -126,13 +127,15 @@ module _ (z : Sizes) (base : ℕ) (L : ℕ) (lane : L < z.lanes) (h k : History)
       }
 
 -- ---- a drain
-floor-or : (c : ℕ) (t f : Timestamp) → ((s : ℕ) → t ≡ At s → stampOk c s ≡ true) → floorOk c f ≡ true → floorOk c (floorOr t f) ≡ true
-unfolding floorOr floorOk
-floor-or c None f h e = e
-floor-or c (At s) f h e = h s refl
+drain-ok : (c : ℕ) (n : Newest) (f : Timestamp) → ((s : ℕ) → stampOf n ≡ At s → stampOk c s ≡ true) → floorOk c f ≡ true
+    → floorOk c (floorOnDrain n f) ≡ true
+unfolding floorOnDrain floorOk stampOf
+drain-ok c unset f h e = e
+drain-ok c (closing s) f h e = h s refl
+drain-ok c (marking s) f h e = refl
 
-newest-stamp : (c s : ℕ) → c % 2 ≡ 0 → At c ≡ At s → stampOk c s ≡ true
-newest-stamp c s e p = let q : c ≡ s = cc in rw (sym q) (stamp-now c e)
+newest-stamp : (c s : ℕ) (t : Timestamp) → c % 2 ≡ 0 → t ≡ At c → t ≡ At s → stampOk c s ≡ true
+newest-stamp c s t e p q = let d : c ≡ s = cc in rw (sym d) (stamp-now c e)
 
 pub not-held : {A : Type 0} (p : Phase) (g : Logged) → p ≡ Idle → p ≡ Holds g → A
 not-held p g i e = absurd (let z : _≡_ {A = ℕ} 0 1 = cc in omega arith)
@@ -163,14 +166,14 @@ module _ (z : Sizes) (base : ℕ) (L : ℕ) (lane : L < z.lanes) (h : History) (
     unfolding drainedLane
     floor-now =
         rw (drained-floor (latestIn z (m .cache) L) (laneAt (m .state) L .floor), l .newest L lane)
-        (floor-or (h .clock) (pageAt h L .newest) (laneAt (m .state) L .floor) (λ s e. b .stamps L s lane e) (range-now .floor))
+        (drain-ok (h .clock) (pageAt h L .newest) (laneAt (m .state) L .floor) (λ s e. b .stamps L s lane e) (range-now .floor))
 
     moved-drained : Moved z base L h (settled L h) m (drained z L m)
     unfolding settled drained drainedLane present wordsBelow withLane
     moved-drained =
         record {
           lane = drainedLane (latestIn z (m .cache) L) (laneAt (m .state) L);
-          page = record { held = pageAt h L .held; newest = pageAt h L .newest; floor = floorOr (pageAt h L .newest) (pageAt h L .floor) };
+          page = record { held = pageAt h L .held; newest = pageAt h L .newest; floor = floorOnDrain (pageAt h L .newest) (pageAt h L .floor) };
           lanes = lane-drained z L m in-lanes;
           pages = page-settled L h in-pages;
           onward = onward-settled L h;
@@ -210,26 +213,26 @@ module _ (z : Sizes) (base : ℕ) (L : ℕ) (lane : L < z.lanes) (h : History) (
       }
 
   -- a timestamp without a commit leaves the words
-  present-stamped : (held : Option (List ℕ)) → present z (stamped L held [] h) ≡ present z h
+  present-stamped : (kind : ℕ → Newest) (held : Option (List ℕ)) → present z (stamped L kind held [] h) ≡ present z h
   unfolding present wordsBelow stamped
-  present-stamped held = ap (λ (cs : List Commit). replay z.words None cs (h .start)) (append-nil (h .commits))
+  present-stamped kind held = ap (λ (cs : List Commit). replay z.words None cs (h .start)) (append-nil (h .commits))
 
-  moved-appended : (ws : List Write) (phase : Phase) (redo : List Pair) (held : Option (List ℕ)) → phaseOk z (h .clock + 2) redo phase ≡ true
-      → isLogged phase ≡ isSome held
-      → ((g : Logged) → phase ≡ Holds g → Holding z base (stamped L held [] h) (appended z L ws phase redo m) L g)
-      → Moved z base L h (stamped L held [] h) m (appended z L ws phase redo m)
+  moved-appended : (ws : List Write) (phase : Phase) (redo : List Pair) (kind : ℕ → Newest) (held : Option (List ℕ))
+      → ((s : ℕ) → stampOf (kind s) ≡ At s) → phaseOk z (h .clock + 2) redo phase ≡ true → isLogged phase ≡ isSome held
+      → ((g : Logged) → phase ≡ Holds g → Holding z base (stamped L kind held [] h) (appended z L ws phase redo m) L g)
+      → Moved z base L h (stamped L kind held [] h) m (appended z L ws phase redo m)
   unfolding stamped appended changed appendedLane withLane withClock
-  moved-appended ws phase redo held ranged both holds =
+  moved-appended ws phase redo kind held stamps ranged both holds =
       record {
         lane = appendedLane (m .state .clock + 2) (advance z.slots (length ws + 1) (cursorOf (laneAt (m .state) L))) phase redo (laneAt (m .state) L);
-        page = record { held = held; newest = At (h .clock + 2); floor = floorOr (pageAt h L .floor) (At (h .clock + 2)) };
+        page = record { held = held; newest = kind (h .clock + 2); floor = floorOr (pageAt h L .floor) (At (h .clock + 2)) };
         lanes = lane-appended z L m in-lanes ws phase redo;
-        pages = page-stamped L h in-pages held [];
-        onward = onward-stamped L held h;
+        pages = page-stamped L h in-pages kind held [];
+        onward = onward-stamped L kind held h;
         in-cache = length-stored _ (m .cache);
         in-nvm = refl;
         in-flags = length-flushAll L _ (m .flags);
-        words = data-appended z L ws phase redo m ∙ b .live .words ∙ sym (present-stamped held);
+        words = data-appended z L ws phase redo m ∙ b .live .words ∙ sym (present-stamped kind held);
         clock = ap (λ (c : ℕ). c + 2) (b .live .clock);
         even = let k = even-now in omega arith;
         last = b .last ∙ ap (lastOf base) (sym (append-nil (h .commits)));
@@ -237,26 +240,27 @@ module _ (z : Sizes) (base : ℕ) (L : ℕ) (lane : L < z.lanes) (h : History) (
         range = appended-range (m .state .clock) ws phase redo (b .live .clock) ranged;
         floor = appended-floor (m .state .clock + 2) (laneAt (m .state) L .floor) ∙ rw (b .live .floors L lane, b .live .clock);
         held = both;
-        newest = λ s e. newest-stamp (h .clock + 2) s (let k = even-now in omega arith) e;
+        newest = λ s e. newest-stamp (h .clock + 2) s _ (let k = even-now in omega arith) (stamps (h .clock + 2)) e;
         holding = holds;
       }
 
   -- the commits are below the timestamp that is next
-  stamped-upto : (held : Option (List ℕ)) → All (λ c. c .stamp ≤ h .clock) (stamped L held [] h .commits)
+  stamped-upto : (kind : ℕ → Newest) (held : Option (List ℕ)) → All (λ c. c .stamp ≤ h .clock) (stamped L kind held [] h .commits)
   unfolding stamped
-  stamped-upto held = rw (append-nil (h .commits)) (b .upto)
+  stamped-upto kind held = rw (append-nil (h .commits)) (b .upto)
 
-  below-next : (held : Option (List ℕ)) → wordsBelow z (At (h .clock + 2)) (stamped L held [] h) ≡ present z (stamped L held [] h)
+  below-next : (kind : ℕ → Newest) (held : Option (List ℕ)) → wordsBelow z (At (h .clock + 2)) (stamped L kind held [] h) ≡ present z (stamped L kind held [] h)
   unfolding wordsBelow present
-  below-next held =
-      replay-all z.words (h .clock + 2) (stamped L held [] h .start) (All-map (λ c i. omega (arith, i)) (stamped-upto held))
+  below-next kind held =
+      replay-all z.words (h .clock + 2) (stamped L kind held [] h .start) (All-map (λ c i. omega (arith, i)) (stamped-upto kind held))
 
-  pub book-appended : (ws : List Write) (phase : Phase) (redo : List Pair) (held : Option (List ℕ)) → phaseOk z (h .clock + 2) redo phase ≡ true
-      → isLogged phase ≡ isSome held
-      → ((g : Logged) → phase ≡ Holds g → Holding z base (stamped L held [] h) (appended z L ws phase redo m) L g)
-      → Book z base (stamped L held [] h) (appended z L ws phase redo m)
-  book-appended ws phase redo held ranged both holds =
-      book-moved z base L lane h (stamped L held [] h) m (appended z L ws phase redo m) b (moved-appended ws phase redo held ranged both holds)
+  pub book-appended : (ws : List Write) (phase : Phase) (redo : List Pair) (kind : ℕ → Newest) (held : Option (List ℕ))
+      → ((s : ℕ) → stampOf (kind s) ≡ At s) → phaseOk z (h .clock + 2) redo phase ≡ true → isLogged phase ≡ isSome held
+      → ((g : Logged) → phase ≡ Holds g → Holding z base (stamped L kind held [] h) (appended z L ws phase redo m) L g)
+      → Book z base (stamped L kind held [] h) (appended z L ws phase redo m)
+  book-appended ws phase redo kind held stamps ranged both holds =
+      book-moved z base L lane h (stamped L kind held [] h) m (appended z L ws phase redo m) b
+      (moved-appended ws phase redo kind held stamps ranged both holds)
 
   -- ---- Log
   module _ (f : List ℕ) (ok : txnBy former maxWrites z.words f ≡ true) (some-write : 0 < length (writesOn z f m)) where
@@ -280,47 +284,47 @@ module _ (z : Sizes) (base : ℕ) (L : ℕ) (lane : L < z.lanes) (h : History) (
         some-write writes-few (let k = even-now in omega arith) writes-low (pairs-cut (length (writesOn z f m)) maxWrites (writesOn z f m) writes-few))
 
     -- what is logged now is what the history's lane has logged
-    logged-writes : writesLogged z L (stamped L (some f) [] h) ≡ writesOn z f m
+    logged-writes : writesLogged z L (stamped L closing (some f) [] h) ≡ writesOn z f m
     unfolding writesOn
     logged-writes =
-        let p = page-stamped L h in-pages (some f) [] in
-        writes-held z (stamped L (some f) [] h) L f (At (h .clock + 2)) (ap (λ (p : Page). p .held) (p .here)) (ap (λ (p : Page). p .newest) (p .here))
-        ∙ ap (run z.words f) (below-next (some f) ∙ present-stamped (some f) ∙ sym (b .live .words))
+        let p = page-stamped L h in-pages closing (some f) [] in
+        writes-held z (stamped L closing (some f) [] h) L f (h .clock + 2) (ap (λ (p : Page). p .held) (p .here)) (ap (λ (p : Page). p .newest) (p .here))
+        ∙ ap (run z.words f) (below-next closing (some f) ∙ present-stamped closing (some f) ∙ sym (b .live .words))
 
-    clock-stamped : m .state .clock ≡ h .clock → m .state .clock + 2 ≤ stamped L (some f) [] h .clock
+    clock-stamped : m .state .clock ≡ h .clock → m .state .clock + 2 ≤ stamped L closing (some f) [] h .clock
     unfolding stamped
     clock-stamped c = omega arith
 
-    logged-holding : Holding z base (stamped L (some f) [] h) (logged z L (writesOn z f m) m) L held-now
+    logged-holding : Holding z base (stamped L closing (some f) [] h) (logged z L (writesOn z f m) m) L held-now
     unfolding logged appendedLane
     logged-holding =
-        let k = stamped L (some f) [] h in
-        let p = page-stamped L h in-pages (some f) [] in
+        let k = stamped L closing (some f) [] h in
+        let p = page-stamped L h in-pages closing (some f) [] in
         let a = lane-appended z L m in-lanes (writesOn z f m) (Holds held-now) (pairsOf maxWrites (writesOn z f m)) in
         let c = b .live .clock in
         record {
           txn = f;
           held = ap (λ (p : Page). p .held) (p .here);
           ok = ok;
-          newest = ap (λ (p : Page). p .newest) (p .here) ∙ ap (λ (s : ℕ). At (s + 2)) (sym c);
+          newest = ap (λ (p : Page). p .newest) (p .here) ∙ ap (λ (s : ℕ). closing (s + 2)) (sym c);
           above = omega (arith, b .low, c);
           upto = clock-stamped c;
-          apart = All-map (λ d i e. omega (arith, c, i)) (stamped-upto (some f));
+          apart = All-map (λ d i e. omega (arith, c, i)) (stamped-upto closing (some f));
           count = ap length (sym logged-writes);
           redo = ap (λ (l : Lane). take (length (writesOn z f m)) (l .redo)) (a .here)
               ∙ pairs-cut (length (writesOn z f m)) maxWrites (writesOn z f m) writes-few ∙ ap (pairsOf (length (writesOn z f m))) (sym logged-writes);
         }
 
-    pub book-logged : Book z base (stamped L (some f) [] h) (logged z L (writesOn z f m) m)
-    unfolding logged isLogged isSome
+    pub book-logged : Book z base (stamped L closing (some f) [] h) (logged z L (writesOn z f m) m)
+    unfolding logged isLogged isSome stampOf
     book-logged =
-        book-appended (writesOn z f m) (Holds held-now) (pairsOf maxWrites (writesOn z f m)) (some f) logged-ranged refl
-        (λ g e. let q : held-now ≡ g = cc in subst (Holding z base (stamped L (some f) [] h) (logged z L (writesOn z f m) m) L) q logged-holding)
+        book-appended (writesOn z f m) (Holds held-now) (pairsOf maxWrites (writesOn z f m)) closing (some f) (λ s. refl) logged-ranged refl
+        (λ g e. let q : held-now ≡ g = cc in subst (Holding z base (stamped L closing (some f) [] h) (logged z L (writesOn z f m) m) L) q logged-holding)
 
   -- ---- Mark
-  pub book-marked : (redo : List Pair) → Book z base (stamped L none [] h) (appended z L [] Idle redo m)
-  unfolding phaseOk isLogged isSome
-  book-marked redo = book-appended [] Idle redo none refl refl (λ g e. not-held Idle g refl e)
+  pub book-marked : (redo : List Pair) → Book z base (stamped L marking none [] h) (appended z L [] Idle redo m)
+  unfolding phaseOk isLogged isSome stampOf
+  book-marked redo = book-appended [] Idle redo marking none (λ s. refl) refl refl (λ g e. not-held Idle g refl e)
 
   -- ---- a lane that is idle again
   idle-range : (c : ℕ) → h .clock ≤ c → LaneIn z c (idleLane (laneAt (m .state) L))
@@ -361,11 +365,11 @@ module _ (z : Sizes) (base : ℕ) (L : ℕ) (lane : L < z.lanes) (h : History) (
     abbrev its : List Write
     its = run z.words f (dataOf z (m .cache))
 
-    present-commit : present z (stamped L none (f ∷ []) h) ≡ after z.words f (present z h)
+    present-commit : present z (stamped L closing none (f ∷ []) h) ≡ after z.words f (present z h)
     unfolding present wordsBelow stamped isBelow
     present-commit = replay-snoc z.words None (h .commits) (record { stamp = h .clock + 2; txn = f }) (h .start)
 
-    words-commit : dataOf z (committed z L (pairsOf (length its) its) m .cache) ≡ present z (stamped L none (f ∷ []) h)
+    words-commit : dataOf z (committed z L (pairsOf (length its) its) m .cache) ≡ present z (stamped L closing none (f ∷ []) h)
     unfolding after
     words-commit =
         data-committed z L its m (run-low former maxWrites z.words f (dataOf z (m .cache)) ok)
@@ -375,14 +379,14 @@ module _ (z : Sizes) (base : ℕ) (L : ℕ) (lane : L < z.lanes) (h : History) (
     unfolding floorOr
     floor-stays t e = rw e
 
-    moved-committed : Moved z base L h (stamped L none (f ∷ []) h) m (committed z L (pairsOf (length its) its) m)
-    unfolding stamped committed changed withLane withClock withLast idleLane isLogged isSome
+    moved-committed : Moved z base L h (stamped L closing none (f ∷ []) h) m (committed z L (pairsOf (length its) its) m)
+    unfolding stamped committed changed withLane withClock withLast idleLane isLogged isSome stampOf
     moved-committed =
         record {
           lane = idleLane (laneAt (m .state) L);
-          page = record { held = none; newest = At (h .clock + 2); floor = floorOr (pageAt h L .floor) (At (h .clock + 2)) };
+          page = record { held = none; newest = closing (h .clock + 2); floor = floorOr (pageAt h L .floor) (At (h .clock + 2)) };
           lanes = lane-committed z L m in-lanes (pairsOf (length its) its);
-          pages = page-stamped L h in-pages none (f ∷ []);
+          pages = page-stamped L h in-pages closing none (f ∷ []);
           onward = onward-commit L f h;
           in-cache = length-stored _ (m .cache);
           in-nvm = refl;
@@ -395,12 +399,12 @@ module _ (z : Sizes) (base : ℕ) (L : ℕ) (lane : L < z.lanes) (h : History) (
           range = idle-range (h .clock + 2) (omega arith);
           floor = b .live .floors L lane ∙ floor-stays (pageAt h L .floor) floor;
           held = refl;
-          newest = λ t e. newest-stamp (h .clock + 2) t (let k = even-now in omega arith) e;
+          newest = λ t e. newest-stamp (h .clock + 2) t _ (let k = even-now in omega arith) refl e;
           holding = λ g e. not-held Idle g refl e;
         }
 
-    pub book-committed : Book z base (stamped L none (f ∷ []) h) (committed z L (pairsOf (length its) its) m)
-    book-committed = book-moved z base L lane h (stamped L none (f ∷ []) h) m (committed z L (pairsOf (length its) its) m) b moved-committed
+    pub book-committed : Book z base (stamped L closing none (f ∷ []) h) (committed z L (pairsOf (length its) its) m)
+    book-committed = book-moved z base L lane h (stamped L closing none (f ∷ []) h) m (committed z L (pairsOf (length its) its) m) b moved-committed
 
 -- ---- the start words
 pub start-long : (z : Sizes) (base : ℕ) (h : History) (m : Machine) → Book z base h m → length (h .start) ≡ z.words
@@ -423,11 +427,11 @@ module _ (z : Sizes) (base : ℕ) (h : History) (m : Machine) (b : Book z base h
     book-drains = book-drained z base L (k .lane) h m b l
 
     pub book-logs : (f : List ℕ) → txnBy former maxWrites z.words f ≡ true → 0 < length (writesOn z f m)
-        → Book z base (stamped L (some f) [] (settled L h)) (logged z L (writesOn z f m) (drained z L m))
+        → Book z base (stamped L closing (some f) [] (settled L h)) (logged z L (writesOn z f m) (drained z L m))
     unfolding drained writesOn
     book-logs f ok some-write = book-logged z base L (k .lane) (settled L h) (drained z L m) book-drains f ok some-write
 
-    pub book-marks : Book z base (stamped L none [] (settled L h)) (appended z L [] Idle (laneAt (m .state) L .redo) (drained z L m))
+    pub book-marks : Book z base (stamped L marking none [] (settled L h)) (appended z L [] Idle (laneAt (m .state) L .redo) (drained z L m))
     book-marks = book-marked z base L (k .lane) (settled L h) (drained z L m) book-drains (laneAt (m .state) L .redo)
 
     pub book-gives-up : Book z base (released L (settled L h)) (calls.released L (drained z L m))
@@ -439,26 +443,26 @@ module _ (z : Sizes) (base : ℕ) (h : History) (m : Machine) (b : Book z base h
       it = loggedIn (laneAt (m .state) L .phase)
 
       pub floor-drained : pageAt (settled L h) L .floor ≡ At (it .stamp)
-      unfolding floorOr
+      unfolding floorOnDrain
       floor-drained =
           let v = holds-it z base h m b l L (k .lane) (y .held) in
           ap (λ (p : Page). p .floor) (page-settled L h (rw (b .pages) (k .lane)) .here) ∙ rw (v .newest)
 
       pub book-validates : (f : List ℕ) → txnBy former maxWrites z.words f ≡ true
-          → Book z base (stamped L none (f ∷ []) (settled L h)) (committed z L (pairsOf (length (writesOn z f m)) (writesOn z f m)) (drained z L m))
+          → Book z base (stamped L closing none (f ∷ []) (settled L h)) (committed z L (pairsOf (length (writesOn z f m)) (writesOn z f m)) (drained z L m))
       unfolding drained writesOn
       book-validates f ok = book-committed z base L (k .lane) (settled L h) (drained z L m) book-drains f ok (it .stamp) floor-drained
 
       -- a Redo that is not stale writes what its transaction writes now
       pub redo-now : isStale L m ≡ false → writesLogged z L h ≡ writesOn z (holds-it z base h m b l L (k .lane) (y .held) .txn) m
-      unfolding writesOn present wordsBelow
+      unfolding writesOn present wordsBelow stampOf
       redo-now t =
           let v = holds-it z base h m b l L (k .lane) (y .held) in
           let e = sym (same-stale z base h m b l L (k .lane) (y .held)) ∙ t in
-          writes-held z h L (v .txn) (At (it .stamp)) (v .held) (v .newest)
+          writes-held z h L (v .txn) (it .stamp) (v .held) (v .newest)
           ∙ ap (run z.words (v .txn))
           (replay-all z.words (it .stamp) (h .start)
-          (all-below (it .stamp) (ap (λ (s : Timestamp). commitAbove s (h .commits)) (sym (v .newest)) ∙ e) (v .apart))
+          (all-below (it .stamp) (ap (λ (n : Newest). commitAbove (stampOf n) (h .commits)) (sym (v .newest)) ∙ e) (v .apart))
           ∙ sym (b .live .words))
 
       pub redo-held : heldBy (pageAt h L .held) ≡ holds-it z base h m b l L (k .lane) (y .held) .txn ∷ []
@@ -474,7 +478,7 @@ module _ (z : Sizes) (base : ℕ) (h : History) (m : Machine) (b : Book z base h
           v .redo ∙ ap (λ (n : ℕ). pairsOf n (writesLogged z L h)) (v .count) ∙ ap (λ (ws : List Write). pairsOf (length ws) ws) (redo-now t)
 
       pub book-redoes : isStale L m ≡ false
-          → Book z base (stamped L none (heldBy (pageAt h L .held)) (settled L h)) (committed z L (redoPairs L m) (drained z L m))
+          → Book z base (stamped L closing none (heldBy (pageAt h L .held)) (settled L h)) (committed z L (redoPairs L m) (drained z L m))
       book-redoes t =
           let v = holds-it z base h m b l L (k .lane) (y .held) in
           rw (redo-pairs t, redo-held) (book-validates (v .txn) (v .ok))

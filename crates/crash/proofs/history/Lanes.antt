@@ -13,13 +13,11 @@ use lib.Seq.{getD-set-same, getD-set-other}
 use Rattle.txn.specs.declared.Write.{Write}
 use Rattle.image.specs.Image.{maxLanes}
 use Rattle.image.specs.declared.Sizes.{Sizes}
-use Rattle.log.specs.Log.{latestIn, contribution}
+use Rattle.log.specs.Log.{latestIn}
 use Rattle.log.specs.Append.{advance}
 use Rattle.log.specs.declared.Timestamp.{Timestamp}
 use Rattle.log.specs.declared.Timestamp.the-variants.{None, At}
-use Rattle.log.specs.declared.Latest.{Latest}
-use Rattle.log.specs.declared.Latest.the-variants.{Nothing, Is}
-use Rattle.record.specs.Record.{noLane, laneAt, cursorOf, lesser, leastFloor, boundOf, floorAfterDrain, floorAfterAppend}
+use Rattle.record.specs.Record.{noLane, laneAt, cursorOf, lesser, leastFloor, boundOf, floorAfterAppend}
 use Rattle.record.specs.Record.{withLane, withClock, withLast, drainedLane, appendedLane, idleLane, startLane, startRecord}
 use Rattle.record.specs.declared.Pair.{Pair}
 use Rattle.record.specs.declared.Phase.{Phase}
@@ -28,7 +26,7 @@ use Rattle.record.specs.declared.Record.{Record}
 use Rattle.store.specs.Machine.{Machine}
 use Rattle.store.specs.Calls.{drained, changed, appended, committed}
 use Rattle.store.specs.Calls as calls
-use Rattle.crash.specs.History.{Page, History, blankPage, pageAt, floorOr, settled, stamped, released, leastFloorOf}
+use Rattle.crash.specs.History.{Newest, Page, History, blankPage, pageAt, floorOr, floorOnDrain, settled, stamped, released, leastFloorOf}
 
 -- ---- one lane
 -- in record s, made from r, lane L has become l and the others are as they were
@@ -89,7 +87,7 @@ pub record PageTo (g h : History) (L : ℕ) (p : Page) : Type 0 where
 
 module _ (L : ℕ) (h : History) (i : L < length (h .pages)) where
   pub page-settled : PageTo h (settled L h) L
-      (record { held = pageAt h L .held; newest = pageAt h L .newest; floor = floorOr (pageAt h L .newest) (pageAt h L .floor) })
+      (record { held = pageAt h L .held; newest = pageAt h L .newest; floor = floorOnDrain (pageAt h L .newest) (pageAt h L .floor) })
   unfolding settled pageAt
   page-settled =
       record {
@@ -98,10 +96,11 @@ module _ (L : ℕ) (h : History) (i : L < length (h .pages)) where
         pages = length-set (h .pages) L _;
       }
 
-  pub page-stamped : (held : Option (List ℕ)) (txns : List (List ℕ))
-      → PageTo h (stamped L held txns h) L (record { held = held; newest = At (h .clock + 2); floor = floorOr (pageAt h L .floor) (At (h .clock + 2)) })
+  pub page-stamped : (kind : ℕ → Newest) (held : Option (List ℕ)) (txns : List (List ℕ))
+      → PageTo h (stamped L kind held txns h) L
+      (record { held = held; newest = kind (h .clock + 2); floor = floorOr (pageAt h L .floor) (At (h .clock + 2)) })
   unfolding stamped pageAt
-  page-stamped held txns =
+  page-stamped kind held txns =
       record {
         here = getD-set-same (h .pages) L _ blankPage i;
         others = λ M d. getD-set-other (h .pages) L M _ blankPage d;
@@ -118,11 +117,6 @@ module _ (L : ℕ) (h : History) (i : L < length (h .pages)) where
       }
 
 -- ---- floors
-pub drained-floor : (q : Latest) (floor : Timestamp) → floorAfterDrain q floor ≡ floorOr (contribution q) floor
-unfolding floorAfterDrain floorOr contribution
-drained-floor Nothing floor = refl
-drained-floor (Is q) floor = refl
-
 pub appended-floor : (s : ℕ) (floor : Timestamp) → floorAfterAppend s floor ≡ floorOr floor (At s)
 unfolding floorAfterAppend floorOr
 appended-floor s None = refl

@@ -15,7 +15,8 @@ use Rattle.log.specs.declared.Timestamp.the-variants.{At}
 use Rattle.record.specs.Record.{laneAt, pairsOf}
 use Rattle.record.specs.declared.Logged.{Logged}
 use Rattle.store.specs.Machine.{Machine}
-use Rattle.crash.specs.History.{Commit, History, pageAt, isBelow, replay, wordsBelow, settled, stamped, released, writesLogged}
+use Rattle.crash.specs.History.{Newest, closing, stampOf, Commit, History, pageAt, isBelow, replay, wordsBelow}
+use Rattle.crash.specs.History.{settled, stamped, released, writesLogged}
 use Rattle.crash.proofs.recovery.Data.{Rising, last, then, replay-none}
 use Rattle.crash.proofs.history.Agree.{lastOf, Holding}
 
@@ -37,10 +38,10 @@ rising-append clock last nil r f = r
 rising-append clock (then {c = c} a q) (more h hs) r f = then (All-append a (All-map (λ d k. omega arith) f)) (rising-append clock q hs r f)
 
 -- ---- the writes that a lane has logged
-pub writes-held : (z : Sizes) (h : History) (L : ℕ) (f : List ℕ) (t : Timestamp) → pageAt h L .held ≡ some f → pageAt h L .newest ≡ t
-    → writesLogged z L h ≡ run z.words f (wordsBelow z t h)
-unfolding writesLogged
-writes-held z h L f t p q = rw (p, writesLogged) (ap (λ (b : Timestamp). run z.words f (wordsBelow z b h)) q)
+pub writes-held : (z : Sizes) (h : History) (L : ℕ) (f : List ℕ) (s : ℕ) → pageAt h L .held ≡ some f → pageAt h L .newest ≡ closing s
+    → writesLogged z L h ≡ run z.words f (wordsBelow z (At s) h)
+unfolding writesLogged stampOf
+writes-held z h L f s p q = rw (p, writesLogged) (ap (λ (n : Newest). run z.words f (wordsBelow z (stampOf n) h)) q)
 
 -- ---- the relation
 pub record Onward (h k : History) : Type 0 where
@@ -63,12 +64,12 @@ onward-released L h =
     record { new = []; start = refl; clock = le-refl (h .clock); commits = sym (append-nil (h .commits)); rising = last; fresh = nil; upto = nil }
 
 -- a timestamp without a commit
-pub onward-stamped : (L : ℕ) (held : Option (List ℕ)) (h : History) → Onward h (stamped L held [] h)
+pub onward-stamped : (L : ℕ) (kind : ℕ → Newest) (held : Option (List ℕ)) (h : History) → Onward h (stamped L kind held [] h)
 unfolding stamped
-onward-stamped L held h = record { new = []; start = refl; clock = omega arith; commits = refl; rising = last; fresh = nil; upto = nil }
+onward-stamped L kind held h = record { new = []; start = refl; clock = omega arith; commits = refl; rising = last; fresh = nil; upto = nil }
 
 -- a commit
-pub onward-commit : (L : ℕ) (f : List ℕ) (h : History) → Onward h (stamped L none (f ∷ []) h)
+pub onward-commit : (L : ℕ) (f : List ℕ) (h : History) → Onward h (stamped L closing none (f ∷ []) h)
 unfolding stamped
 onward-commit L f h =
     record {
@@ -118,6 +119,6 @@ module _ (z : Sizes) (h k : History) (o : Onward h k) where
     where
       same : writesLogged z M k ≡ writesLogged z M h
       same =
-          writes-held z k M (v .txn) (At (g .stamp)) (p ∙ v .held) (q ∙ v .newest)
+          writes-held z k M (v .txn) (g .stamp) (p ∙ v .held) (q ∙ v .newest)
           ∙ ap (run z.words (v .txn)) (words-onward (g .stamp) (v .upto))
-          ∙ sym (writes-held z h M (v .txn) (At (g .stamp)) (v .held) (v .newest))
+          ∙ sym (writes-held z h M (v .txn) (g .stamp) (v .held) (v .newest))

@@ -1,10 +1,10 @@
 -- One lane at a cut: its log in non-volatile memory shows the present history or that of the last drain. So all that is found there is of one of the
--- two, the lane gives its newest timestamp of one of the two to the boundary, never below its floor, and the sequences that stand whole are found.
+-- two, the newest that is found is of one of the two and gives nothing below the lane's floor, and the sequences that stand whole are found.
 -- Assumes nothing.
 use mathlib.Core.Path.{_≡_, refl, ap, _∙_, sym, subst}
 use mathlib.Core.Logic.{_⊎_, inl, inr}
 use mathlib.Core.List.{List, [], _∷_, _++_}
-use Prim.Native.Nat.{ℕ, suc, _≤_, _<_}
+use Prim.Native.Nat.{ℕ, zero, suc, _≤_, _<_}
 use native.Mathlib.Omega.{arith}
 use native.Mathlib.Nat.{le-refl}
 use lib.ListN.{length, set, length-set}
@@ -12,36 +12,40 @@ use Rattle.laws.specs.inner.Lists.{All, All-map}
 use Rattle.image.specs.Image.{baseOf, logOf}
 use Rattle.image.specs.inner.ImageLaws.{InRange}
 use Rattle.image.specs.declared.Sizes.{Sizes}
-use Rattle.log.specs.Log.{Old, Complete, completeBelow, completeIn, latest, latestIn, contribution}
-use Rattle.log.specs.declared.Timestamp.{Timestamp}
-use Rattle.log.specs.declared.Timestamp.the-variants.{None, At}
+use Rattle.log.specs.Log.{Old, Complete, sequenceOf, completeBelow, completeIn, latest, latestIn, contribution}
+use Rattle.log.specs.inner.LatestLaws.{latest-greatest, latest-none}
+use Rattle.log.specs.declared.Timestamp.the-variants.{At}
+use Rattle.log.specs.declared.Sequence.{Sequence}
+use Rattle.log.specs.declared.Latest.{Latest}
+use Rattle.log.specs.declared.Latest.the-variants.{Nothing, Is}
 use Rattle.record.specs.Record.{laneAt}
 use Rattle.store.specs.Machine.{Machine}
-use Rattle.crash.specs.History.{floorOr}
+use Rattle.crash.specs.History.{Newest, unset, closing, marking, floorOr}
 use Rattle.crash.specs.Theorem.{NotBelow, noBoundary, atLeast}
 use Rattle.laws.specs.inner.Members.{In, here, there, in-cases, In-All}
-use Rattle.recovery.specs.inner.BoundaryLaws.{latest-above, latest-in}
 use Rattle.crash.proofs.lane.Ghost.{Past, sta}
 use Rattle.crash.proofs.lane.Seqs.{Seq, Hist, Since, level, grown, sealed, next, restamped, pastOf, length-new, stands, newest-end}
 use Rattle.crash.proofs.lane.Memory.{mix-log}
 use Rattle.crash.proofs.lane.View.{View, present, former, view}
 use Rattle.crash.proofs.lane.Shown.{Shown, Listed, shown-found, shown-there}
-use Rattle.crash.proofs.lane.Written.{Falls, onto, Written, Whole, foundAs, newestIn, newest-stamp, newest-whole, shown-nothing, shown-latest}
+use Rattle.crash.proofs.lane.Newest.{newestBy, newestOf, giving, closing-by, contribution-is}
+use Rattle.crash.proofs.lane.Written.{Falls, onto, falls-first, Written, Whole, foundAs}
+use Rattle.crash.proofs.lane.Written.{newestIn, newest-read, newest-whole, shown-nothing, shown-latest}
 use Rattle.crash.proofs.lane.Shape.{Shape}
-use Rattle.crash.proofs.lane.Log.{Track, LaneLog}
+use Rattle.crash.proofs.lane.Log.{Track, LaneLog, floorSince}
 
 -- a log shows the present history or the former, both exact as far as the former goes
 pub data CutLog (z : Sizes) (log : List ℕ) (prior hist : List Past) (priors gs : List Seq) : Type 0 where
   now : Shown z log hist gs (length prior) → CutLog z log prior hist priors gs
   before : Shown z log prior priors (length prior) → CutLog z log prior hist priors gs
 
--- a whole sequence of the present history at a cut: found; found with its logged timestamp, which then is the lane's latest; or just appended
+-- a whole sequence of the present history at a cut: found; found with its logged timestamp, which then is what the lane gives; or just appended
 pub data CutFound (N L : ℕ) (qs : List Complete) (priors gs : List Seq) (g : Seq) : Type 0 where
   itself : In (foundAs N L g) qs → CutFound N L qs priors gs g
   logged : (s : ℕ) → s < g .stamp → contribution (latest qs) ≡ At s → In (foundAs N L (restamped s g)) qs → CutFound N L qs priors gs g
   unseen : gs ≡ g ∷ priors → CutFound N L qs priors gs g
 
--- the newest sequence, g, at a cut, where it is drained or committed: found with its timestamp or its logged one, and the lane's latest
+-- the newest sequence, g, at a cut, where it is no mark, and drained or committed: found with its timestamp or its logged one, which is what the lane gives
 pub record CutNewest (N L : ℕ) (qs : List Complete) (g : Seq) : Type 0 where
   pub stamp : ℕ
   pub upto : stamp ≤ g .stamp
@@ -57,37 +61,49 @@ falls-top {g} f (onto a h) (there i) = let b : f .stamp < g .stamp = In-All a i 
 abbrev asSeq : Complete → ℕ → Seq
 asSeq q e = record { entries = q .entries; stamp = q .stamp; end = e }
 
+-- the latest is that of the history's sequence that it reads as
+reads-as : (qs : List Complete) (r : Sequence) (q : Complete) (e : ℕ) (g : Seq) → latest qs ≡ Is r → sequenceOf q ≡ r → asSeq q e ≡ g
+    → newestOf (latest qs) ≡ newestBy (length (g .entries)) (g .stamp)
+unfolding newestOf sequenceOf
+reads-as qs r q e g l p s =
+    ap newestOf (l ∙ ap Is (sym p)) ∙ rw (ap (λ (x : Seq). x .entries) s, ap (λ (x : Seq). x .stamp) s)
+
 -- of one sequence, that or nothing is found
 latest-one : (N : ℕ) (g : Seq) (qs : List Complete) → All (Listed N (g ∷ [])) qs
-    → (contribution (latest qs) ≡ At (g .stamp)) ⊎ (contribution (latest qs) ≡ None)
-latest-one N g qs k = go (contribution (latest qs)) refl
+    → (newestOf (latest qs) ≡ newestBy (length (g .entries)) (g .stamp)) ⊎ (newestOf (latest qs) ≡ unset)
+unfolding newestOf
+latest-one N g qs k = go (latest qs) refl
   where
-    fits : (q : Complete) (e : ℕ) → (asSeq q e ≡ g) ⊎ In (asSeq q e) [] → q .stamp ≡ g .stamp
-    fits q e (inl p) = ap (λ (x : Seq). x .stamp) p
+    fits : (q : Complete) (e : ℕ) → (asSeq q e ≡ g) ⊎ In (asSeq q e) [] → asSeq q e ≡ g
+    fits q e (inl p) = p
     fits q e (inr i) = absurd (elim i [ ])
 
-    go : (c : Timestamp) → contribution (latest qs) ≡ c → (contribution (latest qs) ≡ At (g .stamp)) ⊎ (contribution (latest qs) ≡ None)
-    go None e = inr e
-    go (At m) e =
-        let b = latest-in qs m e in
+    go : (l : Latest) → latest qs ≡ l → (newestOf (latest qs) ≡ newestBy (length (g .entries)) (g .stamp)) ⊎ (newestOf (latest qs) ≡ unset)
+    go Nothing e = inr (ap newestOf e)
+    go (Is r) e =
+        let b = latest-greatest qs r e in
         let n = In-All k (b .found) in
-        inl (e ∙ ap At (sym (b .stamp) ∙ fits (b .by) (n .end) (in-cases (n .among))))
+        inl (reads-as qs r (b .by) (n .end) g e (b .is) (fits (b .by) (n .end) (in-cases (n .among))))
 
 -- where the second newest is found, that or the newest is the latest
 latest-two : (N L : ℕ) (g f : Seq) (gs : List Seq) (qs : List Complete) → All (Listed N (g ∷ f ∷ gs)) qs → Falls (f ∷ gs) → In (foundAs N L f) qs
-    → (contribution (latest qs) ≡ At (g .stamp)) ⊎ (contribution (latest qs) ≡ At (f .stamp))
-latest-two N L g f gs qs k fl i =
-    let t = latest-above i in
-    let b = latest-in qs (t .stamp) (t .is) in
-    let n = In-All k (b .found) in
-    go (t .stamp) (b .by) (n .end) (in-cases (n .among)) (t .is) (b .stamp) (t .least)
+    → (newestOf (latest qs) ≡ newestBy (length (g .entries)) (g .stamp)) ⊎ (newestOf (latest qs) ≡ newestBy (length (f .entries)) (f .stamp))
+unfolding sequenceOf
+latest-two N L g f gs qs k fl i = go (latest qs) refl
   where
-    go : (m : ℕ) (q : Complete) (e : ℕ) → (asSeq q e ≡ g) ⊎ In (asSeq q e) (f ∷ gs) → contribution (latest qs) ≡ At m → q .stamp ≡ m → f .stamp ≤ m
-        → (contribution (latest qs) ≡ At (g .stamp)) ⊎ (contribution (latest qs) ≡ At (f .stamp))
-    go m q e (inl p) c d l = inl (c ∙ ap At (sym d ∙ ap (λ (x : Seq). x .stamp) p))
-    go m q e (inr j) c d l =
-        let top : q .stamp ≤ f .stamp = falls-top (asSeq q e) fl j in
-        inr (c ∙ ap At (let w : m ≡ f .stamp = omega arith in w))
+    which : (r : Sequence) → latest qs ≡ Is r → (q : Complete) (e : ℕ) → sequenceOf q ≡ r → f .stamp ≤ q .stamp → (asSeq q e ≡ g) ⊎ In (asSeq q e) (f ∷ gs)
+        → (newestOf (latest qs) ≡ newestBy (length (g .entries)) (g .stamp)) ⊎ (newestOf (latest qs) ≡ newestBy (length (f .entries)) (f .stamp))
+    which r l q e p h (inl s) = inl (reads-as qs r q e g l p s)
+    which r l q e p h (inr j) = inr (reads-as qs r q e f l p (falls-first (asSeq q e) fl j h))
+
+    go : (l : Latest) → latest qs ≡ l
+        → (newestOf (latest qs) ≡ newestBy (length (g .entries)) (g .stamp)) ⊎ (newestOf (latest qs) ≡ newestBy (length (f .entries)) (f .stamp))
+    go Nothing e = absurd (let n : qs ≡ [] = latest-none qs e in elim (subst (In (foundAs N L f)) n i) [ ])
+    go (Is r) e =
+        let b = latest-greatest qs r e in
+        let n = In-All k (b .found) in
+        which r e (b .by) (n .end) (b .is)
+        (let h : f .stamp ≤ b .by .stamp = rw (sym (ap (λ (s : Sequence). s .stamp) (b .is))) at (b .above i) in h) (in-cases (n .among))
 
 module _ (z : Sizes) (r : InRange z) (log : List ℕ) (base L : ℕ) where
   abbrev qs : List Complete
@@ -95,13 +111,20 @@ module _ (z : Sizes) (r : InRange z) (log : List ℕ) (base L : ℕ) where
 
   -- ---- a history that is shown whole
   shown-newest : (h : List Past) {gs : List Seq} {u : ℕ} → Shown z log h gs u → Falls gs → All (λ g. base < g .stamp) gs → length h ≤ u
-      → contribution (latest qs) ≡ newestIn gs
-  unfolding latest contribution newestIn
-  shown-newest h {gs = []} s f a l = ap (λ q. contribution (latest q)) (shown-nothing z r log h base L s)
+      → newestOf (latest qs) ≡ newestIn gs
+  unfolding latest newestOf newestIn
+  shown-newest h {gs = []} s f a l = ap (λ q. newestOf (latest q)) (shown-nothing z r log h base L s)
   shown-newest h {gs = g ∷ gs} s f a l =
       let e = shown-latest z r log h base L s f (newest-whole z r (s .history))
       (omega (arith, stands z.words z.slots (s .history) here .below)) (In-All a here) in
-      ap contribution e ∙ newest-stamp z.slots (g ∷ gs)
+      ap newestOf e ∙ newest-read z.slots (g ∷ gs)
+
+  -- where its newest is no mark, the lane gives its timestamp
+  shown-gives : (h : List Past) {g : Seq} {gs : List Seq} {u : ℕ} → Shown z log h (g ∷ gs) u → Falls (g ∷ gs) → All (λ g. base < g .stamp) (g ∷ gs)
+      → length h ≤ u → 0 < length (g .entries) → contribution (latest qs) ≡ At (g .stamp)
+  unfolding newestIn giving
+  shown-gives h {g = g} s f a l i =
+      contribution-is (latest qs) ∙ ap giving (shown-newest h s f a l ∙ closing-by (length (g .entries)) (g .stamp) i)
 
   newest-there : (h : List Past) {g : Seq} {gs : List Seq} {u : ℕ} → Shown z log h (g ∷ gs) u → base < g .stamp → length h ≤ u → In (foundAs z.slots L g) qs
   newest-there h {g = g} s a l =
@@ -121,7 +144,7 @@ module _ (z : Sizes) (r : InRange z) (log : List ℕ) (base L : ℕ) where
 
   grown-latest : (h : List Past) (es : List Old) (t : ℕ) {gs : List Seq} → Hist z.words z.slots h gs
       → Shown z log (h ++ pastOf es t) (next h es t ∷ gs) (length h) → Falls (next h es t ∷ gs) → All (λ g. base < g .stamp) (next h es t ∷ gs)
-      → (contribution (latest qs) ≡ At t) ⊎ (contribution (latest qs) ≡ newestIn gs)
+      → (newestOf (latest qs) ≡ newestBy (length es) t) ⊎ (newestOf (latest qs) ≡ newestIn gs)
   unfolding newestIn
   grown-latest h es t {gs = []} H s f a = latest-one z.slots (next h es t) qs (known h es t H s f a)
   grown-latest h es t {gs = g ∷ gs} H s (onto b f) a =
@@ -135,12 +158,12 @@ module _ (z : Sizes) (r : InRange z) (log : List ℕ) (base L : ℕ) where
   module _ (clock : ℕ) (cached was : List ℕ) where
     cut-latest : {prior hist : List Past} {priors gs : List Seq} → Since prior hist priors gs → Written z base clock cached hist gs
         → Written z base clock was prior priors
-        → CutLog z log prior hist priors gs → (contribution (latest qs) ≡ newestIn gs) ⊎ (contribution (latest qs) ≡ newestIn priors)
+        → CutLog z log prior hist priors gs → (newestOf (latest qs) ≡ newestIn gs) ⊎ (newestOf (latest qs) ≡ newestIn priors)
     unfolding newestIn
     cut-latest {prior = prior} c n b (before s) = inr (shown-newest prior s (b .falls) (b .above) (le-refl (length prior)))
     cut-latest (level {h = h}) n b (now s) = inl (shown-newest h s (n .falls) (n .above) (le-refl (length h)))
     cut-latest (grown {h = h} es t) n b (now s) = grown-latest h es t (b .history) s (n .falls) (n .above)
-    cut-latest (sealed {h = h} g c up) n b (now s) =
+    cut-latest (sealed {h = h} g c up some) n b (now s) =
         inl (shown-newest (set h (g .end) (sta (length (g .entries)) c)) s (n .falls)
         (n .above) (omega (arith, length-set h (g .end) (sta (length (g .entries)) c))))
 
@@ -161,77 +184,95 @@ module _ (z : Sizes) (r : InRange z) (log : List ℕ) (base L : ℕ) where
         itself (exact-there (h ++ pastOf es t) s (n .above) (there i) w (stands z.words z.slots (b .history) i .below))
     cut-found (grown {h = h} es t) n b (before s) {g} (there i) w =
         itself (exact-there h s (b .above) i (omega (arith, length-new h es t)) (stands z.words z.slots (b .history) i .below))
-    cut-found (sealed {h = h} f c up) n b (now s) {g} i w =
+    cut-found (sealed {h = h} f c up some) n b (now s) {g} i w =
         itself
         (exact-there (set h (f .end) (sta (length (f .entries)) c)) s (n .above) i w
         (omega (arith, length-set h (f .end) (sta (length (f .entries)) c), stands z.words z.slots (n .history) i .below)))
-    cut-found (sealed {h = h} f c up) n b (before s) here w =
-        logged (f .stamp) up (shown-newest h s (b .falls) (b .above) (le-refl (length h))) (newest-there h s (In-All (b .above) here) (le-refl (length h)))
-    cut-found (sealed {h = h} f c up) n b (before s) {g} (there i) w =
+    cut-found (sealed {h = h} f c up some) n b (before s) here w =
+        logged (f .stamp) up (shown-gives h s (b .falls) (b .above) (le-refl (length h)) some) (newest-there h s (In-All (b .above) here) (le-refl (length h)))
+    cut-found (sealed {h = h} f c up some) n b (before s) {g} (there i) w =
         itself (exact-there h s (b .above) (there i) (omega (arith, length-set h (f .end) (sta (length (f .entries)) c)))
         (stands z.words z.slots (b .history) (there i) .below))
 
     cut-newest : {prior hist : List Past} {priors rest : List Seq} {g : Seq} → Since prior hist priors (g ∷ rest) → Written z base clock cached hist (g ∷ rest)
-        → Written z base clock was prior priors → CutLog z log prior hist priors (g ∷ rest) → length priors ≡ suc (length rest) → CutNewest z.slots L qs g
-    unfolding newestIn
-    cut-newest {g = g} (level {h = h}) n b (now s) e =
+        → Written z base clock was prior priors → CutLog z log prior hist priors (g ∷ rest) → length priors ≡ suc (length rest) → 0 < length (g .entries)
+        → CutNewest z.slots L qs g
+    cut-newest {g = g} (level {h = h}) n b (now s) e i =
         record {
           stamp = g .stamp;
           upto = le-refl (g .stamp);
           found = newest-there h s (In-All (n .above) here) (le-refl (length h));
-          latest = shown-newest h s (n .falls) (n .above) (le-refl (length h));
+          latest = shown-gives h s (n .falls) (n .above) (le-refl (length h)) i;
         }
-    cut-newest {g = g} (level {h = h}) n b (before s) e =
+    cut-newest {g = g} (level {h = h}) n b (before s) e i =
         record {
           stamp = g .stamp;
           upto = le-refl (g .stamp);
           found = newest-there h s (In-All (n .above) here) (le-refl (length h));
-          latest = shown-newest h s (n .falls) (n .above) (le-refl (length h));
+          latest = shown-gives h s (n .falls) (n .above) (le-refl (length h)) i;
         }
-    cut-newest (grown es t) n b v e = absurd (omega arith)
-    cut-newest (sealed {h = h} f c up) n b (now s) e =
+    cut-newest (grown es t) n b v e i = absurd (omega arith)
+    cut-newest (sealed {h = h} f c up some) n b (now s) e i =
         let k : length (set h (f .end) (sta (length (f .entries)) c)) ≤ length h = omega (arith, length-set h (f .end) (sta (length (f .entries)) c)) in
         record {
           stamp = c;
           upto = le-refl c;
           found = newest-there (set h (f .end) (sta (length (f .entries)) c)) s (In-All (n .above) here) k;
-          latest = shown-newest (set h (f .end) (sta (length (f .entries)) c)) s (n .falls) (n .above) k;
+          latest = shown-gives (set h (f .end) (sta (length (f .entries)) c)) s (n .falls) (n .above) k i;
         }
-    cut-newest (sealed {h = h} f c up) n b (before s) e =
+    cut-newest (sealed {h = h} f c up some) n b (before s) e i =
         record {
           stamp = f .stamp;
           upto = omega arith;
           found = newest-there h s (In-All (b .above) here) (le-refl (length h));
-          latest = shown-newest h s (b .falls) (b .above) (le-refl (length h));
+          latest = shown-gives h s (b .falls) (b .above) (le-refl (length h)) i;
         }
 
-    -- ---- the floor
-    -- the newest of the last drain is not above the newest now
-    cut-floor : {prior hist : List Past} {priors gs : List Seq} → Since prior hist priors gs → Written z base clock cached hist gs → (c : Timestamp)
-        → (c ≡ newestIn gs) ⊎ (c ≡ newestIn priors) → NotBelow (floorOr (newestIn priors) (newestIn gs)) c
-    unfolding newestIn floorOr
-    cut-floor (level {gs = []}) n c (inl e) = rw e noBoundary
-    cut-floor (level {gs = []}) n c (inr e) = rw e noBoundary
-    cut-floor (level {gs = g ∷ gs}) n c (inl e) = rw e (atLeast (le-refl (g .stamp)))
-    cut-floor (level {gs = g ∷ gs}) n c (inr e) = rw e (atLeast (le-refl (g .stamp)))
-    cut-floor (grown {gs = []} es t) n c (inl e) = rw e (atLeast (le-refl t))
-    cut-floor (grown {gs = []} es t) n c (inr e) = rw e noBoundary
-    cut-floor (grown {gs = g ∷ gs} es t) n c (inl e) = rw e (atLeast (falls-top g (n .falls) (there here)))
-    cut-floor (grown {gs = g ∷ gs} es t) n c (inr e) = rw e (atLeast (le-refl (g .stamp)))
-    cut-floor (sealed g d up) n c (inl e) = rw e (atLeast (let l : g .stamp ≤ d = omega arith in l))
-    cut-floor (sealed g d up) n c (inr e) = rw e (atLeast (le-refl (g .stamp)))
+-- ---- the floor
+-- what a timestamp t gives is not below the floor that it was appended over, which an earlier s gave, or that it set
+above-floor : (n k t s : ℕ) → s ≤ t → NotBelow (floorOr (giving (newestBy k s)) (At t)) (giving (newestBy n t))
+unfolding newestBy giving floorOr
+above-floor zero k t s l = noBoundary
+above-floor (suc n) zero t s l = atLeast (le-refl t)
+above-floor (suc n) (suc k) t s l = atLeast l
 
-    -- where the lane gives nothing, nothing was ever drained
-    cut-none : {prior hist : List Past} {priors gs : List Seq} → Since prior hist priors gs → (None ≡ newestIn gs) ⊎ (None ≡ newestIn priors) → priors ≡ []
-    unfolding newestIn
-    cut-none (level {gs = []}) e = refl
-    cut-none (level {gs = g ∷ gs}) (inl e) = absurd (let z : _≡_ {A = ℕ} 0 1 = cc in omega arith)
-    cut-none (level {gs = g ∷ gs}) (inr e) = absurd (let z : _≡_ {A = ℕ} 0 1 = cc in omega arith)
-    cut-none (grown {gs = []} es t) e = refl
-    cut-none (grown {gs = g ∷ gs} es t) (inl e) = absurd (let z : _≡_ {A = ℕ} 0 1 = cc in omega arith)
-    cut-none (grown {gs = g ∷ gs} es t) (inr e) = absurd (let z : _≡_ {A = ℕ} 0 1 = cc in omega arith)
-    cut-none (sealed g c up) (inl e) = absurd (let z : _≡_ {A = ℕ} 0 1 = cc in omega arith)
-    cut-none (sealed g c up) (inr e) = absurd (let z : _≡_ {A = ℕ} 0 1 = cc in omega arith)
+first-floor : (n t : ℕ) → NotBelow (At t) (giving (newestBy n t))
+unfolding newestBy giving
+first-floor zero t = noBoundary
+first-floor (suc n) t = atLeast (le-refl t)
+
+-- a lane's newest gives nothing below a floor that it gives itself, or that was set over it
+same-floor : (n : Newest) → NotBelow (giving n) (giving n)
+unfolding giving
+same-floor unset = noBoundary
+same-floor (closing s) = atLeast (le-refl s)
+same-floor (marking s) = noBoundary
+
+over-floor : (n : Newest) (t : ℕ) → NotBelow (floorOr (giving n) (At t)) (giving n)
+unfolding giving floorOr
+over-floor unset t = noBoundary
+over-floor (closing s) t = atLeast (le-refl s)
+over-floor (marking s) t = noBoundary
+
+-- and a commit's timestamp is above the logged one
+commit-floor : (n s c : ℕ) → s ≤ c → NotBelow (giving (newestBy n s)) (giving (newestBy n c))
+unfolding newestBy giving
+commit-floor zero s c l = noBoundary
+commit-floor (suc n) s c l = atLeast l
+
+-- the newest of the present history and that of the last drain give nothing below the floor
+cut-floor : {prior hist : List Past} {priors gs : List Seq} (σ : Since prior hist priors gs) → Falls gs → (c : Newest)
+    → (c ≡ newestIn gs) ⊎ (c ≡ newestIn priors) → NotBelow (floorSince σ) (giving c)
+unfolding newestIn floorSince giving floorOr
+cut-floor (level {gs = gs}) f c (inl e) = rw e (same-floor (newestIn gs))
+cut-floor (level {gs = gs}) f c (inr e) = rw e (same-floor (newestIn gs))
+cut-floor (grown {gs = []} es t) f c (inl e) = rw e (first-floor (length es) t)
+cut-floor (grown {gs = []} es t) f c (inr e) = rw e (over-floor unset t)
+cut-floor (grown {gs = g ∷ gs} es t) f c (inl e) =
+    rw e (above-floor (length es) (length (g .entries)) t (g .stamp) (falls-top g f (there here)))
+cut-floor (grown {gs = g ∷ gs} es t) f c (inr e) = rw e (over-floor (newestIn (g ∷ gs)) t)
+cut-floor (sealed g d up some) f c (inl e) = rw e (commit-floor (length (g .entries)) (g .stamp) d (omega arith))
+cut-floor (sealed {gs = gs} g d up some) f c (inr e) = rw e (same-floor (newestIn (g ∷ gs)))
 
 -- ---- a lane of a running store
 module _ (z : Sizes) (L : ℕ) (m : Machine) (t : Track) (s : Shape z m) (l : LaneLog z L m t) where
@@ -265,23 +306,17 @@ module _ (z : Sizes) (L : ℕ) (m : Machine) (t : Track) (s : Shape z m) (l : La
       go (now v) = All-map (λ q k. inl k) (shown-found z (s .sizes .words-high) (s .sizes .slots-low) v (baseOf (m .nvm)) L)
       go (before v) = All-map (λ q k. inr k) (shown-found z (s .sizes .words-high) (s .sizes .slots-low) v (baseOf (m .nvm)) L)
 
-  -- what it gives to the boundary
-  pub lane-cut-latest : (contribution (latestIn z (m .nvm) L) ≡ newestIn (t .gs)) ⊎ (contribution (latestIn z (m .nvm) L) ≡ newestIn (t .priors))
+  -- its latest sequence
+  lane-cut-latest : (newestOf (latestIn z (m .nvm) L) ≡ newestIn (t .gs)) ⊎ (newestOf (latestIn z (m .nvm) L) ≡ newestIn (t .priors))
   unfolding latestIn completeIn
   lane-cut-latest =
       cut-latest z r (logOf z L (m .nvm)) (baseOf (m .nvm)) L (m .state .clock) (logOf z L (m .cache)) (t .was) (l .since) nvm-now nvm-before lane-cut
 
-  -- it is not below the floor
+  -- what it gives is not below the floor
   pub lane-cut-floor : NotBelow (laneAt (m .state) L .floor) (contribution (latestIn z (m .nvm) L))
   lane-cut-floor =
-      rw (l .floor)
-      (cut-floor z r (logOf z L (m .nvm)) (baseOf (m .nvm)) L (m .state .clock) (logOf z L (m .cache))
-      (t .was) (l .since) nvm-now (contribution (latestIn z (m .nvm) L)) lane-cut-latest)
-
-  -- a lane that gives nothing has never drained a sequence
-  pub lane-cut-none : contribution (latestIn z (m .nvm) L) ≡ None → t .priors ≡ []
-  lane-cut-none e =
-      cut-none z r (logOf z L (m .nvm)) (baseOf (m .nvm)) L (m .state .clock) (logOf z L (m .cache)) (t .was) (l .since) (rw e at lane-cut-latest)
+      rw (l .floor, contribution-is (latestIn z (m .nvm) L))
+      (cut-floor (l .since) (l .now .falls) (newestOf (latestIn z (m .nvm) L)) lane-cut-latest)
 
   -- the sequences that are whole in the cached log
   pub lane-cut-found : {g : Seq} → In g (t .gs) → Whole z.slots (t .hist) g → CutFound z.slots L (completeIn z (m .nvm) L) (t .priors) (t .gs) g
@@ -289,10 +324,11 @@ module _ (z : Sizes) (L : ℕ) (m : Machine) (t : Track) (s : Shape z m) (l : La
   lane-cut-found i w =
       cut-found z r (logOf z L (m .nvm)) (baseOf (m .nvm)) L (m .state .clock) (logOf z L (m .cache)) (t .was) (l .since) nvm-now nvm-before lane-cut i w
 
-  -- the newest, unless it is just appended
-  pub lane-cut-newest : {g : Seq} {rest : List Seq} → t .gs ≡ g ∷ rest → length (t .priors) ≡ length (t .gs) → CutNewest z.slots L (completeIn z (m .nvm) L) g
+  -- the newest, unless it is a mark or just appended
+  pub lane-cut-newest : {g : Seq} {rest : List Seq} → t .gs ≡ g ∷ rest → length (t .priors) ≡ length (t .gs) → 0 < length (g .entries)
+      → CutNewest z.slots L (completeIn z (m .nvm) L) g
   unfolding completeIn
-  lane-cut-newest e k =
+  lane-cut-newest e k some =
       cut-newest z r (logOf z L (m .nvm)) (baseOf (m .nvm)) L (m .state .clock) (logOf z L (m .cache))
       (t .was) (rw e at (l .since)) (rw e at nvm-now) nvm-before (rw e at lane-cut)
-      (k ∙ ap length e)
+      (k ∙ ap length e) some

@@ -14,10 +14,10 @@ use Rattle.image.specs.inner.ImageLaws.{getD-log}
 use Rattle.image.specs.Stores.{Store, stored}
 use Rattle.image.specs.inner.StoresLaws.{stored-append, length-stored}
 use Rattle.image.specs.declared.Sizes.{Sizes}
-use Rattle.log.specs.Log.{completeIn, latestIn, contribution}
+use Rattle.log.specs.Log.{completeIn, latestIn}
 use Rattle.log.specs.Append.{advance, appendStores, circular, restampStore}
 use Rattle.log.specs.declared.Timestamp.{Timestamp}
-use Rattle.log.specs.declared.Timestamp.the-variants.{None, At}
+use Rattle.log.specs.declared.Timestamp.the-variants.{At}
 use Rattle.log.specs.declared.Cursor.{Cursor}
 use Rattle.record.specs.Record.{laneAt, cursorOf, loggedIn, drainedLane, appendedLane, idleLane, pairsOf, withLane, withClock, withLast}
 use Rattle.record.specs.declared.Pair.{Pair}
@@ -26,18 +26,19 @@ use Rattle.record.specs.declared.Phase.{Phase}
 use Rattle.record.specs.declared.Phase.the-variants.{Idle, Holds}
 use Rattle.store.specs.Machine.{Machine}
 use Rattle.store.specs.Calls.{drained, changed, appended, logged, pairStores, commitStores, committed, released}
-use Rattle.crash.specs.History.{floorOr}
+use Rattle.crash.specs.History.{floorOr, floorOnDrain}
 use Rattle.laws.specs.inner.Members.{here}
 use Rattle.crash.proofs.recovery.Data.{oldsOf, length-olds}
-use Rattle.crash.proofs.history.Lanes.{LaneTo, lane-drained, lane-appended, lane-committed, lane-released, drained-floor, appended-floor}
+use Rattle.crash.proofs.history.Lanes.{LaneTo, lane-drained, lane-appended, lane-committed, lane-released, appended-floor}
 use Rattle.crash.proofs.lane.Absolute.{cursorAt, advance-cursor, circular-abs}
 use Rattle.crash.proofs.lane.Ghost.{Past, sta}
 use Rattle.crash.proofs.lane.Seqs.{Seq, Since, level, grown, sealed, next, restamped, pastOf, length-new, stands}
+use Rattle.crash.proofs.lane.Newest.{newestOf, giving, floor-by, drained-floor}
 use Rattle.crash.proofs.lane.Memory.{Mem, drained-own, mem-drained-own, mem-stored-own}
 use Rattle.crash.proofs.lane.Regions.{stored-base, stored-log, inside-late, data-apart}
 use Rattle.crash.proofs.lane.Append.{append-inside}
 use Rattle.crash.proofs.lane.Written.{Written, written-later, below-new, written-append}
-use Rattle.crash.proofs.lane.Written.{written-commit, written-latest, newestIn, newestAs, newest-stamp}
+use Rattle.crash.proofs.lane.Written.{written-commit, written-latest, newestIn, newestAs, newest-read}
 use Rattle.crash.proofs.lane.Shape.{Shape, shape-drained, pairs-data, commit-past}
 
 -- the ghosts of a lane: its history with its sequences; those of its last drain, and its cached log at that time
@@ -52,7 +53,13 @@ pub record Track : Type 0 where
 pub data PhaseOf (N : ℕ) : Phase → List Seq → Type 0 where
   idle : {gs : List Seq} → PhaseOf N Idle gs
   holds : {x : Logged} {g : Seq} {gs : List Seq} → x .first ≡ (g .end - length (g .entries)) % N → x .count ≡ length (g .entries) → x .stamp ≡ g .stamp
-      → PhaseOf N (Holds x) (g ∷ gs)
+      → 0 < length (g .entries) → PhaseOf N (Holds x) (g ∷ gs)
+
+-- a lane's floor: what its newest sequence at the last drain gives; where that is nothing, a timestamp appended since
+unfoldable pub floorSince : {prior hist : List Past} {priors gs : List Seq} → Since prior hist priors gs → Timestamp
+floorSince (level {gs = gs}) = giving (newestIn gs)
+floorSince (grown {gs = gs} es s) = floorOr (giving (newestIn gs)) (At s)
+floorSince (sealed {gs = gs} g c up some) = giving (newestIn (g ∷ gs))
 
 pub record LaneLog (z : Sizes) (L : ℕ) (m : Machine) (t : Track) : Type 0 where
   -- the cached log, and the cached log of the last drain
@@ -62,8 +69,7 @@ pub record LaneLog (z : Sizes) (L : ℕ) (m : Machine) (t : Track) : Type 0 wher
   -- each log word in non-volatile memory is of one of the two
   pub mem : Mem z L (t .was) (m .cache) (m .flags) (m .nvm)
   pub cursor : cursorOf (laneAt (m .state) L) ≡ cursorAt z.slots (length (t .hist))
-  -- the newest drained timestamp, or the first while none is drained
-  pub floor : laneAt (m .state) L .floor ≡ floorOr (newestIn (t .priors)) (newestIn (t .gs))
+  pub floor : laneAt (m .state) L .floor ≡ floorSince since
   pub holding : PhaseOf z.slots (laneAt (m .state) L .phase) (t .gs)
 
 -- ---- the tracks after a call of the lane
@@ -105,20 +111,14 @@ length-sealHist c h (g ∷ gs) = length-set h (g .end) (sta (length (g .entries)
 abbrev pub restampedBy : Sizes → ℕ → Machine → ℕ → Track → Track
 restampedBy z L m c t = record { hist = sealHist c (t .hist) (t .gs); gs = sealGs c (t .gs); prior = t .hist; priors = t .gs; was = logOf z L (m .cache) }
 
--- ---- floors
-floor-same : (x : Timestamp) → floorOr x x ≡ x
-unfolding floorOr
-floor-same None = refl
-floor-same (At s) = refl
-
--- a drain makes the newest timestamp the floor
-floor-drained : {prior hist : List Past} {priors gs : List Seq} → Since prior hist priors gs
-    → floorOr (newestIn gs) (floorOr (newestIn priors) (newestIn gs)) ≡ newestIn gs
-unfolding floorOr newestIn
+-- ---- a drain makes what the newest sequence gives the floor
+pub floor-drained : {prior hist : List Past} {priors gs : List Seq} (σ : Since prior hist priors gs)
+    → floorOnDrain (newestIn gs) (floorSince σ) ≡ giving (newestIn gs)
+unfolding floorSince newestIn giving floorOnDrain
 floor-drained (level {gs = []}) = refl
-floor-drained (level {gs = g ∷ gs}) = refl
-floor-drained (grown es s) = refl
-floor-drained (sealed g c up) = refl
+floor-drained (level {gs = g ∷ gs}) = floor-by (length (g .entries)) (g .stamp) _
+floor-drained (grown es s) = floor-by (length es) s _
+floor-drained (sealed g c up some) = floor-by (length (g .entries)) c _
 
 -- ---- what is read of the cached log
 module _ (z : Sizes) (L : ℕ) (m : Machine) (t : Track) (s : Shape z m) (l : LaneLog z L m t) where
@@ -127,8 +127,8 @@ module _ (z : Sizes) (L : ℕ) (m : Machine) (t : Track) (s : Shape z m) (l : La
   unfolding latestIn completeIn
   lane-latest-is = written-latest z (s .sizes) (baseOf (m .cache)) (m .state .clock) (logOf z L (m .cache)) L (l .now)
 
-  pub lane-latest : contribution (latestIn z (m .cache) L) ≡ newestIn (t .gs)
-  lane-latest = ap contribution lane-latest-is ∙ newest-stamp z.slots (t .gs)
+  pub lane-latest : newestOf (latestIn z (m .cache) L) ≡ newestIn (t .gs)
+  lane-latest = ap newestOf lane-latest-is ∙ newest-read z.slots (t .gs)
 
   pub next-slot : laneAt (m .state) L .next ≡ length (t .hist) % z.slots
   unfolding cursorOf cursorAt
@@ -142,8 +142,14 @@ module _ (z : Sizes) (L : ℕ) (m : Machine) (t : Track) (s : Shape z m) (l : La
     to : LaneTo (m .state) (drained z L m .state) L (drainedLane (latestIn z (m .cache) L) (laneAt (m .state) L))
     to = lane-drained z L m (le-trans lane (s .lanes))
 
+    drains-floor : laneAt (drained z L m .state) L .floor ≡ giving (newestIn (t .gs))
+    unfolding drainedLane
+    drains-floor =
+        rw (to .here)
+        (drained-floor (latestIn z (m .cache) L) (laneAt (m .state) L .floor) ∙ rw (lane-latest, l .floor) (floor-drained (l .since)))
+
     pub lane-drains : LaneLog z L (drained z L m) (levelled z L m t)
-    unfolding drained drainedLane cursorOf withLane
+    unfolding drained drainedLane cursorOf withLane floorSince
     lane-drains =
         record {
           now = l .now;
@@ -151,9 +157,7 @@ module _ (z : Sizes) (L : ℕ) (m : Machine) (t : Track) (s : Shape z m) (l : La
           since = level;
           mem = mem-drained-own z L lane (t .was) (m .cache) (m .flags) (m .nvm) (s .in-cache) (s .in-flags) (s .in-nvm) (l .mem);
           cursor = rw (to .here) (l .cursor);
-          floor = rw (to .here)
-              (drained-floor (latestIn z (m .cache) L) (laneAt (m .state) L .floor)
-              ∙ rw (lane-latest, l .floor) (floor-drained (l .since) ∙ sym (floor-same (newestIn (t .gs)))));
+          floor = drains-floor;
           holding = rw (to .here) (l .holding);
         }
 
@@ -178,12 +182,10 @@ module _ (z : Sizes) (L : ℕ) (m : Machine) (t : Track) (s : Shape z m) (l : La
 
 -- ---- a lane that has just been drained
 module _ (z : Sizes) (L : ℕ) (lane : L < z.lanes) (m : Machine) (t : Track) (s : Shape z m) (l : LaneLog z L m (levelled z L m t))
+    (floor : laneAt (m .state) L .floor ≡ giving (newestIn (t .gs)))
     (same : (j : ℕ) → j < 2 * z.slots → getD (m .nvm) (logStart z L + j) 0 ≡ getD (m .cache) (logStart z L + j) 0) where
   inside : L < length (m .state .lanes)
   inside = le-trans lane (s .lanes)
-
-  level-floor : laneAt (m .state) L .floor ≡ newestIn (t .gs)
-  level-floor = l .floor ∙ floor-same (newestIn (t .gs))
 
   -- one sequence more
   module _ (ws : List Write) (few : length ws ≤ maxWrites) (low : All (λ w. w .word < z.words) ws) (phase : Phase) (redo : List Pair) where
@@ -208,7 +210,7 @@ module _ (z : Sizes) (L : ℕ) (lane : L < z.lanes) (m : Machine) (t : Track) (s
 
     append-level : PhaseOf z.slots phase (next (t .hist) (oldsOf ws) (m .state .clock + 2) ∷ t .gs)
         → LaneLog z L (appended z L ws phase redo m) (extended z L m ws (m .state .clock + 2) t)
-    unfolding appended changed withLane withClock appendedLane cursorOf newestIn
+    unfolding appended changed withLane withClock appendedLane cursorOf floorSince
     append-level held =
         let a = lane-appended z L m inside ws phase redo in
         record {
@@ -218,7 +220,7 @@ module _ (z : Sizes) (L : ℕ) (lane : L < z.lanes) (m : Machine) (t : Track) (s
           since = grown (oldsOf ws) (m .state .clock + 2);
           mem = mem-stored-own z L lane (logOf z L (m .cache)) (m .cache) (m .flags) (m .nvm) (s .in-cache) (s .in-flags) (s .in-nvm) xs same;
           cursor = rw (a .here) append-cursor;
-          floor = rw (a .here) (appended-floor (m .state .clock + 2) (laneAt (m .state) L .floor) ∙ ap (λ f. floorOr f (At (m .state .clock + 2))) level-floor);
+          floor = rw (a .here) (appended-floor (m .state .clock + 2) (laneAt (m .state) L .floor) ∙ ap (λ f. floorOr f (At (m .state .clock + 2))) floor);
           holding = rw (a .here) held;
         }
 
@@ -249,19 +251,20 @@ module _ (z : Sizes) (L : ℕ) (lane : L < z.lanes) (m : Machine) (t : Track) (s
       (restampStore (logStart z L) (circular z.slots (x .first + x .count)) (m .state .clock + 2) (m .cache) .value)))
       (sealHist (m .state .clock + 2) h gs) (sealGs (m .state .clock + 2) gs)
   unfolding sealHist sealGs
-  commit-now x {h} (holds {g = g} {gs = gs} f c e) w image len same =
+  commit-now x {h} (holds {g = g} {gs = gs} f c e some) w image len same =
       rw (commit-slot x w f c, restamp-same (g .end % z.slots) (m .state .clock + 2) image (mod-lt (g .end) (omega (arith, s .sizes .slots-low))) same)
       (written-commit z (s .sizes) L lane (baseOf (m .cache)) (m .state .clock) (s .low) (s .clock) image len
       (subst (λ k. Written z (baseOf (m .cache)) (m .state .clock) k h (g ∷ gs)) (sym same) w))
 
-  commit-since : (c : ℕ) (x : Logged) (h : List Past) {gs : List Seq} → All (λ g. g .stamp < c) gs → PhaseOf z.slots (Holds x) gs
+  unfoldable commit-since : (c : ℕ) (x : Logged) (h : List Past) {gs : List Seq} → All (λ g. g .stamp < c) gs → PhaseOf z.slots (Holds x) gs
       → Since h (sealHist c h gs) gs (sealGs c gs)
   unfolding sealHist sealGs
-  commit-since c x h (more up a) (holds {g = g} f n e) = sealed g c up
+  commit-since c x h (more up a) (holds {g = g} f n e some) = sealed g c up some
 
-  commit-floor : (c : ℕ) (x : Logged) {gs : List Seq} → PhaseOf z.slots (Holds x) gs → newestIn gs ≡ floorOr (newestIn gs) (newestIn (sealGs c gs))
-  unfolding sealGs newestIn floorOr
-  commit-floor c x (holds f n e) = refl
+  commit-floor : (c : ℕ) (x : Logged) (h : List Past) {gs : List Seq} (a : All (λ g. g .stamp < c) gs) (p : PhaseOf z.slots (Holds x) gs)
+      → floorSince (commit-since c x h a p) ≡ giving (newestIn gs)
+  unfolding commit-since floorSince
+  commit-floor c x h (more up a) (holds f n e some) = refl
 
   module _ (ps : List Pair) (low : All (λ p. p .word < z.words) ps) (x : Logged) (held : laneAt (m .state) L .phase ≡ Holds x) where
     committed-base : baseOf (stored (commitStores z L ps m) (m .cache)) ≡ baseOf (m .cache)
@@ -285,7 +288,7 @@ module _ (z : Sizes) (L : ℕ) (lane : L < z.lanes) (m : Machine) (t : Track) (s
           mem = mem-stored-own z L lane (logOf z L (m .cache)) (m .cache) (m .flags)
               (m .nvm) (s .in-cache) (s .in-flags) (s .in-nvm) (commitStores z L ps m) same;
           cursor = rw (a .here, length-sealHist (m .state .clock + 2) (t .hist) (t .gs)) (l .cursor);
-          floor = rw (a .here) (level-floor ∙ commit-floor (m .state .clock + 2) x its);
+          floor = rw (a .here) (floor ∙ sym (commit-floor (m .state .clock + 2) x (t .hist) (below-new (m .state .clock) (l .now .upto)) its));
           holding = rw (a .here) idle;
         }
 
@@ -297,13 +300,13 @@ module _ (z : Sizes) (L : ℕ) (lane : L < z.lanes) (m : Machine) (t : Track) (s
   unfolding drained withLane
   lane-appends ws few low phase redo held =
       append-level z L lane (drained z L m) t (shape-drained z m s L lane)
-      (lane-drains z L m t s l lane) (lane-same z L m t s l lane) ws few low phase redo held
+      (lane-drains z L m t s l lane) (drains-floor z L m t s l lane) (lane-same z L m t s l lane) ws few low phase redo held
 
   -- Log
-  pub lane-logs : (ws : List Write) → length ws ≤ maxWrites → All (λ w. w .word < z.words) ws
+  pub lane-logs : (ws : List Write) → 0 < length ws → length ws ≤ maxWrites → All (λ w. w .word < z.words) ws
       → LaneLog z L (logged z L ws (drained z L m)) (extended z L m ws (m .state .clock + 2) t)
   unfolding logged drained withLane
-  lane-logs ws few low = lane-appends ws few low _ (pairsOf maxWrites ws) (holds first (sym (length-olds ws)) refl)
+  lane-logs ws one few low = lane-appends ws few low _ (pairsOf maxWrites ws) (holds first (sym (length-olds ws)) refl (omega (arith, length-olds ws)))
     where
       n : ℕ
       n = length (oldsOf ws)
@@ -322,7 +325,8 @@ module _ (z : Sizes) (L : ℕ) (lane : L < z.lanes) (m : Machine) (t : Track) (s
       → LaneLog z L (committed z L ps (drained z L m)) (restampedBy z L m (m .state .clock + 2) t)
   unfolding drained drainedLane withLane
   lane-commits ps low x held =
-      commit-level z L lane (drained z L m) t (shape-drained z m s L lane) (lane-drains z L m t s l lane) (lane-same z L m t s l lane) ps low x
+      commit-level z L lane (drained z L m) t (shape-drained z m s L lane)
+      (lane-drains z L m t s l lane) (drains-floor z L m t s l lane) (lane-same z L m t s l lane) ps low x
       (rw (lane-drained z L m (le-trans lane (s .lanes)) .here) held)
 
   -- Validate that does not

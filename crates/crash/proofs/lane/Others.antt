@@ -39,7 +39,7 @@ module _ (z : Sizes) (M : ℕ) (m : Machine) (s : Shape z m) where
     where
       go : {gs : List Seq} → Written z (baseOf (m .cache)) (m .state .clock) (logOf z M (m .cache)) (t .hist) gs → PhaseOf z.slots (Holds x) gs
           → x .first + x .count < 2 * z.slots
-      go w (holds {g = g} f c q) =
+      go w (holds {g = g} f c q some) =
           omega (
             arith,
             f,

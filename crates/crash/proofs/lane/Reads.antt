@@ -52,9 +52,10 @@ pub record HeldSeq (N : ℕ) (x : Logged) (gs : List Seq) : Type 0 where
   pub first : x .first ≡ (seq .end - length (seq .entries)) % N
   pub count : x .count ≡ length (seq .entries)
   pub stamp : x .stamp ≡ seq .stamp
+  pub some : 0 < length (seq .entries)
 
 held-of : (N : ℕ) (x : Logged) {gs : List Seq} → PhaseOf N (Holds x) gs → HeldSeq N x gs
-held-of N x (holds {g = g} {gs = gs} f c s) = record { seq = g; rest = gs; newest = refl; first = f; count = c; stamp = s }
+held-of N x (holds {g = g} {gs = gs} f c s i) = record { seq = g; rest = gs; newest = refl; first = f; count = c; stamp = s; some = i }
 
 module _ (z : Sizes) (L : ℕ) (m : Machine) (t : Track) (s : Shape z m) (l : LaneLog z L m t) where
   pub lane-held : (x : Logged) → laneAt (m .state) L .phase ≡ Holds x → HeldSeq z.slots x (t .gs)

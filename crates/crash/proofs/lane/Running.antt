@@ -24,7 +24,6 @@ use Rattle.record.specs.declared.Logged.{Logged}
 use Rattle.record.specs.declared.Phase.the-variants.{Idle, Holds}
 use Rattle.store.specs.Machine.{Machine}
 use Rattle.store.specs.Calls.{started, drained, appended, logged, committed, released}
-use Rattle.crash.specs.History.{floorOr}
 use Rattle.crash.specs.Theorem.{endOf}
 use Rattle.crash.proofs.lane.Ends.{Form, end-zeros}
 use Rattle.crash.proofs.history.Lanes.{lane-drained, lane-start}
@@ -32,9 +31,10 @@ use Rattle.crash.proofs.lane.Absolute.{wrapOf, cursorAt}
 use Rattle.crash.proofs.lane.Ghost.{blank}
 use Rattle.crash.proofs.lane.Seqs.{level}
 use Rattle.crash.proofs.lane.Memory.{mem-same}
+use Rattle.crash.proofs.lane.Newest.{giving}
 use Rattle.crash.proofs.lane.Written.{newestIn, written-start}
 use Rattle.crash.proofs.lane.Shape.{Shape, withNvm, shape-drained, shape-appended, shape-committed, shape-released, shape-writtenBack}
-use Rattle.crash.proofs.lane.Log.{Track, idle}
+use Rattle.crash.proofs.lane.Log.{Track, idle, floorSince}
 use Rattle.crash.proofs.lane.Log.{LaneLog, levelled, extended, restampedBy, next-low, lane-drains, lane-logs, lane-marks, lane-commits, lane-releases}
 use Rattle.crash.proofs.lane.Others.{commit-low, lane-writtenBack, lane-drains-other, lane-appends-other, lane-commits-other, lane-releases-other}
 
@@ -68,7 +68,7 @@ module _ (z : Sizes) (r : InRange z) (base : ℕ) (image : List ℕ) (even : bas
       rw (length-replicate z.slots blank, mod-self z.slots, div-self p)
 
   start-lane : (L : ℕ) → L < z.lanes → LaneLog z L (started base image) (startTrack z image L)
-  unfolding started startRecord newestIn floorOr startLane
+  unfolding started startRecord newestIn floorSince giving startLane
   start-lane L h =
       let w = written-start z (baseOf image) base (logOf z L image) r (λ j k. rw (zero L h) (getD-replicate (2 * z.slots) j 0 0 k)) in
       record {
@@ -135,13 +135,13 @@ module _ (z : Sizes) (m : Machine) (ts : ℕ → Track) (v : Running z m ts) whe
     pub running-drains : Running z (drained z M m) (updated M (levelled z M m (ts M)) ts)
     running-drains = each M (drained z M m) (levelled z M m (ts M)) drained-shape drained-mine drained-other
 
-    pub running-logs : (ws : List Write) → length ws ≤ maxWrites → All (λ w. w .word < z.words) ws
+    pub running-logs : (ws : List Write) → 0 < length ws → length ws ≤ maxWrites → All (λ w. w .word < z.words) ws
         → Running z (logged z M ws (drained z M m)) (updated M (extended z M m ws (m .state .clock + 2) (ts M)) ts)
     unfolding logged
-    running-logs ws few low =
+    running-logs ws one few low =
         each M (logged z M ws (drained z M m)) (extended z M m ws (m .state .clock + 2) (ts M))
         (shape-appended z (drained z M m) drained-shape M lane ws _ _ next-there)
-        (lane-logs z M lane m (ts M) (v .shape) mine ws few low)
+        (lane-logs z M lane m (ts M) (v .shape) mine ws one few low)
         (λ L h d. lane-appends-other z L h (drained z M m) (ts L) drained-shape (drained-other L h d) M lane d ws _ _ next-there)
 
     pub running-marks : (redo : List Pair)

@@ -24,7 +24,7 @@ use Rattle.crash.proofs.lane.Seqs.{Seq, restamped}
 use Rattle.crash.proofs.lane.Shown.{Listed}
 use Rattle.crash.proofs.lane.Written.{Whole, foundAs}
 use Rattle.crash.proofs.lane.Log.{Track}
-use Rattle.crash.proofs.lane.Cut.{CutFound, itself, logged, unseen, lane-cut-known, lane-cut-floor, lane-cut-none, lane-cut-found, lane-cut-newest}
+use Rattle.crash.proofs.lane.Cut.{CutFound, itself, logged, unseen, lane-cut-known, lane-cut-floor, lane-cut-found, lane-cut-newest}
 use Rattle.crash.proofs.lane.Running.{Running}
 
 at-one : {a b : ℕ} → At a ≡ At b → a ≡ b
@@ -87,13 +87,16 @@ module _ (z : Sizes) (m : Machine) (ts : ℕ → Track) (v : Running z m ts) whe
           let r = boundary-is z (m .nvm) b e in
           by-lane (r .lane) b (r .low) _ _ refl (r .latest) (lane-cut-floor z (r .lane) m (ts (r .lane)) (v .shape) (v .lanes (r .lane) (r .low)))
 
-  -- where there is none, no lane has ever drained a sequence
-  pub cut-none : boundary z (m .nvm) ≡ None → (L : ℕ) → L < z.lanes → ts L .priors ≡ []
-  cut-none e L l = go (contribution (latestIn z (m .nvm) L)) refl
-    where
-      go : (c : Timestamp) → contribution (latestIn z (m .nvm) L) ≡ c → ts L .priors ≡ []
-      go None f = lane-cut-none z L m (ts L) (v .shape) (v .lanes L l) f
-      go (At c) f = absurd (let r = boundary-below z (m .nvm) L c l f in let g = r .is in let z : _≡_ {A = ℕ} 0 1 = cc in omega arith)
+  -- there is one where some lane's newest sequence is no mark, and drained or committed
+  pub cut-some : boundary z (m .nvm) ≡ None → (L : ℕ) → L < z.lanes → {g : Seq} {rest : List Seq} → ts L .gs ≡ g ∷ rest
+      → length (ts L .priors) ≡ length (ts L .gs) → 0 < length (g .entries) → ⊥
+  unfolding latestIn
+  cut-some e L l p k some =
+      let c = lane-cut-newest z L m (ts L) (v .shape) (v .lanes L l) p k some in
+      let r = boundary-below z (m .nvm) L (c .stamp) l (c .latest) in
+      let g = r .is in
+      let z : _≡_ {A = ℕ} 0 1 = cc in
+      omega arith
 
   -- ---- what is found
   -- is of the present history of its lane, or of the one at its last drain
@@ -124,10 +127,11 @@ module _ (z : Sizes) (m : Machine) (ts : ℕ → Track) (v : Running z m ts) whe
             }
         go (unseen e) = absurd (settled e)
 
-    -- the newest of a lane that has not just appended
-    pub cut-seen-newest : {g : Seq} {rest : List Seq} → ts L .gs ≡ g ∷ rest → length (ts L .priors) ≡ length (ts L .gs) → Seen z (m .nvm) b g
-    cut-seen-newest {g} e k =
-        let c = lane-cut-newest z L m (ts L) (v .shape) (v .lanes L lane) e k in
+    -- the newest of a lane that has not just appended, if it is no mark
+    pub cut-seen-newest : {g : Seq} {rest : List Seq} → ts L .gs ≡ g ∷ rest → length (ts L .priors) ≡ length (ts L .gs) → 0 < length (g .entries)
+        → Seen z (m .nvm) b g
+    cut-seen-newest {g} e k some =
+        let c = lane-cut-newest z L m (ts L) (v .shape) (v .lanes L lane) e k some in
         record {
           by = foundAs z.slots L (restamped (c .stamp) g);
           found = lane-in z (m .nvm) z.lanes L lane (c .found);

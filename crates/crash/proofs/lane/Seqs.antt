@@ -52,11 +52,11 @@ pub data Hist (W N : ℕ) : List Past → List Seq → Type 0 where
   start : Hist W N (replicate N blank) []
   add : {h : List Past} {gs : List Seq} → Hist W N h gs → (es : List Old) (s : ℕ) → Loggable W es s → Hist W N (h ++ pastOf es s) (next h es s ∷ gs)
 
--- what a lane's last call made of the history of its last drain: nothing, one sequence more, or a new timestamp for its newest sequence
+-- what a lane's last call made of the history of its last drain: nothing, one sequence more, or a new timestamp for its newest sequence, which is no mark
 pub data Since : (prior hist : List Past) (priors gs : List Seq) → Type 0 where
   level : {h : List Past} {gs : List Seq} → Since h h gs gs
   grown : {h : List Past} {gs : List Seq} (es : List Old) (s : ℕ) → Since h (h ++ pastOf es s) gs (next h es s ∷ gs)
-  sealed : {h : List Past} {gs : List Seq} (g : Seq) (c : ℕ) → g .stamp < c
+  sealed : {h : List Past} {gs : List Seq} (g : Seq) (c : ℕ) → g .stamp < c → 0 < length (g .entries)
       → Since h (set h (g .end) (sta (length (g .entries)) c)) (g ∷ gs) (restamped c g ∷ gs)
 
 length-as : (es : List Old) → length (entriesAs es) ≡ length es

@@ -166,6 +166,6 @@ module _ (N : ℕ) (large : minSlots ≤ N) (cached was cells : List ℕ)
   view W (level {h = h}) p H w v = level-view h w v
   view W (grown {h = h} es s) p H w v =
       grown-view h (pastOf es s) (omega (arith, length-past es s, stands W N H here .ok .few)) (hist-big W N p) w v
-  view W (sealed {h = h} g c up) p H w v =
+  view W (sealed {h = h} g c up some) p H w v =
       let r = stands W N p here in
       sealed-view h (g .end) (length (g .entries)) (g .stamp) c (r .closes) (r .below) (omega (arith, newest-end W N p)) w v

@@ -14,13 +14,13 @@ use Rattle.image.specs.Image.{formerLength, logStart, logOf}
 use Rattle.image.specs.inner.ImageLaws.{InRange}
 use Rattle.image.specs.Stores.{stored}
 use Rattle.image.specs.declared.Sizes.{Sizes}
-use Rattle.log.specs.Log.{Old, Complete, sequenceOf, completeBelow, latest, contribution, hitsFrom}
+use Rattle.log.specs.Log.{Complete, sequenceOf, completeBelow, latest, hitsFrom}
+use Rattle.log.specs.inner.LatestLaws.{latest-greatest, latest-none}
 use Rattle.log.specs.Append.{appendStores, restampStore}
-use Rattle.log.specs.declared.Timestamp.{Timestamp}
-use Rattle.log.specs.declared.Timestamp.the-variants.{None, At}
 use Rattle.log.specs.declared.Sequence.{Sequence}
 use Rattle.log.specs.declared.Latest.{Latest}
 use Rattle.log.specs.declared.Latest.the-variants.{Nothing, Is}
+use Rattle.crash.specs.History.{Newest, unset}
 use Rattle.laws.specs.inner.Members.{In, here, there, In-All}
 use Rattle.crash.proofs.recovery.Data.{oldsOf, length-olds}
 use Rattle.crash.proofs.lane.Absolute.{cursorAt}
@@ -31,17 +31,22 @@ use Rattle.crash.proofs.lane.Append.{window-append}
 use Rattle.crash.proofs.lane.Restamp.{window-restamp}
 use Rattle.crash.proofs.lane.Room.{not-hit, none-hit}
 use Rattle.crash.proofs.lane.Shown.{Shown, shown-window, Listed, shown-found, shown-there}
-use Rattle.crash.proofs.lane.Latest.{latest-greatest, latest-none}
+use Rattle.crash.proofs.lane.Newest.{newestBy, newestOf}
 
 -- by falling timestamp
 pub data Falls : List Seq → Type 0 where
   bottom : Falls []
   onto : {g : Seq} {gs : List Seq} → All (λ f. f .stamp < g .stamp) gs → Falls gs → Falls (g ∷ gs)
 
+-- one that is not below the first is the first
+pub falls-first : {g : Seq} {gs : List Seq} (f : Seq) → Falls (g ∷ gs) → In f (g ∷ gs) → g .stamp ≤ f .stamp → f ≡ g
+falls-first f h here l = refl
+falls-first {g} f (onto a h) (there i) l = absurd (let b : f .stamp < g .stamp = In-All a i in omega arith)
+
 -- the timestamp of the newest sequence, and that sequence as a reading of the log gives it
-unfoldable pub newestIn : List Seq → Timestamp
-newestIn [] = None
-newestIn (g ∷ gs) = At (g .stamp)
+unfoldable pub newestIn : List Seq → Newest
+newestIn [] = unset
+newestIn (g ∷ gs) = newestBy (length (g .entries)) (g .stamp)
 
 unfoldable pub newestAs : ℕ → List Seq → Latest
 newestAs N [] = Nothing
@@ -142,26 +147,21 @@ module _ (z : Sizes) (r : InRange z) (log : List ℕ) (h : List Past) (base L : 
       known : All (Listed z.slots (g ∷ gs)) qs
       known = shown-found z (r .words-high) (r .slots-low) s base L
 
-      -- a member with its timestamp is the newest itself
-      mine : (es : List Old) (t e : ℕ) → Falls (g ∷ gs) → In (record { entries = es; stamp = t; end = e }) (g ∷ gs) → g .stamp ≤ t
-          → (es ≡ g .entries) × (t ≡ g .stamp) × (e ≡ g .end)
-      mine es t e f here l = (refl, refl, refl)
-      mine es t e (onto a f) (there i) l = absurd (let b : t < g .stamp = In-All a i in omega arith)
-
       go : (l : Latest) → latest qs ≡ l → In (foundAs z.slots L g) qs
           → latest qs ≡ Is (record { stamp = g .stamp; count = length (g .entries); slot = g .end % z.slots })
       go Nothing e i = absurd (let n : qs ≡ [] = latest-none qs e in elim (subst (In (foundAs z.slots L g)) n i) [ ])
       go (Is q) e i =
           let t = latest-greatest qs q e in
           let k = In-All known (t .found) in
-          let same = mine (t .by .entries) (t .by .stamp) (k .end) f (k .among)
+          let same = falls-first (record { entries = t .by .entries; stamp = t .by .stamp; end = k .end }) f (k .among)
           (let b : g .stamp ≤ t .by .stamp = rw (sym (ap (λ (s : Sequence). s .stamp) (t .is))) at (t .above i) in b) in
-          e ∙ ap Is (sym (t .is) ∙ rw (same .0, same .1, sym (k .slot), same .2))
+          e ∙ ap Is (sym (t .is)
+          ∙ rw (ap (λ (s : Seq). s .entries) same, ap (λ (s : Seq). s .stamp) same, sym (k .slot), ap (λ (s : Seq). s .end) same))
 
-pub newest-stamp : (N : ℕ) (gs : List Seq) → contribution (newestAs N gs) ≡ newestIn gs
-unfolding newestAs newestIn contribution
-newest-stamp N [] = refl
-newest-stamp N (g ∷ gs) = refl
+pub newest-read : (N : ℕ) (gs : List Seq) → newestOf (newestAs N gs) ≡ newestIn gs
+unfolding newestAs newestIn newestOf
+newest-read N [] = refl
+newest-read N (g ∷ gs) = refl
 
 -- by its position: it ends the history, and the window is longer than a sequence
 pub newest-whole : (z : Sizes) → InRange z → {h : List Past} {g : Seq} {gs : List Seq} → Hist z.words z.slots h (g ∷ gs) → Whole z.slots h g

@@ -28,10 +28,11 @@ use Rattle.record.specs.declared.Phase.the-variants.{Idle, Holds}
 use Rattle.record.specs.declared.Lane.{Lane}
 use Rattle.store.specs.Machine.{Machine}
 use Rattle.store.specs.Calls.{drained, changed, writesOn, appended, logged}
-use Rattle.crash.specs.History.{Commit, Page, History, pageAt, replay, wordsBelow, present, floorOr, settled, stamped, leastFloorOf, writesLogged}
+use Rattle.crash.specs.History.{Newest, closing, marking, Commit, Page, History, pageAt, replay, wordsBelow, present}
+use Rattle.crash.specs.History.{floorOr, settled, stamped, leastFloorOf, writesLogged}
 use Rattle.laws.specs.inner.Members.{In, in-cases, there}
 use Rattle.recovery.specs.inner.UndoneLaws.{writes, firstOld}
-use Rattle.crash.proofs.recovery.Data.{oldsOf, chain-first, replay-all}
+use Rattle.crash.proofs.recovery.Data.{oldsOf, length-olds, chain-first, replay-all}
 use Rattle.crash.proofs.induction.Moves.{Known, Room}
 use Rattle.crash.proofs.history.Lanes.{lane-appended, page-stamped}
 use Rattle.crash.proofs.history.Agree.{Book}
@@ -41,6 +42,7 @@ use Rattle.crash.proofs.history.Books.{book-drains, not-held}
 use Rattle.crash.proofs.lane.Regions.{Inside, inside-late, stored-base, among-late}
 use Rattle.crash.proofs.lane.Append.{append-inside}
 use Rattle.crash.proofs.lane.Seqs.{Seq, Hist, next, pastOf}
+use Rattle.crash.proofs.lane.Newest.{newestBy, closing-by}
 use Rattle.crash.proofs.lane.Written.{Whole, newestIn, newest-whole}
 use Rattle.crash.proofs.lane.Shape.{Shape}
 use Rattle.crash.proofs.lane.Log.{Track, levelled, extended, next-low}
@@ -80,9 +82,9 @@ module _ (z : Sizes) (base : ℕ) (h : History) (m : Machine) (b : Book z base h
   clock-was = sym (b .live .clock)
 
   -- ---- a timestamp without a commit
-  module _ (held : Option (List ℕ)) where
+  module _ (kind : ℕ → Newest) (held : Option (List ℕ)) where
     abbrev new : History
-    new = stamped L held [] was
+    new = stamped L kind held [] was
 
     commits-new : new .commits ≡ h .commits
     unfolding stamped settled
@@ -116,21 +118,22 @@ module _ (z : Sizes) (base : ℕ) (h : History) (m : Machine) (b : Book z base h
 
     old-now : All (TrueOf z.words new) (t .ts L .gs)
     old-now =
-        all-onward z was new (onward-stamped L held was) given-was
+        all-onward z was new (onward-stamped L kind held was) given-was
         (all-onward z h was (onward-settled L h) (given-now z base h m b t L (k .lane)) (t .now L (k .lane)))
 
   -- what is logged now is what the lane's page has logged
-  pub logged-new : (f : List ℕ) → writesLogged z L (new (some f)) ≡ writesOn z f m
+  pub logged-new : (f : List ℕ) → writesLogged z L (new closing (some f)) ≡ writesOn z f m
   unfolding writesOn
   logged-new f =
-      let p = page-stamped L was (rw (book .pages) (k .lane)) (some f) [] in
-      writes-held z (new (some f)) L f (At stamp) (ap (λ (p : Page). p .held) (p .here))
-      (ap (λ (p : Page). p .newest) (p .here) ∙ ap (λ (c : ℕ). At (c + 2)) clock-was)
-      ∙ ap (run z.words f) (words-new (some f))
+      let p = page-stamped L was (rw (book .pages) (k .lane)) closing (some f) [] in
+      writes-held z (new closing (some f)) L f stamp (ap (λ (p : Page). p .held) (p .here))
+      (ap (λ (p : Page). p .newest) (p .here) ∙ ap (λ (c : ℕ). closing (c + 2)) clock-was)
+      ∙ ap (run z.words f) (words-new closing (some f))
 
   -- ---- one sequence more
   module _ (ws : List Write) (chain : Chain (dataOf z (m .cache)) ws)
-      (room : Room z m L (length ws + 1)) (phase : Phase) (redo : List Pair) (held : Option (List ℕ)) where
+      (room : Room z m L (length ws + 1)) (phase : Phase) (redo : List Pair) (kind : ℕ → Newest) (held : Option (List ℕ))
+      (kinds : (s : ℕ) → kind s ≡ newestBy (length (oldsOf ws)) s) where
     abbrev us : ℕ → Track
     us = updated L (extended z L m ws stamp (t .ts L)) (t .ts)
 
@@ -150,9 +153,9 @@ module _ (z : Sizes) (base : ℕ) (h : History) (m : Machine) (b : Book z base h
     unfolding appended changed
     base-to = stored-base (from .cache) (All-map (λ x i. le-trans (let e : 1 ≤ 1 + z.words = omega arith in e) (inside-late z L (x .at) i)) inside)
 
-    newest-to : At (was .clock + 2) ≡ newestIn (extended z L m ws stamp (t .ts L) .gs)
+    newest-to : kind (was .clock + 2) ≡ newestIn (extended z L m ws stamp (t .ts L) .gs)
     unfolding newestIn
-    newest-to = ap (λ (c : ℕ). At (c + 2)) clock-was
+    newest-to = ap (λ (c : ℕ). kind (c + 2)) clock-was ∙ kinds stamp
 
     phase-to : laneAt (to .state) L .phase ≡ phase
     unfolding appendedLane
@@ -192,45 +195,46 @@ module _ (z : Sizes) (base : ℕ) (h : History) (m : Machine) (b : Book z base h
     kept-new runs g (inr j) =
         inl (rw (level-tracks .here) (j, λ a w. stays-whole (a .stamp) (a .is) g j (a .low) w))
 
-    module _ (runs : Running z to us) (entries : (x : Logged) → phase ≡ Holds x → oldsOf ws ≡ oldsOf (writesLogged z L (new held))) where
-      moving : Moving z L was (new held) from to (drain .ties .ts) us
+    module _ (runs : Running z to us) (entries : (x : Logged) → phase ≡ Holds x → oldsOf ws ≡ oldsOf (writesLogged z L (new kind held))) where
+      moving : Moving z L was (new kind held) from to (drain .ties .ts) us
       moving =
           let a = lane-appended z L from (le-trans (k .lane) (book .lanes)) ws phase redo in
           record {
             track = extended z L m ws stamp (t .ts L);
             tracks = track-on level-tracks (track-to L (extended z L m ws stamp (t .ts L)) (t .ts));
-            page = record { held = held; newest = At (was .clock + 2); floor = floorOr (pageAt was L .floor) (At (was .clock + 2)) };
-            pages = page-stamped L was (rw (book .pages) (k .lane)) held [];
-            onward = onward-stamped L held was;
+            page = record { held = held; newest = kind (was .clock + 2); floor = floorOr (pageAt was L .floor) (At (was .clock + 2)) };
+            pages = page-stamped L was (rw (book .pages) (k .lane)) kind held [];
+            onward = onward-stamped L kind held was;
             running = runs;
             at-base = base-to;
             phases = λ M d. ap (λ (l : Lane). l .phase) (a .others M d);
             newest = newest-to;
             entries = λ x e g gs q. let f : g .entries ≡ oldsOf ws = cc in f ∙ entries x (sym phase-to ∙ e);
-            now = more (true-new held (next (t .ts L .hist) (oldsOf ws) stamp) ws refl refl chain) (old-now held);
-            before = old-now held;
-            open′ = λ g q. apart-new held (g .stamp) (let f : g .stamp ≡ stamp = cc in f);
+            now = more (true-new kind held (next (t .ts L .hist) (oldsOf ws) stamp) ws refl refl chain) (old-now kind held);
+            before = old-now kind held;
+            open′ = λ g q. apart-new kind held (g .stamp) (let f : g .stamp ≡ stamp = cc in f);
             cells = cells-to;
             own = λ w i e. clash _ e (own-to w i);
             others = others-to;
             floor = λ x l f. floor-first (pageAt was L .floor) (was .clock + 2) x (omega arith) f;
             stays = λ c i g j e. there (rw (level-tracks .here) at j);
             kept = λ g j. kept-new runs g (in-cases j);
-            fresh = λ c i. inl (subst (In c) (commits-was held) i);
+            fresh = λ c i. inl (subst (In c) (commits-was kind held) i);
           }
 
-      pub appended-ties : Ties z base to (new held)
-      appended-ties = ties-moved z base L was (new held) from to book (drain .ties) us moving .ties
+      pub appended-ties : Ties z base to (new kind held)
+      appended-ties = ties-moved z base L was (new kind held) from to book (drain .ties) us moving .ties
 
 -- ---- the calls
 pub ties-appends : (z : Sizes) (base : ℕ) (m : Machine) (h : History) (L : ℕ) (f : List ℕ)
     → Book z base h m → Ties z base m h → Known z m L → txnBy former maxWrites z.words f ≡ true
     → isLogged (laneAt (m .state) L .phase) ≡ false → 0 < length (writesOn z f m) → Room z m L (length (writesOn z f m) + 1)
-    → Ties z base (logged z L (writesOn z f m) (drained z L m)) (stamped L (some f) [] (settled L h))
+    → Ties z base (logged z L (writesOn z f m) (drained z L m)) (stamped L closing (some f) [] (settled L h))
 unfolding logged writesOn
 ties-appends z base m h L f b t k ok i p r =
-    appended-ties z base h m b t L k (writesOn z f m) chain r _ _ (some f)
-    (running-logs z m (t .ts) (t .running) L (k .lane) (writesOn z f m)
+    appended-ties z base h m b t L k (writesOn z f m) chain r _ _ closing (some f)
+    (λ s. sym (closing-by (length (oldsOf (writesOn z f m))) s (omega (arith, length-olds (writesOn z f m)))))
+    (running-logs z m (t .ts) (t .running) L (k .lane) (writesOn z f m) p
     (few-writes former maxWrites z.words f (dataOf z (m .cache)) ok) (run-low former maxWrites z.words f (dataOf z (m .cache)) ok))
     (λ x e. ap oldsOf (sym (logged-new z base h m b t L k f)))
   where
@@ -238,8 +242,9 @@ ties-appends z base m h L f b t k ok i p r =
     chain = run-chain z.words f (dataOf z (m .cache))
 
 pub ties-marks : (z : Sizes) (base : ℕ) (m : Machine) (h : History) (L : ℕ) → Book z base h m → Ties z base m h → Known z m L → Room z m L 1
-    → Ties z base (appended z L [] Idle (laneAt (m .state) L .redo) (drained z L m)) (stamped L none [] (settled L h))
+    → Ties z base (appended z L [] Idle (laneAt (m .state) L .redo) (drained z L m)) (stamped L marking none [] (settled L h))
+unfolding newestBy oldsOf
 ties-marks z base m h L b t k r =
-    appended-ties z base h m b t L k [] chain-nil r Idle (laneAt (m .state) L .redo) none
+    appended-ties z base h m b t L k [] chain-nil r Idle (laneAt (m .state) L .redo) marking none (λ s. refl)
     (running-marks z m (t .ts) (t .running) L (k .lane) (laneAt (m .state) L .redo))
     (λ x e. not-held Idle x refl e)

@@ -5,16 +5,17 @@ use mathlib.Core.Bool.{true}
 use mathlib.Core.List.{List, [], _∷_}
 use Prim.Native.Nat.{ℕ, _+_, _%_, _≤_, _<_}
 use native.Mathlib.Omega.{arith}
-use native.Mathlib.Nat.{le-refl}
+use native.Mathlib.Nat.{le-refl, zero-lt-suc}
 use lib.ListN.{length, getD}
 use lib.Seq.{ext-getD}
 use borrow.Author.Tests.{lt-ltb, le-ltb}
+use Rattle.laws.specs.inner.Tests.{clash}
 use Rattle.laws.specs.inner.Lists.{All, All-map}
 use Rattle.txn.specs.Txn.{after}
 use Rattle.image.specs.Image.{formerLength, dataOf}
 use Rattle.image.specs.inner.ImageLaws.{getD-data, length-data}
 use Rattle.image.specs.declared.Sizes.{Sizes}
-use Rattle.log.specs.Log.{Complete}
+use Rattle.log.specs.Log.{Old, Complete}
 use Rattle.log.specs.declared.Timestamp.{Timestamp}
 use Rattle.log.specs.declared.Timestamp.the-variants.{None, At}
 use Rattle.store.specs.Machine.{Machine}
@@ -29,9 +30,8 @@ use Rattle.crash.proofs.history.Lanes.{bound-agrees}
 use Rattle.crash.proofs.history.Agree.{Book}
 use Rattle.crash.proofs.history.Books.{start-long}
 use Rattle.crash.proofs.induction.FromLogs.{AtCut}
-use Rattle.crash.proofs.lane.Seqs.{Seq}
 use Rattle.crash.proofs.lane.Shown.{Listed}
-use Rattle.crash.proofs.lane.RunningCut.{cut-floors, cut-none, cut-known, cut-seen, cut-seen-newest}
+use Rattle.crash.proofs.lane.RunningCut.{cut-floors, cut-some, cut-known, cut-seen, cut-seen-newest}
 use Rattle.crash.proofs.ties.Ties.{TrueOf, Flushes, Ties}
 use Rattle.crash.proofs.ties.Ties as ties
 
@@ -69,10 +69,13 @@ module _ (z : Sizes) (base : ℕ) (m : Machine) (h : History) (k : Book z base h
   floors =
       subst (λ f. NotBelow f (boundary z (m .nvm))) (bound-agrees z (m .state) h (k .lanes) (k .pages) (k .live .floors)) (cut-floors z m (v .ts) (v .running))
 
-  -- ---- no boundary: no lane has drained, so no data word is flushed
-  no-lists : (g : Seq) (gs l p : List Seq) → l ≡ g ∷ gs → p ≡ [] → length p ≡ length l → ⊥
-  no-lists g gs l p e f n = omega (arith, ap length e, ap length f)
+  -- a sequence that names a word has an entry
+  some-named : (es : List Old) (w : ℕ) → writes es w ≡ true → 0 < length es
+  unfolding writes
+  some-named [] w e = clash _ e refl
+  some-named (x ∷ es) w e = zero-lt-suc (length es)
 
+  -- ---- no boundary: no data word is flushed, for its lane would give one
   all-same : boundary z (m .nvm) ≡ None → (w : ℕ) → w < z.words → getD (m .nvm) (1 + w) 0 ≡ getD (m .cache) (1 + w) 0
   all-same e w l = go (v .cells w l)
     where
@@ -80,8 +83,7 @@ module _ (z : Sizes) (base : ℕ) (m : Machine) (h : History) (k : Book z base h
       go (inl p) = p
       go (inr f) =
           let n = v .flags (f .lane) (f .low) w l (f .bit) in
-          let p = cut-none z m (v .ts) (v .running) e (f .lane) (f .low) in
-          absurd (no-lists (n .by) (n .rest) (v .ts (f .lane) .gs) (v .ts (f .lane) .priors) (n .newest) p (n .drained))
+          absurd (cut-some z m (v .ts) (v .running) e (f .lane) (f .low) (n .newest) (n .drained) (some-named (n .by .entries) w (n .named)))
 
   no-boundary : boundary z (m .nvm) ≡ None → Shows z (m .nvm) (h .start) (h .commits)
   unfolding present wordsBelow
@@ -142,7 +144,8 @@ module _ (z : Sizes) (base : ℕ) (m : Machine) (h : History) (k : Book z base h
         go (inl e) = same (cell-word w l e)
         go (inr f) =
             let n = v .flags (f .lane) (f .low) w l (f .bit) in
-            let s = cut-seen-newest z m (v .ts) (v .running) b bound (f .lane) (f .low) (n .newest) (n .drained) in
+            let s = cut-seen-newest z m (v .ts) (v .running) b bound (f .lane) (f .low) (n .newest) (n .drained)
+            (some-named (n .by .entries) w (n .named)) in
             named (s .by) (s .found) (s .from) (ap (λ es. writes es w) (s .entries) ∙ n .named)
 
     a-boundary : Shows z (m .nvm) (h .start) (h .commits)

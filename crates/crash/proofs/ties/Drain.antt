@@ -1,11 +1,11 @@
 -- The ties are kept by a drain and by a Validate that gives up: flushed data words reach non-volatile memory, the lane's floor rises to its newest
--- timestamp, and no sequence changes. Assumes nothing.
+-- timestamp or ends, and no sequence changes. Assumes nothing.
 use mathlib.Core.Path.{_≡_, refl, ap, _∙_, sym, subst}
 use mathlib.Core.Logic.{_⊎_, inl, inr}
 use mathlib.Core.Bool.{true, false}
 use mathlib.Core.List.{List, [], _∷_}
 use mathlib.Core.Option.{none}
-use Prim.Native.Nat.{ℕ, _+_, _<_}
+use Prim.Native.Nat.{ℕ, zero, suc, _+_, _≤_, _<_}
 use native.Mathlib.Omega.{arith}
 use native.Mathlib.Nat.{le-trans}
 use lib.ListN.{length, getD}
@@ -13,13 +13,15 @@ use Rattle.laws.specs.inner.Tests.{clash}
 use Rattle.laws.specs.inner.Lists.{more}
 use Rattle.txn.specs.Txn.{maxWrites, former, txnBy}
 use Rattle.image.specs.declared.Sizes.{Sizes}
+use Rattle.log.specs.declared.Timestamp.{Timestamp}
+use Rattle.log.specs.declared.Timestamp.the-variants.{None, At}
 use Rattle.record.specs.Record.{laneAt, drainedLane, idleLane}
 use Rattle.record.specs.declared.Phase.the-variants.{Idle, Holds}
 use Rattle.record.specs.declared.Lane.{Lane}
 use Rattle.store.specs.Machine.{Machine}
 use Rattle.store.specs.Calls.{drained, matches, writesOn}
 use Rattle.store.specs.Calls as calls
-use Rattle.crash.specs.History.{Page, History, pageAt, floorOr, settled, released}
+use Rattle.crash.specs.History.{unset, Page, History, pageAt, floorOr, floorOnDrain, settled, released}
 use Rattle.crash.proofs.recovery.Data.{oldsOf}
 use Rattle.crash.proofs.induction.Moves.{Known, Ready}
 use Rattle.crash.proofs.history.Lanes.{lane-drained, lane-released, page-settled, page-released}
@@ -29,23 +31,46 @@ use Rattle.crash.proofs.history.Books.{book-drains, not-held}
 use Rattle.crash.proofs.lane.Seqs.{Seq, Since, level, grown, sealed}
 use Rattle.crash.proofs.lane.Ghost.{Past}
 use Rattle.crash.proofs.lane.Written.{Falls, onto, newestIn}
-use Rattle.crash.proofs.lane.Log.{Track, levelled}
+use Rattle.crash.proofs.lane.Newest.{newestBy, giving}
+use Rattle.crash.proofs.lane.Log.{Track, floorSince, floor-drained, levelled}
 use Rattle.crash.proofs.lane.Running.{Running, running-drains, running-releases, updated}
 use Rattle.crash.proofs.ties.Ties.{Flushes, Ties}
 use Rattle.crash.proofs.ties.Logs.{ties-logs}
-use Rattle.crash.proofs.ties.Laws.{AtMost, at-most, track-to, cells-drained, drained-mine, drained-others}
+use Rattle.crash.proofs.ties.Laws.{AtMost, not-none, at-most, track-to, cells-drained, drained-mine, drained-others}
 use Rattle.crash.proofs.ties.Laws.{all-onward, logged-onward, given-now, given-before, Moving, TiesOf, ties-moved}
 
 -- ---- a lane's floor
--- a drain makes it the newest timestamp, which is not below it
-pub floor-rises : {prior hist : List Past} {priors gs : List Seq} → Since prior hist priors gs → Falls gs → (x : ℕ)
-    → AtMost (floorOr (newestIn gs) (floorOr (newestIn priors) (newestIn gs))) x → AtMost (floorOr (newestIn priors) (newestIn gs)) x
-unfolding floorOr newestIn
-floor-rises (level {gs = []}) f x a = a
-floor-rises (level {gs = g ∷ gs}) f x a = a
-floor-rises (grown {gs = []} es s) f x a = a
-floor-rises (grown {gs = g ∷ gs} es s) (onto (more l h) f) x a = record { stamp = g .stamp; is = refl; low = let k = at-most s x a in omega arith }
-floor-rises (sealed g c up) f x a = record { stamp = g .stamp; is = refl; low = let k = at-most c x a in omega arith }
+-- what a timestamp t gives is at most x, so it closes entries, and an earlier timestamp of the same kind is at most x too
+given-earlier : (n t s x : ℕ) → s ≤ t → AtMost (giving (newestBy n t)) x → AtMost (giving (newestBy n s)) x
+unfolding giving newestBy
+given-earlier zero t s x l a = a
+given-earlier (suc n) t s x l a = record { stamp = s; is = refl; low = let k = at-most t x a in omega arith }
+
+-- and so is the floor that it was appended over, or that it set
+given-over : (n t : ℕ) (f : Timestamp) (x : ℕ) → ((s : ℕ) → f ≡ At s → s ≤ t) → AtMost (giving (newestBy n t)) x → AtMost (floorOr f (At t)) x
+unfolding giving newestBy floorOr
+given-over zero t f x l a = not-none a
+given-over (suc n) t None x l a = a
+given-over (suc n) t (At s) x l a = record { stamp = s; is = refl; low = let k = at-most t x a in let e = l s refl in omega arith }
+
+given-at : (n s t : ℕ) → giving (newestBy n s) ≡ At t → t ≡ s
+unfolding giving newestBy
+given-at zero s t e = absurd (let z : _≡_ {A = ℕ} 0 1 = cc in omega arith)
+given-at (suc n) s t e = cc
+
+none-at : {A : Type 0} (t : ℕ) → giving unset ≡ At t → A
+unfolding giving
+none-at t e = absurd (let z : _≡_ {A = ℕ} 0 1 = cc in omega arith)
+
+-- a drain makes it what the newest timestamp gives, which is not below it
+floor-rises : {prior hist : List Past} {priors gs : List Seq} (σ : Since prior hist priors gs) → Falls gs → (x : ℕ)
+    → AtMost (giving (newestIn gs)) x → AtMost (floorSince σ) x
+unfolding floorSince newestIn
+floor-rises level f x a = a
+floor-rises (grown {gs = []} es s) f x a = given-over (length es) s (giving unset) x (λ t e. none-at t e) a
+floor-rises (grown {gs = g ∷ gs} es s) (onto (more l h) f) x a =
+    given-over (length es) s (giving (newestIn (g ∷ gs))) x (λ t e. let k = given-at (length (g .entries)) (g .stamp) t e in omega arith) a
+floor-rises (sealed g c up some) f x a = given-earlier (length (g .entries)) c (g .stamp) x (omega arith) a
 
 -- nothing is appended to a lane that has just drained
 pub not-longer : {A : Type 0} (g : Seq) (gs : List Seq) → gs ≡ g ∷ gs → A
@@ -62,7 +87,7 @@ module _ (z : Sizes) (base : ℕ) (h : History) (m : Machine) (b : Book z base h
   paged : L < length (h .pages)
   paged = rw (b .pages) lane
 
-  page-floor : pageAt h L .floor ≡ floorOr (newestIn (t .ts L .priors)) (newestIn (t .ts L .gs))
+  page-floor : pageAt h L .floor ≡ floorSince (t .running .lanes L lane .since)
   page-floor = sym (b .live .floors L lane) ∙ t .running .lanes L lane .floor
 
   moving : Moving z L h (settled L h) m (drained z L m) (t .ts) after
@@ -73,7 +98,7 @@ module _ (z : Sizes) (base : ℕ) (h : History) (m : Machine) (b : Book z base h
       record {
         track = levelled z L m (t .ts L);
         tracks = track-to L (levelled z L m (t .ts L)) (t .ts);
-        page = record { held = pageAt h L .held; newest = pageAt h L .newest; floor = floorOr (pageAt h L .newest) (pageAt h L .floor) };
+        page = record { held = pageAt h L .held; newest = pageAt h L .newest; floor = floorOnDrain (pageAt h L .newest) (pageAt h L .floor) };
         pages = p;
         onward = onward-settled L h;
         running = running-drains z m (t .ts) (t .running) L lane;
@@ -92,7 +117,9 @@ module _ (z : Sizes) (base : ℕ) (h : History) (m : Machine) (b : Book z base h
         own = λ w i e. clash _ e (drained-mine z m (t .running .shape) L (1 + w));
         others = λ M d w i. drained-others z m (t .running .shape) L M d (1 + w);
         floor = λ x l f.
-            rw page-floor (floor-rises (t .running .lanes L lane .since) (t .running .lanes L lane .now .falls) x (rw (t .newest L lane, page-floor) at f));
+            rw page-floor
+            (floor-rises (t .running .lanes L lane .since) (t .running .lanes L lane .now .falls) x
+            (rw (t .newest L lane, page-floor, floor-drained (t .running .lanes L lane .since)) at f));
         stays = λ c i g j e. j;
         kept = λ g j. inl (j, λ a w. w);
         fresh = λ c i. inl i;

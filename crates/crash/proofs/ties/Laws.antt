@@ -224,9 +224,9 @@ module _ (z : Sizes) (h k : History) (o : Onward h k) where
       → pageAt k M .newest ≡ pageAt h M .newest
       → writesLogged z M k ≡ writesLogged z M h
   logged-onward base m M x v p q =
-      writes-held z k M (v .txn) (At (x .stamp)) (p ∙ v .held) (q ∙ v .newest)
+      writes-held z k M (v .txn) (x .stamp) (p ∙ v .held) (q ∙ v .newest)
       ∙ ap (run z.words (v .txn)) (words-onward z h k o (x .stamp) (v .upto))
-      ∙ sym (writes-held z h M (v .txn) (At (x .stamp)) (v .held) (v .newest))
+      ∙ sym (writes-held z h M (v .txn) (x .stamp) (v .held) (v .newest))
 
   -- no commit comes to a timestamp that was given
   pub apart-onward : (s : ℕ) → s ≤ h .clock → All (λ c. c .stamp ≢ s) (h .commits) → All (λ c. c .stamp ≢ s) (k .commits)
@@ -260,7 +260,7 @@ pub record Moving (z : Sizes) (L : ℕ) (h k : History) (m n : Machine) (ts us :
   -- the data words that it has flushed, and that it flushes for no other
   pub own : (w : ℕ) → w < z.words → flushed L (getD (n .flags) (1 + w) 0) ≡ true → Names track w
   pub others : (M : ℕ) → M ≢ L → (w : ℕ) → w < z.words → flushed M (getD (n .flags) (1 + w) 0) ≡ flushed M (getD (m .flags) (1 + w) 0)
-  -- its floor does not fall, and a first one is above the clock
+  -- its floor does not fall, and one that is set is above the clock
   pub floor : (x : ℕ) → x ≤ h .clock → AtMost (page .floor) x → AtMost (pageAt h L .floor) x
   -- the sequences of its commits stay; each sequence that was there and whole stays whole, and a new one is; its new commits are backed
   pub stays : (c : Commit) → In c (h .commits) → (g : Seq) → In g (ts L .gs) → g .stamp ≡ c .stamp → In g (track .gs)

@@ -17,4 +17,6 @@ bench-sheet =
       empty-0-0 = refl;
       add-wraps = refl;
       newest-6-and-10 = refl;
+      mark-6-and-10 = refl;
+      marks-6-and-10 = refl;
     }

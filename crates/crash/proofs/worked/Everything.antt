@@ -14,6 +14,7 @@ use Rattle.recovery.specs.Recovery as recoveries
 use Rattle.crash.specs.Events as events
 use Rattle.crash.specs.History as histories
 use Rattle.crash.specs.Theorem as theorems
+use Rattle.crash.specs.Corollaries as corollaries
 
 unfoldable pub everything : ℕ
 unfolding slots.entryOf slots.stampOf slots.entryShape slots.stampShape slots.wholeOf slots.readOf
@@ -24,7 +25,7 @@ unfolding slots.entryOf slots.stampOf slots.entryShape slots.stampShape slots.wh
     flushes.flushed flushes.flush flushes.unflush flushes.flushAll flushes.writtenBack flushes.drainedNvm flushes.drainedFlags
     stores.stored stores.places
     logs.slotAt logs.back logs.backWrap logs.entryIn logs.entriesBack logs.closes logs.completeBelow logs.completeIn logs.sequenceOf logs.later
-    logs.latest logs.latestIn logs.contribution logs.ahead logs.overlaps logs.hitsFrom logs.hits
+    logs.latest logs.latestIn logs.given logs.contribution logs.ahead logs.overlaps logs.hitsFrom logs.hits
     appends.onward appends.advance appends.slotStores appends.appendFrom appends.appendStores appends.circular appends.restampStore
     records.startLane records.startRecord records.laneAt records.cursorOf records.isLogged records.loggedIn records.stampOk records.floorOk
     records.pairsOk records.phaseOk records.laneOk records.lanesOk records.recordOk records.spent records.lesser records.leastFloor records.boundOf
@@ -44,10 +45,12 @@ unfolding slots.entryOf slots.stampOf slots.entryShape slots.stampShape slots.wh
     events.nvmOf events.laneOf events.callStep events.vandzulge events.isTaken events.isFormer events.recoveryOf events.cutShortOf events.fitted events.fit
     events.partlyDrained events.bare events.foundOr events.afterStep events.afterFormat events.recoveredSystem events.afterRecovery
     events.afterFailure events.notOffered events.happens
-    histories.pageAt histories.opened histories.isBelow histories.replay histories.wordsBelow histories.floorOr histories.settled histories.stamped
-    histories.released histories.isSome histories.heldBy histories.isCounted histories.taken histories.restarted histories.afterCall
+    histories.pageAt histories.opened histories.isBelow histories.replay histories.wordsBelow histories.floorOr histories.floorOnDrain histories.settled
+    histories.stamped histories.released histories.isSome histories.heldBy histories.isCounted histories.taken histories.restarted histories.afterCall
     histories.afterRecovered histories.fedAnswer histories.fedFailure histories.fed histories.leastFloorOf histories.present histories.writesNow
-    histories.writesLogged histories.sameOlds histories.isAbove histories.commitAbove histories.holdsOne histories.notHeld histories.clockSpent
-    histories.causesBy histories.slotsBy histories.takenAnswer
+    histories.stampOf histories.writesLogged histories.sameOlds histories.isAbove histories.commitAbove histories.holdsOne histories.notHeld
+    histories.clockSpent histories.causesBy histories.slotsBy histories.takenAnswer
     theorems.endOf theorems.isFull theorems.refusalBy theorems.answerBy theorems.recoveryAnswer theorems.mayStore
+    corollaries.nextWorld corollaries.worldAfter corollaries.mayStart corollaries.goesOn corollaries.isDone
+    corollaries.isDrain corollaries.isIdle corollaries.staysIdle corollaries.othersFloor
 everything = 0

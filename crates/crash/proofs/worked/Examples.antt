@@ -22,7 +22,7 @@ use Rattle.crash.specs.Events.{Event, format, call, writeBack, recover, 
 use Rattle.crash.specs.Events.{failsInRecovery, System, live, down, Reply, answered, recovered, failed, vandzulge, happens}
 use Rattle.crash.specs.Theorem.{endOf}
 use Rattle.crash.proofs.worked.Everything.{everything}
-use Rattle.crash.proofs.worked.Worked.{small, junk, set0, copy, poke, pokePassed, writeBacks, twoLanes}
+use Rattle.crash.proofs.worked.Worked.{small, junk, set0, set1, copy, poke, pokePassed, writeBacks, twoLanes}
 
 -- ---- running a list of events
 unfoldable replies : Sizes → System → List Event → List Reply
@@ -110,7 +110,7 @@ cut-twice-words : wordsIn small (afterAll small begun (inDrain ++ (recover 1 jun
 unfolding everything afterAll wordsIn
 cut-twice-words = refl
 
--- ---- a cut inside a call, after its whole drain: the mark at 6 has reached the log, so the commit at 4 is below the boundary and stays;
+-- ---- a cut inside a call, after its whole drain: the mark at 6 has reached the log, so the lane gives no boundary and the commit at 4 stays;
 -- what the second Log would have done is lost
 abbrev afterDrain : List Event
 afterDrain = call (log 0 (set0 2)) ∷ call (redo 0) ∷ call (mark 0) ∷ failsAfterDrain (log 0 (set0 3)) junk ∷ []
@@ -120,7 +120,7 @@ after-drain : replies small begun (afterDrain ++ (recover 1000 junk ∷ []))
     ∷ answered (Committed 4)
     ∷ answered (Marked (record { stamp = 6; dropped = false }))
     ∷ failed true
-    ∷ recovered (Finished (record { boundary = At 6; undone = 0; torn = 0 }))
+    ∷ recovered (Finished (record { boundary = None; undone = 0; torn = 0 }))
     ∷ []
 unfolding everything replies
 after-drain = refl
@@ -212,7 +212,7 @@ commits = refl
 abbrev secondAttempt : List Event
 secondAttempt =
     call (log 0 copy)
-    ∷ call (log 1 (1 ∷ 1 ∷ 0 ∷ 9 ∷ []))
+    ∷ call (log 1 (set1 9))
     ∷ call (redo 1)
     ∷ call (redo 0)
     ∷ call (validate 0 copy)
@@ -242,6 +242,73 @@ marks (suc n) = call (mark 0) ∷ marks n
 full-log : replies small (afterAll small begun (call (mark 1) ∷ marks 34)) (call (mark 0) ∷ []) ≡ answered (Refused 9) ∷ []
 unfolding everything replies afterAll marks
 full-log = refl
+
+-- ---- a marked lane holds nothing back
+-- lane 1 commits 9 at 4, is marked at 6 and drained, and stays idle
+abbrev idleLane1 : List Event
+idleLane1 = call (log 1 (set1 9)) ∷ call (redo 1) ∷ call (mark 1) ∷ call (drain 1) ∷ []
+
+-- the mark leaves its floor, and the drain ends it; the next sequence sets one again, a mark's too
+floor-at-mark : laneIn 1 (afterAll small begun (call (log 1 (set1 9)) ∷ call (redo 1) ∷ call (mark 1) ∷ [])) .floor ≡ At 4
+unfolding everything afterAll laneIn
+floor-at-mark = refl
+
+floor-ended : laneIn 1 (afterAll small begun idleLane1) .floor ≡ None
+unfolding everything afterAll laneIn
+floor-ended = refl
+
+floor-by-log : laneIn 1 (afterAll small begun (idleLane1 ++ (call (log 1 (set1 7)) ∷ []))) .floor ≡ At 8
+unfolding everything afterAll laneIn
+floor-by-log = refl
+
+floor-by-mark : laneIn 1 (afterAll small begun (idleLane1 ++ (call (mark 1) ∷ []))) .floor ≡ At 8
+unfolding everything afterAll laneIn
+floor-by-mark = refl
+
+-- lane 0 commits 2 at 10 and drains, commits 3 at 14 and drains. It alone gives a boundary: the commits at 4 and 10 stay, that at 14 is undone
+abbrev twoOnLane0 : List Event
+twoOnLane0 = call (log 0 (set0 2)) ∷ call (redo 0) ∷ call (drain 0) ∷ call (log 0 (set0 3)) ∷ call (redo 0) ∷ call (drain 0) ∷ fails junk ∷ []
+
+idle-boundary : replies small (afterAll small begun (idleLane1 ++ twoOnLane0)) (recover 1000 junk ∷ [])
+    ≡ recovered (Finished (record { boundary = At 14; undone = 1; torn = 0 })) ∷ []
+unfolding everything replies afterAll
+idle-boundary = refl
+
+idle-words : wordsIn small (afterAll small begun (idleLane1 ++ (twoOnLane0 ++ (recover 1000 junk ∷ [])))) ≡ 2 ∷ 9 ∷ []
+unfolding everything afterAll wordsIn
+idle-words = refl
+
+-- it commits at 10, is marked and drained too: no lane gives a boundary, and every commit stays
+abbrev markedToo : List Event
+markedToo = call (log 0 (set0 2)) ∷ call (redo 0) ∷ call (mark 0) ∷ call (drain 0) ∷ fails junk ∷ []
+
+no-boundary : replies small (afterAll small begun (idleLane1 ++ markedToo)) (recover 1000 junk ∷ [])
+    ≡ recovered (Finished (record { boundary = None; undone = 0; torn = 0 })) ∷ []
+unfolding everything replies afterAll
+no-boundary = refl
+
+no-boundary-words : wordsIn small (afterAll small begun (idleLane1 ++ (markedToo ++ (recover 1000 junk ∷ [])))) ≡ 2 ∷ 9 ∷ []
+unfolding everything afterAll wordsIn
+no-boundary-words = refl
+
+-- a marked lane's sequences are undone as any: lane 0 has logged at 2 and drained, so the boundary is 2, and lane 1's commit at 6 is above it
+abbrev markedAbove : List Event
+markedAbove = call (log 0 (set0 2)) ∷ call (drain 0) ∷ idleLane1 ++ (fails junk ∷ [])
+
+marked-above : replies small (afterAll small begun markedAbove) (recover 1000 junk ∷ [])
+    ≡ recovered (Finished (record { boundary = At 2; undone = 2; torn = 0 })) ∷ []
+unfolding everything replies afterAll
+marked-above = refl
+
+marked-above-words : wordsIn small (afterAll small begun (markedAbove ++ (recover 1000 junk ∷ []))) ≡ 0 ∷ 0 ∷ []
+unfolding everything afterAll wordsIn
+marked-above-words = refl
+
+-- lane 0's full log again: once lane 1's mark is drained, nothing keeps the first mark from being overwritten
+freed-log : replies small (afterAll small begun (call (mark 1) ∷ call (drain 1) ∷ marks 34)) (call (mark 0) ∷ [])
+    ≡ answered (Marked (record { stamp = 72; dropped = false })) ∷ []
+unfolding everything replies afterAll marks
+freed-log = refl
 
 -- ---- POKE is withdrawn. Word 0 is 3, so a POKE by it writes word 3 mod 2, which is 1.
 -- A new transaction with one is refused with 5, by Log also where it is passed over; one that was logged under the former rule is redone
@@ -287,7 +354,7 @@ poke-stale : replies small (begunWith (3 ∷ 0 ∷ []))
 unfolding everything replies
 poke-stale = refl
 
--- a cut with one committed at 4: all is written back, the boundary is 4, and it is undone; or it is marked at 6 and drained, the boundary is 6, and it stays
+-- a cut with one committed at 4: all is written back, the boundary is 4, and it is undone; or it is marked at 6 and drained, there is no boundary, and it stays
 abbrev redoneCut : System
 redoneCut = afterAll small (begunWith (3 ∷ 0 ∷ [])) (redone ++ (writeBacks 0 139 ++ (fails junk ∷ [])))
 

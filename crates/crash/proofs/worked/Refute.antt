@@ -1,15 +1,18 @@
 -- How a theorem is shown to be false of a wrong store: a list of events, or one event, computed, at whose end the store has other numbers than the
 -- theorem gives. Assumes nothing.
-use Prim.Native.Nat.{ℕ}
+use Prim.Native.Nat.{ℕ, _+_}
 use mathlib.Core.Path.{_≡_, refl, ap, sym, _∙_}
 use mathlib.Core.Bool.{Bool, true, false, not, _&&_}
 use mathlib.Core.List.{List, [], _∷_, _++_}
-use lib.Dec.{eqb}
+use lib.Dec.{leb, eqb}
 use lib.ListN.{length, replicate}
-use borrow.Author.Tests.{eq-eqb, eqb-true, not-true}
+use borrow.Author.Tests.{leb-true, eq-eqb, eqb-true, not-true}
 use Rattle.laws.specs.inner.Tests.{clash, and-left, and-right}
+use Rattle.txn.specs.Txn.{after}
 use Rattle.image.specs.Image.{trailer, imageLength, dataOf}
 use Rattle.image.specs.declared.Sizes.{Sizes}
+use Rattle.log.specs.declared.Timestamp.{Timestamp}
+use Rattle.log.specs.declared.Timestamp.the-variants.{None, At}
 use Rattle.record.specs.Record.{startRecord}
 use Rattle.store.specs.Machine.{Machine, said}
 use Rattle.store.specs.Calls.{formatRefusal}
@@ -17,11 +20,14 @@ use Rattle.store.specs.declared.Answer.{Answer}
 use Rattle.recovery.specs.Recovery.{boundary, allMade, recoverRefusal, told}
 use Rattle.recovery.specs.declared.Recovered.{Recovered}
 use Rattle.recovery.specs.declared.Recovered.the-variants.{Refused, Cut, Finished}
-use Rattle.crash.specs.Events.{Call, Junk, Event, format, call, recover, System, live, down, nvmOf}
+use Rattle.crash.specs.Events.{Call, mark, drain, Junk, Event, format, call, recover, System, live, down, nvmOf}
 use Rattle.crash.specs.Events.{Reply, answered, recovered, failed, ignored, Design, happens}
-use Rattle.crash.specs.History.{History, opened, fed, present, wordsBelow}
-use Rattle.crash.specs.Theorem.{endOf, InStep, answerBy, recoveryAnswer, Finishes, Replied, Agrees, Holds, CrashTheorem, FormerTheorem}
+use Rattle.crash.specs.History.{Commit, History, opened, isBelow, replay, present, wordsBelow, leastFloorOf}
+use Rattle.crash.specs.Theorem.{endOf, InStep, answerBy, recoveryAnswer, Finishes, Replied, Agrees, CrashTheorem, FormerTheorem}
 use Rattle.crash.specs.Theorem.{mayStore, TrailerTheorem}
+use Rattle.crash.specs.Corollaries.{World, nextWorld, worldAfter, KeptBy, Kept, goesOn, SafeTheorem}
+use Rattle.crash.specs.Corollaries.{isDone, staysIdle, othersFloor, IdleTheorem}
+use Rattle.crash.proofs.induction.Lists.{holds-after}
 use Rattle.crash.proofs.worked.Everything.{everything}
 
 -- ---- numbers that a store has, and that the theorem gives: the same in a store of which it holds
@@ -168,30 +174,20 @@ end-due z h (live m) v = rw (v .1 .nvm .ends, v .1 .cache .ends, v .1 .unflushed
 end-due z h (down nvm j found) v = v .ends
 
 -- ---- a list of events
-pub record World : Type 0 where
-  pub system : System
-  pub history : History
-
-unfoldable pub worldAfter : Design → Sizes → System → History → List Event → World
-worldAfter d z y h [] = record { system = y; history = h }
-worldAfter d z y h (e ∷ es) = worldAfter d z (happens d z y e .system) (fed z e (happens d z y e .reply) (happens d z y e .found) h) es
-
-at-last : (d : Design) (z : Sizes) (y : System) (h : History) (es : List Event) (e : Event) → Holds d z (trailer z) y h (es ++ (e ∷ []))
-    → Agrees d z (trailer z) (worldAfter d z y h es .history) e (worldAfter d z y h es .system)
-unfolding worldAfter
-at-last d z y h [] e a = a .0
-at-last d z y h (x ∷ es) e a = at-last d z (happens d z y x .system) (fed z x (happens d z y x .reply) (happens d z y x .found) h) es e (a .1)
-
 -- the buffers that Format is handed
 unfoldable pub blank : Sizes → Machine
 blank z =
     let n = imageLength z in
     record { state = startRecord 0; cache = replicate n 0; nvm = replicate n 0; flags = replicate n 0 }
 
+-- the store before Format; the history before it does not matter
+abbrev unformatted : Sizes → World
+unformatted z = record { system = live (blank z); history = opened z [] 0 }
+
 -- ---- refutations: store d, formatted with these start words, after the events es and one more
 module _ (d : Design) (z : Sizes) (start : List ℕ) (es : List Event) where
   unfoldable pub was : World
-  was = worldAfter d z (live (blank z)) (opened z start 0) (format start ∷ es)
+  was = worldAfter d z (unformatted z) (format start ∷ es)
 
   -- Format takes the start words, and the two sides differ
   unfoldable pub differs : Sides → (has due : List ℕ) → Bool
@@ -200,8 +196,8 @@ module _ (d : Design) (z : Sizes) (start : List ℕ) (es : List Event) where
   agrees : (e : Event) (s : Sides) (has due : List ℕ) → differs s has due ≡ true → CrashTheorem d → Agrees d z (trailer z) (was .history) e (was .system)
   unfolding differs CrashTheorem was
   agrees e s has due t c =
-      at-last d z (live (blank z)) (opened z start 0) (format start ∷ es) e
-      (c z start (blank z) (opened z start 0) (eqb-true (formatRefusal z start (blank z)) 0 (and-left _ _ t)) (es ++ (e ∷ [])))
+      holds-after d z (trailer z) (unformatted z) (format start ∷ es) (e ∷ [])
+      (c z start (blank z) (opened z [] 0) (eqb-true (formatRefusal z start (blank z)) 0 (and-left _ _ t)) (es ++ (e ∷ []))) .0
 
   apart : (s : Sides) (has due : List ℕ) → differs s has due ≡ true → s .has ≡ s .due → ⊥
   unfolding differs
@@ -210,20 +206,18 @@ module _ (d : Design) (z : Sizes) (start : List ℕ) (es : List Event) where
   -- after event e
   module _ (e : Event) where
     unfoldable pub is : World
-    is =
-        let x = happens d z (was .system) e in
-        record { system = x .system; history = fed z e (x .reply) (x .found) (was .history) }
+    is = nextWorld d z was e
 
     pub wrong-words : (has due : List ℕ) → differs (wordsSides z (is .history) (is .system)) has due ≡ true → CrashTheorem d → ⊥
-    unfolding is
+    unfolding is nextWorld
     wrong-words has due t c = apart _ has due t (words-due z _ _ (agrees e _ has due t c .store))
 
     pub wrong-end : (has due : List ℕ) → differs (endSides z (is .system)) has due ≡ true → CrashTheorem d → ⊥
-    unfolding is
+    unfolding is nextWorld
     wrong-end has due t c = apart _ has due t (end-due z _ _ (agrees e _ has due t c .store))
 
     pub wrong-clock : (has due : List ℕ) → differs (clockSides (is .history) (is .system)) has due ≡ true → CrashTheorem d → ⊥
-    unfolding is
+    unfolding is nextWorld
     wrong-clock has due t c = apart _ has due t (clock-due z _ _ (agrees e _ has due t c .store))
 
   -- by the answer to call c
@@ -280,8 +274,117 @@ wrong-trailer d z m e has due t c =
     differ-not (trailerSides d z m e) has due (and-right (same (endOf z (m .flags)) (replicate 4 0)) _ b)
     (c z (live m) e (not-true _ (and-left _ _ t)) (same-true _ _ (and-left _ _ a)) (same-true _ _ (and-left _ _ b)))
 
+-- ---- the corollaries, where every commit is below the timestamp up to which all are kept: then all are due after a recovery
+unfoldable pub keptBySides : Sizes → History → System → Recovered → Sides
+keptBySides z h y (Refused n) = noSides
+keptBySides z h y Cut = noSides
+keptBySides z h (live m) (Finished a) = record { has = dataOf z (m .nvm); due = present z h }
+keptBySides z h (down nvm j found) (Finished a) = noSides
+
+unfoldable pub keptSides : Sizes → History → System → Reply → Sides
+keptSides z h y (answered a) = noSides
+keptSides z h y (recovered r) = keptBySides z h y r
+keptSides z h y (failed b) = noSides
+keptSides z h y ignored = noSides
+
+unfoldable pub areBelow : Timestamp → List Commit → Bool
+areBelow f [] = true
+areBelow f (c ∷ cs) = isBelow f (c .stamp) && areBelow f cs
+
+all-run : (W : ℕ) (f b : Timestamp) → ((s : ℕ) → isBelow f s ≡ true → isBelow b s ≡ true) → (cs : List Commit) (ws : List ℕ) → areBelow f cs ≡ true
+    → replay W b cs ws ≡ replay W None cs ws
+unfolding replay areBelow isBelow
+all-run W f b k [] ws t = refl
+all-run W f b k (c ∷ cs) ws t =
+    rw (k (c .stamp) (and-left _ _ t)) (all-run W f b k cs (after W (c .txn) ws) (and-right (isBelow f (c .stamp)) _ t))
+
+module _ (z : Sizes) (h : History) (f : Timestamp) (all : areBelow f (h .commits) ≡ true) where
+  kept-by-due : (y : System) (r : Recovered) → KeptBy z h f y r → keptBySides z h y r .has ≡ keptBySides z h y r .due
+  unfolding keptBySides present wordsBelow
+  kept-by-due y (Refused n) v = refl
+  kept-by-due y Cut v = refl
+  kept-by-due (live m) (Finished a) v = v .nvm ∙ all-run z.words f (v .boundary) (v .keeps) (h .commits) (h .start) all
+  kept-by-due (down nvm j found) (Finished a) v = refl
+
+  kept-due : (y : System) (r : Reply) → Kept z h f y r → keptSides z h y r .has ≡ keptSides z h y r .due
+  unfolding keptSides
+  kept-due y (answered a) v = refl
+  kept-due y (recovered r) v = kept-by-due y r v
+  kept-due y (failed b) v = refl
+  kept-due y ignored v = refl
+
+-- the words that a recovery leaves, and those that are due
+unfoldable pub lastSides : Design → Sizes → World → (limit : ℕ) → Junk → Sides
+lastSides d z w limit j =
+    let x = happens d z (w .system) (recover limit j) in
+    keptSides z (w .history) (x .system) (x .reply)
+
+-- a commit that can no longer be lost: after the events es the floors are above s, and recovery comes after fs
+module _ (d : Design) (z : Sizes) (start : List ℕ) (es fs : List Event) (s limit : ℕ) (j : Junk) where
+  unfoldable pub atSafe : World
+  atSafe = worldAfter d z (unformatted z) (format start ∷ es)
+
+  unfoldable pub atLast : World
+  atLast = worldAfter d z atSafe fs
+
+  -- Format is taken, s was given, the floors are above it, nothing starts anew, every commit is one of those up to s, and the two sides differ
+  unfoldable pub safeDiffers : (has due : List ℕ) → Bool
+  safeDiffers has due =
+      eqb (formatRefusal z start (blank z)) 0
+      && (leb s (atSafe .history .clock)
+      && (isBelow (leastFloorOf (atSafe .history .pages)) s
+      && (goesOn fs && (areBelow (At (s + 1)) (atLast .history .commits) && differ (lastSides d z atLast limit j) has due))))
+
+  pub wrong-safe : (has due : List ℕ) → safeDiffers has due ≡ true → SafeTheorem d → ⊥
+  unfolding safeDiffers lastSides SafeTheorem atSafe atLast
+  wrong-safe has due t c =
+      let t₁ = and-right (eqb (formatRefusal z start (blank z)) 0) _ t in
+      let t₂ = and-right (leb s (atSafe .history .clock)) _ t₁ in
+      let t₃ = and-right (isBelow (leastFloorOf (atSafe .history .pages)) s) _ t₂ in
+      let t₄ = and-right (goesOn fs) _ t₃ in
+      let x = happens d z (atLast .system) (recover limit j) in
+      differ-not (lastSides d z atLast limit j) has due (and-right (areBelow (At (s + 1)) (atLast .history .commits)) _ t₄)
+      (kept-due z (atLast .history) (At (s + 1)) (and-left _ _ t₄) (x .system) (x .reply)
+      (c z start (blank z) (opened z [] 0) (eqb-true (formatRefusal z start (blank z)) 0 (and-left _ _ t)) es fs s
+      (leb-true s (atSafe .history .clock) (and-left _ _ t₁)) (and-left _ _ t₂) (and-left _ _ t₃) limit j))
+
+-- an idle lane: L is marked after the events es, drained after fs, and recovery comes after gs
+module _ (d : Design) (z : Sizes) (start : List ℕ) (L : ℕ) (es fs gs : List Event) (limit : ℕ) (j : Junk) where
+  unfoldable pub atMark : World
+  atMark = worldAfter d z (unformatted z) (format start ∷ es)
+
+  unfoldable pub atDrain : World
+  atDrain = worldAfter d z (nextWorld d z atMark (call (mark L))) fs
+
+  unfoldable pub atCut : World
+  atCut = worldAfter d z (nextWorld d z atDrain (call (drain L))) gs
+
+  -- Format, Mark and Drain are taken, the lane stays idle, every commit is below the others' floors, and the two sides differ
+  unfoldable pub idleDiffers : (has due : List ℕ) → Bool
+  idleDiffers has due =
+      eqb (formatRefusal z start (blank z)) 0
+      && (isDone (happens d z (atMark .system) (call (mark L)) .reply)
+      && (staysIdle L fs
+      && (isDone (happens d z (atDrain .system) (call (drain L)) .reply)
+      && (staysIdle L gs && (areBelow (othersFloor L (atCut .history)) (atCut .history .commits) && differ (lastSides d z atCut limit j) has due)))))
+
+  pub wrong-idle : (has due : List ℕ) → idleDiffers has due ≡ true → IdleTheorem d → ⊥
+  unfolding idleDiffers lastSides IdleTheorem atMark atDrain atCut
+  wrong-idle has due t c =
+      let t₁ = and-right (eqb (formatRefusal z start (blank z)) 0) _ t in
+      let t₂ = and-right (isDone (happens d z (atMark .system) (call (mark L)) .reply)) _ t₁ in
+      let t₃ = and-right (staysIdle L fs) _ t₂ in
+      let t₄ = and-right (isDone (happens d z (atDrain .system) (call (drain L)) .reply)) _ t₃ in
+      let t₅ = and-right (staysIdle L gs) _ t₄ in
+      let x = happens d z (atCut .system) (recover limit j) in
+      differ-not (lastSides d z atCut limit j) has due (and-right (areBelow (othersFloor L (atCut .history)) (atCut .history .commits)) _ t₅)
+      (kept-due z (atCut .history) (othersFloor L (atCut .history)) (and-left _ _ t₅) (x .system) (x .reply)
+      (c z start (blank z) (opened z [] 0) (eqb-true (formatRefusal z start (blank z)) 0 (and-left _ _ t)) L es fs gs
+      (and-left _ _ t₁) (and-left _ _ t₂) (and-left _ _ t₃) (and-left _ _ t₄) limit j))
+
 -- one name that opens all of this, for the lists that the checker computes
 unfoldable pub refuting : ℕ
-unfolding everything same differ wordsSides clockSides endSides numbersIn answerSides countsIn countSides finishedSides recoveredSides worldAfter blank
-    was differs is leftSides formerSides formerDiffers trailerSides trailerDiffers
+unfolding everything same differ wordsSides clockSides endSides numbersIn answerSides countsIn countSides finishedSides recoveredSides blank
+    was differs is leftSides formerSides formerDiffers trailerSides trailerDiffers keptBySides keptSides areBelow
+    lastSides atSafe atLast safeDiffers atMark atDrain atCut idleDiffers
 refuting = 0

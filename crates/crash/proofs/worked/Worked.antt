@@ -12,9 +12,12 @@ small = record { words = 2; lanes = 2; slots = 34 }
 abbrev pub junk : Junk
 junk = record { cache = 7 ∷ 7 ∷ []; flags = 255 ∷ [] }
 
--- SET word 0 to k; COPY word 0 into word 1
+-- SET word 0, or word 1, to k; COPY word 0 into word 1
 abbrev pub set0 : ℕ → List ℕ
 set0 k = 1 ∷ 0 ∷ 0 ∷ k ∷ []
+
+abbrev pub set1 : ℕ → List ℕ
+set1 k = 1 ∷ 1 ∷ 0 ∷ k ∷ []
 
 abbrev pub copy : List ℕ
 copy = 2 ∷ 1 ∷ 0 ∷ 0 ∷ []

@@ -1,4 +1,4 @@
--- Wrong stores, and for each events after which the crash theorem, or one of the two theorems beside it, is false of it: the traps of this design, and
+-- Wrong stores, and for each events after which the crash theorem, or one of the theorems beside it, is false of it: the traps of this design, and
 -- stores that do too little or too much. Assumes nothing.
 use Prim.Native.Nat.{ℕ, zero, suc, _+_, _-_, _*_}
 use mathlib.Core.Path.{refl}
@@ -11,33 +11,37 @@ use Rattle.image.specs.Image.{formerLength, allAre, formatOk, sizesAtEnd, trail
 use Rattle.image.specs.Flush.{flushAll}
 use Rattle.image.specs.Stores.{Store, stored}
 use Rattle.image.specs.declared.Sizes.{Sizes}
-use Rattle.log.specs.Log.{Old, Complete}
+use Rattle.log.specs.Log.{Old, Complete, completeIn, latestIn, given, contribution}
 use Rattle.log.specs.Append.{circular}
+use Rattle.log.specs.declared.Latest.{Latest}
+use Rattle.log.specs.declared.Latest.the-variants.{Nothing, Is}
 use Rattle.log.specs.declared.Timestamp.{Timestamp}
 use Rattle.log.specs.declared.Timestamp.the-variants.{None, At}
-use Rattle.record.specs.Record.{startRecord, noPair, laneAt, isLogged, loggedIn, withLane}
+use Rattle.record.specs.Record.{startRecord, noPair, laneAt, isLogged, loggedIn, lesser, withLane}
 use Rattle.record.specs.declared.Lane.{Lane}
 use Rattle.store.specs.Machine.{Machine, Step, firstCause, said}
 use Rattle.store.specs.Calls.{startImage, started, drained, writesOn, logged}
-use Rattle.store.specs.Calls.{formatStep, writeBackStep, logRefusalBy, logStepBy, redoStep, validateStepBy, markStep}
+use Rattle.store.specs.Calls.{formatStep, writeBackStep, drainStep, logRefusalBy, logStepBy, redoStep, validateStepBy, markStep}
 use Rattle.store.specs.declared.Answer.the-variants.{Refused, Logged, Stale}
-use Rattle.recovery.specs.Recovery.{completeOf, ordered, undone, undoSequences, undoStores, newBase, tornIn, zeros, recoveredNvm, Restarted}
-use Rattle.recovery.specs.Recovery.{recoveredBy, oddBase, recoverRefusal, recoverStep, recoverReadRefusal, recoverReadStep}
+use Rattle.recovery.specs.Recovery.{boundary, completeOf, ordered, undoneFrom, undone, undoSequences, undoStores, newBase, tornIn, zeros, recoveredNvm}
+use Rattle.recovery.specs.Recovery.{Restarted, recoveredBy, oddBase, recoverRefusal, recoverStep, recoverReadRefusal, recoverReadStep}
 use Rattle.recovery.specs.declared.Finished.{Finished}
 use Rattle.recovery.specs.declared.Recovered.{Recovered}
 use Rattle.recovery.specs.declared.Recovered.the-variants as recovereds
 use Rattle.crash.specs.Events.{Call, logBy, log, redo, validateBy, validate, mark, drain, Event, format, writeBack, call, recover, fails, failsInDrain}
 use Rattle.crash.specs.Events.{Design, callStep}
 use Rattle.crash.specs.Theorem.{CrashTheorem, FormerTheorem, TrailerTheorem}
-use Rattle.crash.proofs.worked.Worked.{small, junk, set0, copy, poke, pokePassed, writeBacks, twoLanes}
+use Rattle.crash.specs.Corollaries.{SafeTheorem, IdleTheorem}
+use Rattle.crash.proofs.worked.Worked.{small, junk, set0, set1, copy, poke, pokePassed, writeBacks, twoLanes}
 use Rattle.crash.proofs.worked.Refute.{wrong-words, wrong-end, wrong-clock, wrong-answer, wrong-count, wrong-recovery}
-use Rattle.crash.proofs.worked.Refute.{wrong-former, wrong-trailer, refuting}
+use Rattle.crash.proofs.worked.Refute.{wrong-former, wrong-trailer, wrong-safe, wrong-idle, refuting}
 
 -- A refutation names the store, the sizes, the start words, the events, then the last event, and two lists: the numbers that the store has at its end,
 -- and those that the theorem gives. `wrong-recovery` looks at the data words after a recovery, `wrong-count` at how many entries it says to have undone and
 -- how many torn slots to have found, `wrong-words` at the cached data words, `wrong-end` at the trailer in cells and cache and at its flags, `wrong-clock` at
--- the clock, `wrong-answer` at the number and the timestamp of an answer. `wrong-former` and `wrong-trailer` are of the theorems about images of the former
--- length and about who stores to the trailer. `refl` computes the list and sees that they differ.
+-- the clock, `wrong-answer` at the number and the timestamp of an answer. `wrong-former`, `wrong-trailer`, `wrong-safe` and `wrong-idle` are of the theorems
+-- about images of the former length, who stores to the trailer, commits that can no longer be lost, and an idle lane. `refl` computes the
+-- list and sees that they differ.
 
 -- ---- how a store differs from ours
 -- in its calls
@@ -76,6 +80,13 @@ marking f rest z (redo L) m = rest z (redo L) m
 marking f rest z (validateBy r L g) m = rest z (validateBy r L g) m
 marking f rest z (mark L) m = f z L m
 marking f rest z (drain L) m = rest z (drain L) m
+
+unfoldable draining : (Sizes → ℕ → Machine → Step) → Calls → Calls
+draining f rest z (logBy r L g) m = rest z (logBy r L g) m
+draining f rest z (redo L) m = rest z (redo L) m
+draining f rest z (validateBy r L g) m = rest z (validateBy r L g) m
+draining f rest z (mark L) m = rest z (mark L) m
+draining f rest z (drain L) m = f z L m
 
 -- in what its Format leaves, by the machine that it was handed and the one that ours leaves
 unfoldable formatting : (Sizes → (found left : Machine) → Machine) → Design
@@ -155,15 +166,25 @@ withLaneOf L l s =
 unfoldable laneIn : ℕ → Step → Lane
 laneIn L s = laneAt (s .machine .state) L
 
+-- a step that, where it is taken, leaves lane L without floor
+unfoldable unfloored : ℕ → Step → Step
+unfloored L s =
+    let l = laneIn L s in
+    cond (said (s .answer) .refused) s (withLaneOf L (record { phase = l .phase; next = l .next; wrap = l .wrap; floor = None; redo = l .redo }) s)
+
 -- one image with the logs of another
 unfoldable joined : Sizes → (image logs : List ℕ) → List ℕ
 joined z image logs =
     take (1 + z.words) image ++ (take (2 * z.lanes * z.slots) (drop (1 + z.words) logs) ++ drop (formerLength z) image)
 
+-- all words but the trailer's are written back, and power fails
+abbrev allBackAndCut : List Event
+allBackAndCut = writeBacks 0 139 ++ (fails junk ∷ [])
+
 -- one name that opens all of this
 unfoldable made : ℕ
-unfolding refuting writeBacks calling logging redoing validating marking formatting recoverBy storing finishedAs told-as telling withTorn base clearing
-    withCache withLaneOf laneIn joined
+unfolding refuting writeBacks calling logging redoing validating marking draining formatting recoverBy storing finishedAs told-as telling withTorn base clearing
+    withCache withLaneOf laneIn unfloored joined
 made = 0
 
 -- ---- the traps
@@ -177,9 +198,9 @@ byFirstStamp = calling (redoing (λ z L m. logsKept m z (redoStep z L m)) (valid
 
 by-first-stamp : CrashTheorem byFirstStamp → ⊥
 unfolding made byFirstStamp logsKept
-by-first-stamp = wrong-recovery byFirstStamp small (0 ∷ 0 ∷ []) (twoLanes ++ (writeBacks 0 139 ++ (fails junk ∷ []))) 1000 junk (0 ∷ 2 ∷ []) (0 ∷ 0 ∷ []) refl
+by-first-stamp = wrong-recovery byFirstStamp small (0 ∷ 0 ∷ []) (twoLanes ++ allBackAndCut) 1000 junk (0 ∷ 2 ∷ []) (0 ∷ 0 ∷ []) refl
 
--- 2. Appends are never refused with 9. Lane 1's mark at 2 is the boundary; lane 0's third transaction of 16 additions is logged over its first one,
+-- 2. Appends are never refused with 9. What lane 1 logged at 2 is the boundary; lane 0's third transaction of 16 additions is logged over its first one,
 -- which recovery then cannot undo: word 0 is left at 16
 unfoldable neverFull : Calls
 neverFull =
@@ -200,11 +221,11 @@ abbrev threeOnLane0 : List Event
 threeOnLane0 =
     call (log 0 (additions 16)) ∷ call (redo 0)
     ∷ call (log 0 (additions 16)) ∷ call (redo 0)
-    ∷ call (log 0 (additions 16)) ∷ writeBacks 0 139 ++ (fails junk ∷ [])
+    ∷ call (log 0 (additions 16)) ∷ []
 
 never-full : CrashTheorem (calling neverFull) → ⊥
 unfolding made neverFull additions
-never-full = wrong-recovery (calling neverFull) small (0 ∷ 0 ∷ []) (call (mark 1) ∷ threeOnLane0) 1000 junk (16 ∷ 0 ∷ []) (0 ∷ 0 ∷ []) refl
+never-full = wrong-recovery (calling neverFull) small (0 ∷ 0 ∷ []) (call (log 1 copy) ∷ threeOnLane0 ++ allBackAndCut) 1000 junk (16 ∷ 0 ∷ []) (0 ∷ 0 ∷ []) refl
 
 -- 3. A second attempt is logged over the first, which was drained; 9, which would keep it from that, is never answered. The wrap bits are the same: with its
 -- first word alone stored, the first slot passes for an entry of word 1 with the old value of word 0, and word 1 becomes 0
@@ -224,8 +245,8 @@ over-first =
     wrong-recovery overFirst small (0 ∷ 6 ∷ [])
     (call (log 0 (set0 5))
     ∷ call (drain 0)
-    ∷ call (validate 0 (1 ∷ 1 ∷ 0 ∷ 7 ∷ []))
-    ∷ call (log 0 (1 ∷ 1 ∷ 0 ∷ 7 ∷ []))
+    ∷ call (validate 0 (set1 7))
+    ∷ call (log 0 (set1 7))
     ∷ failsInDrain (drain 0) (3 ∷ []) junk
     ∷ [])
     1000 junk (0 ∷ 0 ∷ []) (0 ∷ 6 ∷ []) refl
@@ -249,8 +270,8 @@ odd-stamps =
     wrong-recovery oddStamps small (0 ∷ 0 ∷ []) (call (log 0 (1 ∷ 0 ∷ 0 ∷ 2 ∷ 1 ∷ 1 ∷ 0 ∷ 3 ∷ [])) ∷ call (redo 0) ∷ failsInDrain (drain 0) (1 ∷ []) junk ∷ [])
     1000 junk (2 ∷ 0 ∷ []) (2 ∷ 3 ∷ []) refl
 
--- 5. A Mark leaves the transaction open, and it commits behind the mark. The mark at 4 is the boundary, and what stands before it is not undone:
--- word 0, written back, keeps the 2 of a commit that is above the boundary
+-- 5. A Mark leaves the transaction open, and it commits behind the mark. The lane's newest sequence is the mark, which gives no boundary, and nothing is
+-- undone: word 0, written back, keeps the 2 of a transaction that was dropped
 unfoldable markOpen : Design
 markOpen =
     calling
@@ -291,7 +312,8 @@ noFirstFloor =
 
 no-first-floor : CrashTheorem noFirstFloor → ⊥
 unfolding made noFirstFloor additions
-no-first-floor = wrong-recovery noFirstFloor small (0 ∷ 0 ∷ []) (call (log 1 copy) ∷ threeOnLane0) 1000 junk (16 ∷ 0 ∷ []) (0 ∷ 0 ∷ []) refl
+no-first-floor =
+    wrong-recovery noFirstFloor small (0 ∷ 0 ∷ []) (call (log 1 copy) ∷ threeOnLane0 ++ allBackAndCut) 1000 junk (16 ∷ 0 ∷ []) (0 ∷ 0 ∷ []) refl
 
 -- ---- too little, or too much
 -- 8. Recovery undoes every transaction: a commit that was drained and marked is lost
@@ -326,7 +348,7 @@ rising-order : CrashTheorem risingOrder → ⊥
 unfolding made risingOrder reversed
 rising-order =
     wrong-recovery risingOrder small (0 ∷ 0 ∷ [])
-    (call (mark 1) ∷ call (log 0 (set0 2)) ∷ call (redo 0) ∷ call (log 0 (set0 3)) ∷ call (redo 0) ∷ writeBacks 0 139 ++ (fails junk ∷ []))
+    (call (log 1 copy) ∷ call (log 0 (set0 2)) ∷ call (redo 0) ∷ call (log 0 (set0 3)) ∷ call (redo 0) ∷ allBackAndCut)
     1000 junk (2 ∷ 0 ∷ []) (0 ∷ 0 ∷ []) refl
 
 -- 11. A sequence's entries are undone first to last: of two that name word 0, the second one's old value is left
@@ -591,3 +613,102 @@ trailer-drained =
     wrong-trailer trailerDrained small
     (record { state = startRecord 0; cache = replicate 143 0; nvm = startImage small (0 ∷ 0 ∷ []); flags = replicate 143 0 })
     (call (drain 0)) (0 ∷ 0 ∷ 0 ∷ 0 ∷ []) (2 ∷ 2 ∷ 34 ∷ 139 ∷ []) refl
+
+-- ---- marked lanes
+-- 31. The floor ends at the Mark, not at its drain. Lane 1's mark is not written back when power fails, so its commit at 4 is the boundary; but nothing kept
+-- lane 0's third transaction from being logged over its first one, and word 0 is left at 16
+unfoldable endsAtMark : Design
+endsAtMark = calling (marking (λ z L m. unfloored L (markStep z L m)) callStep)
+
+ends-at-mark : CrashTheorem endsAtMark → ⊥
+unfolding made endsAtMark additions
+ends-at-mark =
+    wrong-recovery endsAtMark small (0 ∷ 0 ∷ [])
+    (call (log 1 (set1 9)) ∷ call (redo 1) ∷ call (mark 1) ∷ threeOnLane0 ++ (writeBacks 0 71 ++ (fails junk ∷ [])))
+    1000 junk (16 ∷ 0 ∷ []) (0 ∷ 0 ∷ []) refl
+
+-- 32. A marked lane's sequences are not undone. Lane 0 has logged at 2 and drained, so the boundary is 2; lane 1's commit at 6 stays
+unfoldable whereGiven : Timestamp → List Complete → List Complete
+whereGiven None qs = []
+whereGiven (At s) qs = qs
+
+unfoldable givers : Sizes → List ℕ → (k : ℕ) → List Complete
+givers z image zero = []
+givers z image (suc k) = givers z image k ++ whereGiven (contribution (latestIn z image k)) (completeIn z image k)
+
+unfoldable markedStay : Design
+markedStay = storing (λ z image. undoSequences (undoneFrom (boundary z image) (givers z image z.lanes)) ++ (base z image ++ clearing z))
+
+marked-stay : CrashTheorem markedStay → ⊥
+unfolding made markedStay givers whereGiven
+marked-stay =
+    wrong-recovery markedStay small (0 ∷ 0 ∷ [])
+    (call (log 0 (set0 2)) ∷ call (drain 0) ∷ call (log 1 (set1 9)) ∷ call (redo 1) ∷ call (mark 1) ∷ call (drain 1) ∷ fails junk ∷ [])
+    1000 junk (0 ∷ 9 ∷ []) (0 ∷ 0 ∷ []) refl
+
+-- 33. A commit's timestamp, which closes entries, is taken for a mark by Drain: it ends the floor of every lane that holds nothing. Lane 1's commit at 4 is
+-- the boundary, and lane 0's third transaction is logged over its first one
+unfoldable endsAtCommit : Design
+endsAtCommit = calling (draining (λ z L m. let s = drainStep z L m in cond (isLogged (laneIn L s .phase)) s (unfloored L s)) callStep)
+
+ends-at-commit : CrashTheorem endsAtCommit → ⊥
+unfolding made endsAtCommit additions
+ends-at-commit =
+    wrong-recovery endsAtCommit small (0 ∷ 0 ∷ [])
+    (call (log 1 (set1 9)) ∷ call (redo 1) ∷ call (drain 1) ∷ threeOnLane0 ++ allBackAndCut) 1000 junk (16 ∷ 0 ∷ []) (0 ∷ 0 ∷ []) refl
+
+-- recovery by another boundary: the least of what the lanes below k give by g
+unfoldable leastBy : (Latest → Timestamp) → Sizes → List ℕ → (k : ℕ) → Timestamp
+leastBy g z image zero = None
+leastBy g z image (suc k) = lesser (leastBy g z image k) (g (latestIn z image k))
+
+unfoldable boundedBy : (Latest → Timestamp) → Design
+boundedBy g =
+    storing (λ z image. undoSequences (undoneFrom (leastBy g z image z.lanes) (completeOf z image z.lanes)) ++ (base z image ++ clearing z))
+
+-- 34. The same by recovery: a timestamp over one entry is taken for a mark. A commit whose timestamp did not reach the log stays
+unfoldable givesOverOne : Latest → Timestamp
+givesOverOne Nothing = None
+givesOverOne (Is q) = cond (leb q.count 1) None (At q.stamp)
+
+unfoldable oneAsMark : Design
+oneAsMark = boundedBy givesOverOne
+
+one-as-mark : CrashTheorem oneAsMark → ⊥
+unfolding made oneAsMark boundedBy leastBy givesOverOne
+one-as-mark =
+    wrong-recovery oneAsMark small (0 ∷ 0 ∷ [])
+    (call (log 0 (set0 2)) ∷ call (redo 0) ∷ writeBack 1 ∷ fails junk ∷ []) 1000 junk (2 ∷ 0 ∷ []) (0 ∷ 0 ∷ []) refl
+
+-- 35. A mark gives a boundary. Lane 1 is marked at 2 and drained and stays idle; lane 0 commits at 6, is marked and drained, and its commit is lost
+unfoldable givesAlways : Latest → Timestamp
+givesAlways Nothing = None
+givesAlways (Is q) = At q.stamp
+
+unfoldable marksGive : Design
+marksGive = boundedBy givesAlways
+
+marks-give : IdleTheorem marksGive → ⊥
+unfolding made marksGive boundedBy leastBy givesAlways
+marks-give =
+    wrong-idle marksGive small (0 ∷ 0 ∷ []) 1 [] []
+    (call (log 0 (set0 2)) ∷ call (redo 0) ∷ call (mark 0) ∷ call (drain 0) ∷ fails junk ∷ [])
+    1000 junk (0 ∷ 0 ∷ []) (2 ∷ 0 ∷ []) refl
+
+-- ---- commits that can no longer be lost
+-- 36. The boundary is the oldest timestamp over entries, not the least of the lanes' newest. Lane 0 commits at 4, is marked and drained, so no lane has a
+-- floor any more; the commit is lost
+unfoldable oldest : List Complete → Timestamp
+oldest [] = None
+oldest (q ∷ qs) = lesser (given (length q.entries) q.stamp) (oldest qs)
+
+unfoldable byOldest : Design
+byOldest =
+    storing
+    (λ z image. let qs = completeOf z image z.lanes in undoSequences (undoneFrom (oldest qs) qs) ++ (base z image ++ clearing z))
+
+by-oldest : SafeTheorem byOldest → ⊥
+unfolding made byOldest oldest
+by-oldest =
+    wrong-safe byOldest small (0 ∷ 0 ∷ []) (call (log 0 (set0 2)) ∷ call (redo 0) ∷ call (mark 0) ∷ call (drain 0) ∷ []) (fails junk ∷ [])
+    4 1000 junk (0 ∷ 0 ∷ []) (2 ∷ 0 ∷ []) refl

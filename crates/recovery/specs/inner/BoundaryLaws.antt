@@ -1,76 +1,44 @@
--- Inner: how the code goes, need not be believed. The boundary against the sequences found: it is the timestamp of one lane's latest, at most that of
--- each, and none where nothing is complete. Assumes nothing.
+-- Inner: how the code goes, need not be believed. The boundary against the sequences found: it is the timestamp of one lane's latest, which closes
+-- entries, and at most that of each such one. Assumes nothing.
 use mathlib.Core.Path.{_≡_, refl, ap, _∙_}
-use mathlib.Core.List.{List, [], _∷_}
+use mathlib.Core.Logic.{_≢_}
+use mathlib.Core.List.{List}
 use Prim.Native.Nat.{ℕ, zero, suc, _≤_, _<_, min}
 use native.Mathlib.Omega.{arith}
 use native.Mathlib.Nat.{le-refl}
-use lib.Dec.{ltb}
-use borrow.Author.Tests.{ltb-true, ltb-false}
+use lib.Dec.{ltb, eqb}
+use borrow.Author.Tests.{ltb-true, ltb-false, eqb-false}
 use Rattle.laws.specs.inner.Tests.{split}
 use Rattle.image.specs.declared.Sizes.{Sizes}
-use Rattle.log.specs.Log.{Complete, completeIn, sequenceOf, later, latest, latestIn, contribution}
+use Rattle.log.specs.Log.{Complete, completeIn, sequenceOf, latestIn, given, contribution}
 use Rattle.log.specs.declared.Timestamp.{Timestamp}
 use Rattle.log.specs.declared.Timestamp.the-variants.{None, At}
 use Rattle.log.specs.declared.Sequence.{Sequence}
 use Rattle.log.specs.declared.Latest.{Latest}
 use Rattle.log.specs.declared.Latest.the-variants.{Nothing, Is}
 use Rattle.record.specs.Record.{lesser}
+use Rattle.log.specs.inner.LatestLaws.{latest-greatest}
 use Rattle.recovery.specs.Recovery.{boundaryBelow, boundary, completeOf}
-use Rattle.laws.specs.inner.Members.{In, here, there}
+use Rattle.laws.specs.inner.Members.{In}
 use Rattle.recovery.specs.inner.SequenceLaws.{lane-in}
 
 at-one : {a b : ℕ} → At a ≡ At b → a ≡ b
 at-one p = cc
 
--- ---- a lane's latest sequence
--- a timestamp that is there, and not below s
-pub record Above (s : ℕ) (t : Timestamp) : Type 0 where
-  pub stamp : ℕ
-  pub is : t ≡ At stamp
-  pub least : s ≤ stamp
-
-above-new : (s : Sequence) (l : Latest) → Above (s .stamp) (contribution (later s l))
-unfolding later contribution
-above-new s Nothing = record { stamp = s .stamp; is = refl; least = le-refl (s .stamp) }
-above-new s (Is r) =
-    split (ltb (r .stamp) (s .stamp))
-    (λ e. rw e (record { stamp = s .stamp; is = refl; least = le-refl (s .stamp) }))
-    (λ e. rw e (record { stamp = r .stamp; is = refl; least = ltb-false (r .stamp) (s .stamp) e }))
-
-above-old : (n : ℕ) (s : Sequence) (l : Latest) → Above n (contribution l) → Above n (contribution (later s l))
-unfolding later contribution
-above-old n s Nothing a = let e = a .is in absurd (let z : _≡_ {A = ℕ} 0 1 = cc in omega arith)
-above-old n s (Is r) a =
-    let e : r .stamp ≡ a .stamp = at-one (a .is) in
-    split (ltb (r .stamp) (s .stamp))
-    (λ t. rw t (record { stamp = s .stamp; is = refl; least = omega (arith, a .least, ltb-true (r .stamp) (s .stamp) t) }))
-    (λ t. rw t (record { stamp = r .stamp; is = refl; least = omega (arith, a .least) }))
-
--- every sequence is at most the latest
-pub latest-above : {q : Complete} {qs : List Complete} → In q qs → Above (q .stamp) (contribution (latest qs))
-unfolding latest sequenceOf
-latest-above {q} (here {l = qs}) = above-new (sequenceOf q) (latest qs)
-latest-above {q} (there {y = r} {l = qs} i) = above-old (q .stamp) (sequenceOf r) (latest qs) (latest-above i)
-
--- one of the list has this timestamp
-pub record Stamped (qs : List Complete) (m : ℕ) : Type 0 where
-  pub by : Complete
-  pub found : In by qs
+-- ---- what a lane gives: the timestamp of a sequence that closes entries
+pub record Gives (l : Latest) (m : ℕ) : Type 0 where
+  pub by : Sequence
+  pub is : l ≡ Is by
   pub stamp : by .stamp ≡ m
+  pub some : by .count ≢ 0
 
--- and the latest is one of them
-pub latest-in : (qs : List Complete) (m : ℕ) → contribution (latest qs) ≡ At m → Stamped qs m
-unfolding latest sequenceOf later contribution
-latest-in [] m e = absurd (let z : _≡_ {A = ℕ} 0 1 = cc in omega arith)
-latest-in (r ∷ qs) m e = go (latest qs) refl (latest-in qs)
-  where
-    go : (l : Latest) → latest qs ≡ l → ((n : ℕ) → contribution (latest qs) ≡ At n → Stamped qs n) → Stamped (r ∷ qs) m
-    go Nothing p ih = record { by = r; found = here; stamp = at-one (rw p at e) }
-    go (Is s) p ih =
-        split (ltb (s .stamp) (r .stamp))
-        (λ t. record { by = r; found = here; stamp = at-one (rw (p, t) at e) })
-        (λ t. let i = ih m (ap contribution p ∙ rw (p, t) at e) in record { by = i .by; found = there (i .found); stamp = i .stamp })
+pub gives : (l : Latest) (m : ℕ) → contribution l ≡ At m → Gives l m
+unfolding contribution given
+gives Nothing m e = absurd (let z : _≡_ {A = ℕ} 0 1 = cc in omega arith)
+gives (Is q) m e =
+    split (eqb (q .count) 0)
+    (λ t. absurd (let f : None ≡ At m = rw t at e in let z : _≡_ {A = ℕ} 0 1 = cc in omega arith))
+    (λ t. record { by = q; is = refl; stamp = at-one (rw t at e); some = eqb-false (q .count) 0 t })
 
 -- ---- the least of them
 -- a timestamp that is there, and not above m
@@ -101,12 +69,12 @@ module _ (z : Sizes) (image : List ℕ) where
       (λ t. below-left m (boundaryBelow z image k) (contribution (latestIn z image k)) (below-lane k L m (ltb-true L k t) e))
       (λ t. let p : L ≡ k = omega (arith, ltb-false L k t) in rw (rw p at e) (below-right m (boundaryBelow z image k)))
 
-  -- the boundary is at most each lane's latest
+  -- the boundary is at most what each lane gives
   pub boundary-below : (L m : ℕ) → L < z.lanes → contribution (latestIn z image L) ≡ At m → Below m (boundary z image)
   unfolding boundary
   boundary-below L m l e = below-lane z.lanes L m l e
 
-  -- a lane below k whose latest sequence has this timestamp
+  -- a lane below k that gives this timestamp
   pub record LaneWith (k b : ℕ) : Type 0 where
     pub lane : ℕ
     pub low : lane < k
@@ -130,15 +98,25 @@ module _ (z : Sizes) (image : List ℕ) where
           (λ t. up (ih b (p ∙ ap At (let g : a ≡ b = omega (arith, ltb-true a c t) in g))))
           (λ t. record { lane = k; low = omega arith; latest = q ∙ ap At (let g : c ≡ b = omega (arith, ltb-false a c t) in g) })
 
-  -- and one lane's latest
+  -- and what one lane gives
   pub boundary-is : (b : ℕ) → boundary z image ≡ At b → LaneWith z.lanes b
   unfolding boundary
   boundary-is b e = lane-with z.lanes b e
 
   -- so it is the timestamp of a sequence
-  pub boundary-in : (b : ℕ) → boundary z image ≡ At b → Stamped (completeOf z image z.lanes) b
-  unfolding latestIn
+  pub record Stamped (b : ℕ) : Type 0 where
+    pub by : Complete
+    pub found : In by (completeOf z image z.lanes)
+    pub stamp : by .stamp ≡ b
+
+  pub boundary-in : (b : ℕ) → boundary z image ≡ At b → Stamped b
+  unfolding latestIn sequenceOf
   boundary-in b e =
       let r = boundary-is b e in
-      let q = latest-in (completeIn z image (r .lane)) b (r .latest) in
-      record { by = q .by; found = lane-in z image z.lanes (r .lane) (r .low) (q .found); stamp = q .stamp }
+      let g = gives (latestIn z image (r .lane)) b (r .latest) in
+      let q = latest-greatest (completeIn z image (r .lane)) (g .by) (g .is) in
+      record {
+        by = q .by;
+        found = lane-in z image z.lanes (r .lane) (r .low) (q .found);
+        stamp = ap (λ (s : Sequence). s .stamp) (q .is) ∙ g .stamp;
+      }

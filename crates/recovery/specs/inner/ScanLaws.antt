@@ -22,12 +22,12 @@ use Rattle.slot.specs.declared.Content.the-variants.{Empty, Torn, Entry, Stamp}
 use Rattle.slot.specs.Slot.{maxEntries}
 use Rattle.image.specs.Image.{maxLanes, maxSlots, sizesOk, baseOf, logOf}
 use Rattle.image.specs.declared.Sizes.{Sizes}
-use Rattle.log.specs.Log.{slotAt, entriesBack, latestIn, contribution}
+use Rattle.log.specs.Log.{slotAt, entriesBack, latestIn, given, contribution}
 use Rattle.log.specs.inner.LogLaws.{stamp-in, latest-in}
 use Rattle.log.specs.inner.Search.{entryBack, closedAt}
 use Rattle.log.specs.inner.SearchLaws.{Closed, closed-from, closed-bad, closed-whole, NotAbove, Below, latest-none, latest-is}
 use Rattle.log.specs.declared.Timestamp.{Timestamp}
-use Rattle.log.specs.declared.Timestamp.the-variants.{None, At}
+use Rattle.log.specs.declared.Timestamp.the-variants.{None}
 use Rattle.log.specs.declared.Sequence.{Sequence}
 use Rattle.log.specs.declared.Latest.{Latest}
 use Rattle.log.specs.declared.Latest.the-variants.{Nothing, Is}
@@ -203,7 +203,7 @@ module _ (z : Sizes) (image : List ℕ) (L : ℕ) (pos : 0 < z .slots) (s : List
           by Nothing x = tt
           by (Is q) x = rw (closed-stamp i l q x) (is-below s i m k (most i l))
 
-      pub search-latest : At (getD s m 0) ≡ contribution (latestIn z image L)
+      pub search-latest : given (countOf c) (getD s m 0) ≡ contribution (latestIn z image L)
       unfolding contribution
       search-latest =
           rw (

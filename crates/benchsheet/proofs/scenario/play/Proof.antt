@@ -10,14 +10,8 @@ Inv-loop arena₀ i₀ arena i = Unit
 abbrev μ-loop : tie.MeasureT-loop
 μ-loop arena₀ i₀ arena i = 6 - i
 
-start-requires : tie.Need-start-requires Inv-loop μ-loop
-start-requires c κs = search needs
-
-set-row-requires : tie.Need-set-row-requires Inv-loop μ-loop
-set-row-requires c κs = search needs
-
-call-requires : tie.Need-call-requires Inv-loop μ-loop
-call-requires c κs = search needs
+format-requires : tie.Need-format-requires Inv-loop μ-loop
+format-requires c κs = search needs
 
 loop-holds : tie.Need-loop-holds Inv-loop μ-loop
 loop-holds c = search needs
@@ -40,5 +34,4 @@ returns c = search needs
 pub play-spec : {M : Type 1} → statement M
 play-spec =
     tie.close
-    (tie.spec Inv-loop μ-loop start-requires set-row-requires call-requires loop-holds step-requires add-i loop-less
-    loop-again returns)
+    (tie.spec Inv-loop μ-loop format-requires loop-holds step-requires add-i loop-less loop-again returns)

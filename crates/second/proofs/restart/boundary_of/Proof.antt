@@ -19,11 +19,14 @@ loop-holds c = search needs
 cell-requires : tie.Need-cell-requires Inv-loop μ-loop
 cell-requires c κs = search needs
 
+cell-requires-2 : tie.Need-cell-requires-2 Inv-loop μ-loop
+cell-requires-2 c κs = search needs
+
 get-requires : tie.Need-get-requires Inv-loop μ-loop
 get-requires c κs = search needs
 
-cell-requires-2 : tie.Need-cell-requires-2 Inv-loop μ-loop
-cell-requires-2 c κs = search needs
+cell-requires-3 : tie.Need-cell-requires-3 Inv-loop μ-loop
+cell-requires-3 c κs = search needs
 
 put-requires : tie.Need-put-requires Inv-loop μ-loop
 put-requires c κs = search needs
@@ -43,5 +46,5 @@ returns c = search needs
 pub boundary-of-spec : {M : Type 1} → statement M
 boundary-of-spec =
     tie.close
-    (tie.spec Inv-loop μ-loop clear-requires loop-holds cell-requires get-requires cell-requires-2 put-requires add-row
-    loop-less loop-again returns)
+    (tie.spec Inv-loop μ-loop clear-requires loop-holds cell-requires cell-requires-2 get-requires cell-requires-3
+    put-requires add-row loop-less loop-again returns)

@@ -1,0 +1,185 @@
+-- A lane that is marked and drained and then stays idle has no floor, so the boundary is not below the least floor of the other lanes: of every store of
+-- which the crash theorem holds. Assumes nothing.
+use mathlib.Core.Path.{_≡_, refl, ap, subst, sym, _∙_}
+use mathlib.Core.Logic.{_≢_}
+use mathlib.Core.Bool.{Bool, true, false, cond, not, _||_}
+use mathlib.Core.List.{List, [], _∷_, _++_}
+use mathlib.Core.Option.{Option, none}
+use Prim.Native.Nat.{ℕ, zero, suc, _+_}
+use native.Mathlib.Decide.{ℕ-discrete}
+use lib.Dec.{eqb}
+use lib.ListN.{getD, set}
+use lib.Seq.{getD-set-other}
+use borrow.Author.Tests.{eq-eqb, not-true}
+use Rattle.laws.specs.inner.Tests.{clash, and-left, and-right}
+use Rattle.laws.specs.inner.Lists.{All, none as nil, more}
+use Rattle.image.specs.Image.{trailer}
+use Rattle.image.specs.declared.Sizes.{Sizes}
+use Rattle.log.specs.declared.Timestamp.{Timestamp}
+use Rattle.log.specs.declared.Timestamp.the-variants.{None, At}
+use Rattle.record.specs.Record.{lesser}
+use Rattle.store.specs.Machine.{Machine, Said, said}
+use Rattle.recovery.specs.Recovery.{boundary}
+use Rattle.crash.specs.Events.{Call, mark, drain, laneOf, live, Design, happens}
+use Rattle.crash.specs.Events.{Event, format, call, recover}
+use Rattle.crash.specs.Events.{Reply, answered, recovered, failed, ignored}
+use Rattle.crash.specs.History.{Newest, unset, closing, marking, Page, History, blankPage, pageAt, opened}
+use Rattle.crash.specs.History.{floorOr, floorOnDrain, settled, stamped, released, taken, afterCall}
+use Rattle.crash.specs.History.{fedAnswer, fed, leastFloorOf}
+use Rattle.crash.specs.Theorem.{Holds, CrashTheorem}
+use Rattle.crash.proofs.induction.Lists.{holds-next, holds-after}
+use Rattle.crash.proofs.induction.Pages.{onDrain, page-set, opened-page, Keeping, after-keeps}
+use Rattle.crash.proofs.induction.Kept.{recovery-keeps}
+use Rattle.crash.specs.Corollaries.{World, nextWorld, worldAfter, isDone, isDrain, isIdle, staysIdle, mayStart, othersFloor, IdleTheorem}
+
+-- ---- one page
+-- a page that a drain leaves without floor
+unfoldable Marked : Page → Type 0
+Marked p = floorOnDrain (p .newest) (p .floor) ≡ None
+
+-- and one that is without floor already
+unfoldable Settled : Page → Type 0
+Settled p = (p .floor ≡ None) × Marked p
+
+again : (n : Newest) (f : Timestamp) → floorOnDrain n f ≡ None → floorOnDrain n (floorOnDrain n f) ≡ None
+unfolding floorOnDrain
+again unset f e = e
+again (closing s) f e = e
+again (marking s) f e = refl
+
+-- ---- what idle events do to a page: a property that a blank page has and that a drain keeps is kept
+module _ (P : Page → Type 0) (blank : P blankPage) (drains : (p : Page) → P p → P (onDrain p)) (L : ℕ) where
+  page-keeping : Keeping (λ h. P (pageAt h L)) (λ M. L ≢ M)
+  unfolding settled stamped released pageAt
+  page-keeping =
+      record {
+        settles = λ M h i. elim (ℕ-discrete M L) [
+          | yes e ↦ rw e (page-set P blank L (h .pages) (onDrain (getD (h .pages) L blankPage)) (drains (getD (h .pages) L blankPage) i))
+          | no d ↦ subst P (sym (getD-set-other (h .pages) M L (onDrain (getD (h .pages) M blankPage)) blankPage (λ e. d (sym e)))) i
+        ];
+        stamps = λ M d kind ks held txns h i. subst P (sym (getD-set-other (h .pages) M L _ blankPage d)) i;
+        releases = λ M d h i. subst P (sym (getD-set-other (h .pages) M L _ blankPage d)) i;
+      }
+
+  -- a step of an idle event is another lane's
+  other-lane : (c : Call) → (isDrain c || not (eqb (laneOf c) L)) ≡ true → isDrain c ≡ false → L ≢ laneOf c
+  other-lane c t f e = clash (eqb (laneOf c) L) (eq-eqb (laneOf c) L (sym e)) (not-true (eqb (laneOf c) L) (rw f at t))
+
+  idle-steps : (es : List Event) → staysIdle L es ≡ true → All (λ e. (c : Call) → e ≡ call c → isDrain c ≡ false → L ≢ laneOf c) es
+  unfolding staysIdle isIdle
+  idle-steps [] t = nil
+  idle-steps (e ∷ es) t =
+      more (λ c p f. other-lane c (ap (isIdle L) (sym p) ∙ and-left (isIdle L e) _ t) f) (idle-steps es (and-right (isIdle L e) _ t))
+
+  any-start : (z : Sizes) (es : List Event) → All (λ e. mayStart e ≡ true → (start : List ℕ) (clock : ℕ) → P (pageAt (opened z start clock) L)) es
+  any-start z [] = nil
+  any-start z (e ∷ es) = more (λ t start clock. opened-page P blank z start clock L) (any-start z es)
+
+  idle-page : (d : Design) (z : Sizes) (w : World) (es : List Event) → staysIdle L es ≡ true → P (pageAt (w .history) L)
+      → P (pageAt (worldAfter d z w es .history) L)
+  idle-page d z w es t i = after-keeps (λ h. P (pageAt h L)) (λ M. L ≢ M) page-keeping d z w es (idle-steps es t) (any-start z es) i
+
+-- ---- a mark, and a drain
+blank-settled : Settled blankPage
+unfolding Settled Marked floorOnDrain
+blank-settled = (refl, refl)
+
+blank-marked : Marked blankPage
+unfolding Marked floorOnDrain
+blank-marked = refl
+
+drain-settles : (p : Page) → Marked p → Settled (onDrain p)
+unfolding Settled Marked
+drain-settles p e = (e, again (p .newest) (p .floor) e)
+
+settled-marked : (p : Page) → Settled p → Marked p
+unfolding Settled
+settled-marked p e = e .1
+
+drain-keeps : (p : Page) → Marked p → Marked (onDrain p)
+drain-keeps p e = settled-marked (onDrain p) (drain-settles p e)
+
+-- a call that is done is fed as taken
+done-call : (P : History → Type 0) (z : Sizes) (c : Call) (r : Reply) (found : List ℕ) (h : History) → isDone r ≡ true
+    → ((t : Said) → P (taken c t h)) → P (fed z (call c) r found h)
+unfolding isDone fed fedAnswer afterCall
+done-call P z c (answered a) found h done i =
+    subst (λ (b : Bool). P (cond b h (taken c (said a) h))) (sym (not-true (said a .refused) done)) (i (said a))
+done-call P z c (recovered r) found h done i = clash false done refl
+done-call P z c (failed d) found h done i = clash false done refl
+done-call P z c ignored found h done i = clash false done refl
+
+marks : (held : Option (List ℕ)) (s : ℕ) (floor : Timestamp) → Marked (record { held = held; newest = marking s; floor = floor })
+unfolding Marked floorOnDrain
+marks held s floor = refl
+
+mark-marks : (L : ℕ) (t : Said) (h : History) → Marked (pageAt (taken (mark L) t h) L)
+unfolding taken stamped pageAt
+mark-marks L t h =
+    let k = settled L h in
+    let s : ℕ = k .clock + 2 in
+    let p : Page = record { held = none; newest = marking s; floor = floorOr (pageAt k L .floor) (At s) } in
+    page-set Marked blank-marked L (k .pages) p (marks none s (p .floor))
+
+drain-drains : (L : ℕ) (t : Said) (h : History) → Marked (pageAt h L) → Settled (pageAt (taken (drain L) t h) L)
+unfolding taken settled pageAt
+drain-drains L t h i =
+    page-set Settled blank-settled L (h .pages) (onDrain (getD (h .pages) L blankPage))
+    (drain-settles (getD (h .pages) L blankPage) i)
+
+-- ---- floors
+-- a lane without floor counts for nothing
+without-floor : (ps : List Page) (L : ℕ) → getD ps L blankPage .floor ≡ None → leastFloorOf ps ≡ leastFloorOf (set ps L blankPage)
+unfolding leastFloorOf
+without-floor [] L e = refl
+without-floor (p ∷ ps) zero e = rw e
+without-floor (p ∷ ps) (suc L) e = ap (lesser (p .floor)) (without-floor ps L e)
+
+others-floor : (L : ℕ) (h : History) → Settled (pageAt h L) → leastFloorOf (h .pages) ≡ othersFloor L h
+unfolding Settled othersFloor pageAt
+others-floor L h e = without-floor (h .pages) L (e .0)
+
+module _ (d : Design) (z : Sizes) (start : List ℕ) (m : Machine) (h : History) (L : ℕ) (es fs gs : List Event) where
+  abbrev a : World
+  a = worldAfter d z (record { system = live m; history = h }) (format start ∷ es)
+
+  abbrev b : World
+  b = worldAfter d z (nextWorld d z a (call (mark L))) fs
+
+  abbrev c : World
+  c = worldAfter d z (nextWorld d z b (call (drain L))) gs
+
+  holds-last : (e : Event) → ((es : List Event) → Holds d z (trailer z) (live m) h (format start ∷ es))
+      → Holds d z (trailer z) (c .system) (c .history) (e ∷ [])
+  holds-last e v =
+      let third : List Event = gs ++ (e ∷ []) in
+      let second : List Event = fs ++ (call (drain L) ∷ third) in
+      holds-after d z (trailer z) (nextWorld d z b (call (drain L))) gs (e ∷ [])
+      (holds-next d z (trailer z) b (call (drain L)) third
+      (holds-after d z (trailer z) (nextWorld d z a (call (mark L))) fs (call (drain L) ∷ third)
+      (holds-next d z (trailer z) a (call (mark L)) second
+      (holds-after d z (trailer z) (record { system = live m; history = h }) (format start ∷ es) (call (mark L) ∷ second)
+      (v (es ++ (call (mark L) ∷ second)))))))
+
+  -- the lane's page from the mark on, and from the drain on
+  page-marked : isDone (happens d z (a .system) (call (mark L)) .reply) ≡ true → Marked (pageAt (nextWorld d z a (call (mark L)) .history) L)
+  unfolding nextWorld
+  page-marked done = done-call (λ k. Marked (pageAt k L)) z (mark L) _ _ (a .history) done (λ t. mark-marks L t (a .history))
+
+  page-settled : isDone (happens d z (b .system) (call (drain L)) .reply) ≡ true → Marked (pageAt (b .history) L)
+      → Settled (pageAt (nextWorld d z b (call (drain L)) .history) L)
+  unfolding nextWorld
+  page-settled done i = done-call (λ k. Settled (pageAt k L)) z (drain L) _ _ (b .history) done (λ t. drain-drains L t (b .history) i)
+
+  page-rests : isDone (happens d z (a .system) (call (mark L)) .reply) ≡ true → staysIdle L fs ≡ true
+      → isDone (happens d z (b .system) (call (drain L)) .reply) ≡ true → staysIdle L gs ≡ true → Settled (pageAt (c .history) L)
+  page-rests marks idle drains stays =
+      idle-page Settled blank-settled (λ p e. drain-settles p (settled-marked p e)) L d z (nextWorld d z b (call (drain L))) gs stays
+      (page-settled drains (idle-page Marked blank-marked drain-keeps L d z (nextWorld d z a (call (mark L))) fs idle (page-marked marks)))
+
+pub idle-from : (d : Design) → CrashTheorem d → IdleTheorem d
+unfolding CrashTheorem IdleTheorem
+idle-from d theorem z start m h ok L es fs gs marks idle drains stays limit j =
+    let q = others-floor L _ (page-rests d z start m h L es fs gs marks idle drains stays) in
+    recovery-keeps d z (c d z start m h L es fs gs) _ (λ s e. rw q e) limit j
+    (holds-last d z start m h L es fs gs (recover limit j) (theorem z start m h ok))

@@ -1,0 +1,257 @@
+-- A commit that can no longer be lost: floors rise, end, or are set above the clock, so the least floor stays above a timestamp that it has passed. Of every
+-- store of which the crash theorem holds. Assumes nothing.
+use mathlib.Core.Path.{_≡_, refl, ap, sym, subst, _∙_}
+use mathlib.Core.Bool.{true, false, not}
+use mathlib.Core.List.{List, [], _∷_, _++_}
+use Prim.Native.Nat.{ℕ, zero, suc, _+_, _≤_, _<_, min}
+use native.Mathlib.Omega.{arith}
+use native.Mathlib.Nat.{le-trans}
+use lib.Dec.{eqb}
+use lib.ListN.{length, getD}
+use borrow.Author.Tests.{ltb-true, lt-ltb, not-true, not-false}
+use Rattle.laws.specs.inner.Tests.{clash, and-left, and-right}
+use Rattle.laws.specs.inner.Lists.{All, none as nil, more}
+use Rattle.image.specs.Image.{trailer}
+use Rattle.image.specs.declared.Sizes.{Sizes}
+use Rattle.log.specs.declared.Timestamp.{Timestamp}
+use Rattle.log.specs.declared.Timestamp.the-variants.{None, At}
+use Rattle.record.specs.Record.{lesser}
+use Rattle.store.specs.Machine.{Machine, said}
+use Rattle.store.specs.Calls.{formatRefusal}
+use Rattle.crash.specs.Events.{Call, Event, format, call, recover, live, Design, happens, afterFormat}
+use Rattle.crash.specs.History.{Newest, unset, closing, marking, stampOf, Page, History, blankPage, pageAt, opened, isBelow}
+use Rattle.crash.specs.History.{floorOr, floorOnDrain, settled, stamped, released, fedAnswer, fed, leastFloorOf}
+use Rattle.crash.specs.Theorem.{Replied, CrashTheorem}
+use Rattle.crash.specs.Corollaries.{World, nextWorld, worldAfter, isDrain, mayStart, goesOn, SafeTheorem}
+use Rattle.crash.proofs.induction.Lists.{holds-next, holds-after}
+use Rattle.crash.proofs.induction.Moves.{none-holds}
+use Rattle.crash.proofs.induction.Pages.{onDrain, page-all, opened-page, Keeping, after-keeps}
+use Rattle.crash.proofs.induction.Kept.{recovery-keeps}
+
+-- ---- timestamps
+at-one : {a b : ℕ} → At a ≡ At b → a ≡ b
+at-one p = cc
+
+not-at : {A : Type 0} {a : ℕ} → None ≡ At a → A
+not-at p = absurd (let z : _≡_ {A = ℕ} 0 1 = cc in omega arith)
+
+below-lesser : (a b : Timestamp) (s : ℕ) → isBelow (lesser a b) s ≡ true → (isBelow a s ≡ true) × (isBelow b s ≡ true)
+unfolding lesser isBelow
+below-lesser None b s e = (refl, e)
+below-lesser (At a) None s e = (e, refl)
+below-lesser (At a) (At b) s e =
+    let l = ltb-true s (min a b) e in
+    (lt-ltb s a (omega arith), lt-ltb s b (omega arith))
+
+lesser-below : (a b : Timestamp) (s : ℕ) → isBelow a s ≡ true → isBelow b s ≡ true → isBelow (lesser a b) s ≡ true
+unfolding lesser isBelow
+lesser-below None b s e f = f
+lesser-below (At a) None s e f = e
+lesser-below (At a) (At b) s e f = lt-ltb s (min a b) (omega (arith, ltb-true s a e, ltb-true s b f))
+
+-- an earlier one is below too
+below-earlier : (b : Timestamp) (s t : ℕ) → t ≤ s → isBelow b s ≡ true → isBelow b t ≡ true
+unfolding isBelow
+below-earlier None s t l e = refl
+below-earlier (At b) s t l e = lt-ltb t b (omega (arith, ltb-true s b e))
+
+up-to : (s t : ℕ) → isBelow (At (s + 1)) t ≡ true → t ≤ s
+unfolding isBelow
+up-to s t e = omega (arith, ltb-true t (s + 1) e)
+
+-- the least floor is above s just where each floor is
+each-above : (ps : List Page) (s : ℕ) → isBelow (leastFloorOf ps) s ≡ true → (L : ℕ) → isBelow (getD ps L blankPage .floor) s ≡ true
+unfolding leastFloorOf isBelow
+each-above [] s e L = refl
+each-above (p ∷ ps) s e zero = below-lesser (p .floor) (leastFloorOf ps) s e .0
+each-above (p ∷ ps) s e (suc L) = each-above ps s (below-lesser (p .floor) (leastFloorOf ps) s e .1) L
+
+least-above : (ps : List Page) (s : ℕ) → ((L : ℕ) → isBelow (getD ps L blankPage .floor) s ≡ true) → isBelow (leastFloorOf ps) s ≡ true
+unfolding leastFloorOf isBelow
+least-above [] s f = refl
+least-above (p ∷ ps) s f = lesser-below (p .floor) (leastFloorOf ps) s (f 0) (least-above ps s (λ L. f (suc L)))
+
+-- ---- one page
+-- what a drain makes of the floor under a new timestamp t, closing entries or a mark's, is not below t
+new-drained : (n : Newest) (floor : Timestamp) (s t : ℕ) → stampOf n ≡ At t → s < t → isBelow (floorOnDrain n floor) s ≡ true
+unfolding stampOf floorOnDrain isBelow
+new-drained unset floor s t e l = not-at e
+new-drained (closing u) floor s t e l = let q : u ≡ t = at-one e in lt-ltb s u (omega arith)
+new-drained (marking u) floor s t e l = refl
+
+again-drained : (n : Newest) (f : Timestamp) (s : ℕ) → isBelow (floorOnDrain n f) s ≡ true → isBelow (floorOnDrain n (floorOnDrain n f)) s ≡ true
+unfolding floorOnDrain isBelow
+again-drained unset f s e = e
+again-drained (closing t) f s e = e
+again-drained (marking t) f s e = refl
+
+-- a page's floor and newest timestamp are not above the clock, and a drain does not lower its floor
+record Rises (clock : ℕ) (p : Page) : Type 0 where
+  floor-low : (a : ℕ) → p .floor ≡ At a → a ≤ clock
+  newest-low : (t : ℕ) → p .newest ≡ closing t → t ≤ clock
+  rises : (s : ℕ) → isBelow (p .floor) s ≡ true → isBelow (floorOnDrain (p .newest) (p .floor)) s ≡ true
+
+rises-blank : (clock : ℕ) → Rises clock blankPage
+unfolding floorOnDrain
+rises-blank clock = record { floor-low = λ a e. not-at e; newest-low = λ t e. absurd (let z : _≡_ {A = ℕ} 0 1 = cc in omega arith); rises = λ s e. e }
+
+rises-later : (a b : ℕ) (p : Page) → a ≤ b → Rises a p → Rises b p
+rises-later a b p l r =
+    record { floor-low = λ x e. le-trans (r .floor-low x e) l; newest-low = λ t e. le-trans (r .newest-low t e) l; rises = r .rises }
+
+drained-low : (n : Newest) (f : Timestamp) (c a : ℕ) → ((x : ℕ) → f ≡ At x → x ≤ c) → ((t : ℕ) → n ≡ closing t → t ≤ c) → floorOnDrain n f ≡ At a → a ≤ c
+unfolding floorOnDrain
+drained-low unset f c a g h e = g a e
+drained-low (closing t) f c a g h e = let q : t ≡ a = at-one e in let k = h t refl in omega arith
+drained-low (marking t) f c a g h e = not-at e
+
+rises-drain : (clock : ℕ) (p : Page) → Rises clock p → Rises clock (onDrain p)
+rises-drain clock p r =
+    record {
+      floor-low = λ a e. drained-low (p .newest) (p .floor) clock a (r .floor-low) (r .newest-low) e;
+      newest-low = r .newest-low;
+      rises = λ s e. again-drained (p .newest) (p .floor) s e;
+    }
+
+or-low : (f : Timestamp) (c t a : ℕ) → c ≤ t → ((x : ℕ) → f ≡ At x → x ≤ c) → floorOr f (At t) ≡ At a → a ≤ t
+unfolding floorOr
+or-low None c t a l g e = let q : t ≡ a = at-one e in omega arith
+or-low (At b) c t a l g e = let q : b ≡ a = at-one e in let k = g b refl in omega arith
+
+or-below : (f : Timestamp) (c t s : ℕ) → c < t → ((x : ℕ) → f ≡ At x → x ≤ c) → isBelow (floorOr f (At t)) s ≡ true → s < t
+unfolding floorOr isBelow
+or-below None c t s l g e = ltb-true s t e
+or-below (At b) c t s l g e = let k = g b refl in omega (arith, ltb-true s b e)
+
+stamp-one : (n : Newest) (t u : ℕ) → stampOf n ≡ At t → n ≡ closing u → u ≤ t
+unfolding stampOf
+stamp-one n t u e p = let q : At u ≡ At t = sym (ap stampOf p) ∙ e in let r : u ≡ t = at-one q in omega arith
+
+rises-stamp : (c t : ℕ) (p q : Page) → c < t → Rises c p → stampOf (q .newest) ≡ At t → q .floor ≡ floorOr (p .floor) (At t) → Rises t q
+rises-stamp c t p q l r n f =
+    record {
+      floor-low = λ a e. or-low (p .floor) c t a (omega arith) (r .floor-low) (sym f ∙ e);
+      newest-low = λ u e. stamp-one (q .newest) t u n e;
+      rises = λ s e. new-drained (q .newest) (q .floor) s t n (or-below (p .floor) c t s l (r .floor-low) (rw f at e));
+    }
+
+-- ---- all pages, from Format on
+unfoldable Rising : History → Type 0
+Rising h = (L : ℕ) → Rises (h .clock) (pageAt h L)
+
+rising-keeping : Keeping Rising (λ M. Unit {0})
+unfolding Rising settled stamped released pageAt
+rising-keeping =
+    record {
+      settles = λ M h f.
+          page-all (Rises (h .clock)) (rises-blank (h .clock)) (h .pages) M (onDrain (getD (h .pages) M blankPage)) (rises-drain (h .clock) _ (f M)) f;
+      stamps = λ M u kind ks held txns h f.
+          page-all (Rises (h .clock + 2)) (rises-blank (h .clock + 2)) (h .pages) M _
+          (rises-stamp (h .clock) (h .clock + 2) (getD (h .pages) M blankPage)
+          (record { held = held; newest = kind (h .clock + 2); floor = floorOr (getD (h .pages) M blankPage .floor) (At (h .clock + 2)) })
+          (omega arith) (f M) (ks (h .clock + 2)) refl)
+          (λ L. rises-later (h .clock) (h .clock + 2) _ (omega arith) (f L));
+      releases = λ M u h f.
+          page-all (Rises (h .clock)) (rises-blank (h .clock)) (h .pages) M _
+          (record { floor-low = f M .floor-low; newest-low = f M .newest-low; rises = f M .rises }) f;
+    }
+
+rising-opened : (z : Sizes) (start : List ℕ) (clock : ℕ) → Rising (opened z start clock)
+unfolding Rising opened
+rising-opened z start clock L = opened-page (Rises clock) (rises-blank clock) z start clock L
+
+-- ---- all pages, with their floors above s
+record Above (s : ℕ) (p : Page) : Type 0 where
+  floor : isBelow (p .floor) s ≡ true
+  drained : isBelow (floorOnDrain (p .newest) (p .floor)) s ≡ true
+
+above-blank : (s : ℕ) → Above s blankPage
+unfolding floorOnDrain isBelow
+above-blank s = record { floor = refl; drained = refl }
+
+or-above : (f : Timestamp) (t s : ℕ) → s < t → isBelow f s ≡ true → isBelow (floorOr f (At t)) s ≡ true
+unfolding floorOr isBelow
+or-above None t s l e = lt-ltb s t l
+or-above (At b) t s l e = e
+
+unfoldable AllAbove : ℕ → History → Type 0
+AllAbove s h = (s ≤ h .clock) × ((L : ℕ) → Above s (pageAt h L))
+
+above-keeping : (s : ℕ) → Keeping (AllAbove s) (λ M. Unit {0})
+unfolding AllAbove settled stamped released pageAt
+above-keeping s =
+    record {
+      settles = λ M h i. (
+        i .0,
+        page-all (Above s) (above-blank s) (h .pages) M (onDrain (getD (h .pages) M blankPage))
+            (record { floor = i .1 M .drained; drained = again-drained _ _ s (i .1 M .drained) }) (i .1),
+      );
+      stamps = λ M u kind ks held txns h i.
+          let l : s < h .clock + 2 = omega (arith, i .0) in (
+            omega (arith, i .0),
+            page-all (Above s) (above-blank s) (h .pages) M _
+                (record {
+                  floor = or-above (getD (h .pages) M blankPage .floor) (h .clock + 2) s l (i .1 M .floor);
+                  drained = new-drained (kind (h .clock + 2)) _ s (h .clock + 2) (ks (h .clock + 2)) l;
+                })
+                (i .1),
+          );
+      releases = λ M u h i. (
+        i .0,
+        page-all (Above s) (above-blank s) (h .pages) M _ (record { floor = i .1 M .floor; drained = i .1 M .drained }) (i .1),
+      );
+    }
+
+-- floors above s stay so, since drains do not lower them
+above-from : (s : ℕ) (h : History) → Rising h → s ≤ h .clock → isBelow (leastFloorOf (h .pages)) s ≡ true → AllAbove s h
+unfolding Rising AllAbove pageAt
+above-from s h r l e = (l, λ L. let f = each-above (h .pages) s e L in record { floor = f; drained = r L .rises s f })
+
+above-least : (s : ℕ) (h : History) → AllAbove s h → isBelow (leastFloorOf (h .pages)) s ≡ true
+unfolding AllAbove pageAt
+above-least s h i = least-above (h .pages) s (λ L. i .1 L .floor)
+
+-- ---- lists
+any-step : (es : List Event) → All (λ e. (c : Call) → e ≡ call c → isDrain c ≡ false → Unit {0}) es
+any-step [] = nil
+any-step (e ∷ es) = more (λ c p f. tt) (any-step es)
+
+any-start : (P : History → Type 0) (z : Sizes) → ((start : List ℕ) (clock : ℕ) → P (opened z start clock)) → (es : List Event)
+    → All (λ e. mayStart e ≡ true → (start : List ℕ) (clock : ℕ) → P (opened z start clock)) es
+any-start P z f [] = nil
+any-start P z f (e ∷ es) = more (λ t. f) (any-start P z f es)
+
+no-start : (P : History → Type 0) (z : Sizes) (es : List Event) → goesOn es ≡ true
+    → All (λ e. mayStart e ≡ true → (start : List ℕ) (clock : ℕ) → P (opened z start clock)) es
+unfolding goesOn
+no-start P z [] t = nil
+no-start P z (e ∷ es) t =
+    more (λ s. clash (mayStart e) s (not-true (mayStart e) (and-left _ _ t))) (no-start P z es (and-right (not (mayStart e)) _ t))
+
+-- Format is taken
+format-words : (z : Sizes) (start : List ℕ) (m : Machine) → formatRefusal z start m ≡ 0 → eqb (length start) (z .words) ≡ true
+unfolding formatRefusal
+format-words z start m e = not-false _ (none-holds _ _ _ (none-holds _ _ _ e .1) .0)
+
+formatted : (d : Design) (z : Sizes) (start : List ℕ) (m : Machine) (h : History) → formatRefusal z start m ≡ 0
+    → Replied z (trailer z) h (format start) (live m) (happens d z (live m) (format start) .found) (happens d z (live m) (format start) .system)
+    (happens d z (live m) (format start) .reply)
+    → nextWorld d z (record { system = live m; history = h }) (format start) .history ≡ opened z start 0
+unfolding nextWorld happens afterFormat fed fedAnswer trailer said
+formatted d z start m h ok v = rw (v, format-words z start m ok)
+
+pub safe-from : (d : Design) → CrashTheorem d → SafeTheorem d
+unfolding CrashTheorem SafeTheorem worldAfter
+safe-from d theorem z start m h ok es fs s low above goes limit j =
+    let w : World = record { system = live m; history = h } in
+    let v = theorem z start m h ok (es ++ (fs ++ (recover limit j ∷ []))) in
+    let f = nextWorld d z w (format start) in
+    let a = worldAfter d z f es in
+    let b = worldAfter d z a fs in
+    let r : Rising (a .history) = after-keeps Rising (λ M. Unit {0}) rising-keeping d z f es (any-step es)
+    (any-start Rising z (rising-opened z) es) (subst Rising (sym (formatted d z start m h ok (v .0 .reply))) (rising-opened z start 0)) in
+    let i : AllAbove s (b .history) = after-keeps (AllAbove s) (λ M. Unit {0}) (above-keeping s) d z a fs (any-step fs)
+    (no-start (AllAbove s) z fs goes) (above-from s (a .history) r low above) in
+    recovery-keeps d z b (At (s + 1)) (λ t e. below-earlier _ s t (up-to s t e) (above-least s (b .history) i)) limit j
+    (holds-after d z (trailer z) a fs (recover limit j ∷ [])
+    (holds-after d z (trailer z) f es (fs ++ (recover limit j ∷ [])) (holds-next d z (trailer z) w (format start) (es ++ (fs ++ (recover limit j ∷ []))) v)))

@@ -1,0 +1,128 @@
+-- What users are promised beside the crash theorem, and follows from it: when a commit can no longer be lost, and that a lane which is marked and drained
+-- and then stays idle delays nobody. SPECIFICATION, "Corollaries". Assumes nothing.
+use Prim.Native.Nat.{ℕ, _+_, _≤_}
+use mathlib.Core.Bool.{Bool, true, false, not, _&&_, _||_}
+use mathlib.Core.List.{List, [], _∷_}
+use mathlib.Core.Path.{_≡_}
+use lib.Dec.{eqb}
+use lib.ListN.{set}
+use Rattle.image.specs.Image.{dataOf}
+use Rattle.image.specs.declared.Sizes.{Sizes}
+use Rattle.log.specs.declared.Timestamp.{Timestamp}
+use Rattle.log.specs.declared.Timestamp.the-variants.{At}
+use Rattle.store.specs.Machine.{Machine, said}
+use Rattle.store.specs.Calls.{formatRefusal}
+use Rattle.recovery.specs.declared.Recovered.{Recovered}
+use Rattle.recovery.specs.declared.Recovered.the-variants.{Refused, Cut, Finished}
+use Rattle.crash.specs.Events.{Call, logBy, redo, validateBy, mark, drain, laneOf, Junk, System, live, down, Design, happens}
+use Rattle.crash.specs.Events.{Event, format, writeBack, call, recover, fails, failsInDrain, failsAfterDrain, failsInRecovery}
+use Rattle.crash.specs.Events.{Reply, answered, recovered, failed, ignored}
+use Rattle.crash.specs.History.{History, blankPage, isBelow, wordsBelow, leastFloorOf, fed}
+
+-- ---- a store with its history, after an event and after a list of them
+pub record World : Type 0 where
+  pub system : System
+  pub history : History
+
+unfoldable pub nextWorld : Design → Sizes → World → Event → World
+nextWorld d z w e =
+    let a = happens d z (w .system) e in
+    record { system = a .system; history = fed z e (a .reply) (a .found) (w .history) }
+
+unfoldable pub worldAfter : Design → Sizes → World → List Event → World
+worldAfter d z w [] = w
+worldAfter d z w (e ∷ es) = worldAfter d z (nextWorld d z w e) es
+
+-- is a call answered, and not refused
+unfoldable pub isDone : Reply → Bool
+isDone (answered a) = not (said a .refused)
+isDone (recovered r) = false
+isDone (failed d) = false
+isDone ignored = false
+
+-- ---- a recovery that has finished leaves the words with the commits below some timestamp, and every commit below `kept` is below that one
+pub record Keeps (z : Sizes) (h : History) (kept : Timestamp) (m : Machine) : Type 0 where
+  pub boundary : Timestamp
+  pub nvm : dataOf z (m .nvm) ≡ wordsBelow z boundary h
+  pub cache : dataOf z (m .cache) ≡ wordsBelow z boundary h
+  pub keeps : (s : ℕ) → isBelow kept s ≡ true → isBelow boundary s ≡ true
+
+-- only a store with a record has finished
+abbrev pub KeptBy : Sizes → History → (kept : Timestamp) → System → Recovered → Type 0
+KeptBy z h kept y (Refused n) = Unit {0}
+KeptBy z h kept y Cut = Unit {0}
+KeptBy z h kept (live m) (Finished a) = Keeps z h kept m
+KeptBy z h kept (down nvm j found) (Finished a) = ⊥
+
+abbrev pub Kept : Sizes → History → (kept : Timestamp) → System → Reply → Type 0
+Kept z h kept y (answered a) = Unit {0}
+Kept z h kept y (recovered r) = KeptBy z h kept y r
+Kept z h kept y (failed d) = Unit {0}
+Kept z h kept y ignored = Unit {0}
+
+-- ---- a commit that can no longer be lost
+-- events that may start anew: Format, and a recovery that may finish. One that power cuts short is a failure, and goes on
+unfoldable pub mayStart : Event → Bool
+mayStart (format start) = true
+mayStart (writeBack i) = false
+mayStart (call c) = false
+mayStart (recover limit j) = true
+mayStart (fails j) = false
+mayStart (failsInDrain c is j) = false
+mayStart (failsAfterDrain c j) = false
+mayStart (failsInRecovery n j) = false
+
+unfoldable pub goesOn : List Event → Bool
+goesOn [] = true
+goesOn (e ∷ es) = not (mayStart e) && goesOn es
+
+-- once the least floor is above s, a timestamp that was given, or no lane has a floor, recovery keeps every commit up to s, whatever happens until then
+unfoldable pub SafeTheorem : Design → Type 0
+SafeTheorem d =
+    (z : Sizes) (start : List ℕ) (m : Machine) (h : History) → formatRefusal z start m ≡ 0
+    → (es fs : List Event) (s : ℕ) →
+    let a = worldAfter d z (record { system = live m; history = h }) (format start ∷ es) in
+    let b = worldAfter d z a fs in
+    s ≤ a .history .clock → isBelow (leastFloorOf (a .history .pages)) s ≡ true → goesOn fs ≡ true
+    → (limit : ℕ) (j : Junk) → let r = happens d z (b .system) (recover limit j) in
+    Kept z (b .history) (At (s + 1)) (r .system) (r .reply)
+
+-- ---- a lane that stays idle: no step of it is called; it may be drained, and anything may happen to the rest of the store
+unfoldable pub isDrain : Call → Bool
+isDrain (logBy r L f) = false
+isDrain (redo L) = false
+isDrain (validateBy r L f) = false
+isDrain (mark L) = false
+isDrain (drain L) = true
+
+unfoldable pub isIdle : ℕ → Event → Bool
+isIdle L (format start) = true
+isIdle L (writeBack i) = true
+isIdle L (call c) = isDrain c || not (eqb (laneOf c) L)
+isIdle L (recover limit j) = true
+isIdle L (fails j) = true
+isIdle L (failsInDrain c is j) = true
+isIdle L (failsAfterDrain c j) = true
+isIdle L (failsInRecovery n j) = true
+
+unfoldable pub staysIdle : ℕ → List Event → Bool
+staysIdle L [] = true
+staysIdle L (e ∷ es) = isIdle L e && staysIdle L es
+
+-- the least floor of the lanes but L
+unfoldable pub othersFloor : ℕ → History → Timestamp
+othersFloor L h = leastFloorOf (set h.pages L blankPage)
+
+-- lane L is marked, and drained later, and stays idle between the two and afterwards: then a recovery that finishes, whatever happened since and wherever
+-- power was cut, keeps every commit below the least floor of the other lanes, and every commit where these have none
+unfoldable pub IdleTheorem : Design → Type 0
+IdleTheorem d =
+    (z : Sizes) (start : List ℕ) (m : Machine) (h : History) → formatRefusal z start m ≡ 0
+    → (L : ℕ) (es fs gs : List Event) →
+    let a = worldAfter d z (record { system = live m; history = h }) (format start ∷ es) in
+    let b = worldAfter d z (nextWorld d z a (call (mark L))) fs in
+    let c = worldAfter d z (nextWorld d z b (call (drain L))) gs in
+    isDone (happens d z (a .system) (call (mark L)) .reply) ≡ true → staysIdle L fs ≡ true
+    → isDone (happens d z (b .system) (call (drain L)) .reply) ≡ true → staysIdle L gs ≡ true
+    → (limit : ℕ) (j : Junk) → let r = happens d z (c .system) (recover limit j) in
+    Kept z (c .history) (othersFloor L (c .history)) (r .system) (r .reply)
