@@ -40,14 +40,14 @@
  * What a power cut can lose. Recovery looks in each lane's log in nvm for the newest timestamp that has all its entries. The lane gives this timestamp, or nothing where it is a
  * mark, which closes no entries. The least that is given is the boundary: all sequences at or above it are undone, those of marked lanes too, and commits below it stay. Where no
  * lane gives one, nothing is undone and every commit stays.
- * In the record each lane has a floor or none: at no cut does the lane give less than its floor, and without one it gives nothing. So a commit is safe, at this cut and at every
- * later one, as soon as each lane that has a floor has it above the commit's timestamp.
+ * In the record each lane has a floor or none: at no cut does the lane give less than its floor, and without one it gives nothing. So a commit is safe from then on, at every later
+ * cut, once each lane that has a floor has it above the commit's timestamp. (This and what follows is proved of stores from Format on.)
  *   A drain of the lane, also the one that each of its steps begins with, makes the floor the newest timestamp in the lane's log, where there is one, and ends the floor where that
- *   is a mark. Where a lane has no floor, the next timestamp that Log or Mark appends sets it: a mark is the floor until it is drained.
+ *   is a mark. Where a lane has no floor, the next timestamp that Log or Mark appends sets it; a Mark's own is then the floor until it is drained.
  *   A drain alone does not make a commit safe: the floor of its lane is then the commit's own timestamp, and what is at the boundary is undone. A Mark and then a Drain of the lane
  *   end the floor; a later logged transaction and then a Drain raise it above the commit.
- *   A lane that was marked and then drained, and has made no step but drains since, delays nobody: from that drain on the commits of the other lanes become safe by those lanes' own
- *   steps and drains alone. The next timestamp that is appended to its log gives it a floor again.
+ *   A lane that is drained after a Mark, and of which no step was called in between or since, delays nobody: from that drain on the commits of the other lanes become safe by those
+ *   lanes' own steps and drains alone. The next timestamp that is appended to its log gives it a floor again.
  *
  * Refusals, the lowest number wins, but 14 comes before 10:
  *    1 a size out of range, or a slice of another length      6 Log on a lane that holds a transaction

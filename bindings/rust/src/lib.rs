@@ -155,7 +155,7 @@ pub struct Mark {
 pub enum Recovery {
     /// Stores remain. The record is lost: only the same recovery or `format` may follow.
     Cut,
-    /// The boundary, none where no lane gave one and nothing was undone; how many entries were undone; how many log slots were torn in the non-volatile memory that this call found.
+    /// The boundary, none where no lane gave one and this call undid nothing; how many entries were undone; how many log slots were torn in the non-volatile memory that this call found.
     Finished { boundary: Option<u64>, undone: u64, torn: u64 },
 }
 
@@ -196,7 +196,7 @@ impl Store<'_> {
         taken(raw::write_back(words, lanes, slots, self.cache, self.nvm, self.flags, word))
     }
 
-    /// Copies every word that the lane has flushed to its cell. Its floor becomes the newest timestamp in its log, and ends where that is a mark.
+    /// Copies every word that the lane has flushed to its cell. Its floor becomes the newest timestamp in its log, where there is one, and ends where that is a mark.
     pub fn drain(&mut self, lane: usize) -> Result<(), Refusal> {
         let Sizes { words, lanes, slots } = self.sizes;
         taken(raw::drain(words, lanes, slots, self.cache, self.nvm, self.flags, self.record, lane))

@@ -1,5 +1,5 @@
 //! Power cuts after every call of pseudo-random runs, with write-backs in between: recovery leaves the commits below its boundary, no boundary is below the least floor, and a
-//! commit that is safe, as `include/vandzulge.h` says, stays. Now one lane is at work, now another; the others rest, marked and drained or not.
+//! commit that is safe, as `include/vandzulge.h` says, or ever was, stays. Now one lane is at work, now another; the others rest, marked and drained or not.
 
 mod common;
 
@@ -17,6 +17,8 @@ struct Run {
     commits: Vec<(u64, Vec<u64>)>,
     held: [Vec<u64>; LANES],
     marks: [Option<u64>; LANES],
+    /// the greatest timestamp of a commit that was safe at some time
+    safe: u64,
 }
 
 /// One to three SETs and ADDs.
@@ -38,7 +40,7 @@ fn run_on(words: &mut [u64], txn: &[u64]) {
 
 impl Run {
     fn at_start(world: World, start: Vec<u64>) -> Run {
-        Run { world, start, commits: vec![], held: Default::default(), marks: [None; LANES] }
+        Run { world, start, commits: vec![], held: Default::default(), marks: [None; LANES], safe: 0 }
     }
 
     fn floor(&self, lane: usize) -> Option<u64> {
@@ -110,7 +112,10 @@ fn no_cut_loses_a_safe_commit() {
             for (stamp, txn) in &run.commits {
                 let stays = boundary.is_none_or(|boundary| *stamp < boundary);
                 let safe = floors.iter().all(|floor| floor > stamp);
-                assert!(stays || !safe, "the commit at {stamp} is lost: {place}");
+                if safe {
+                    run.safe = run.safe.max(*stamp);
+                }
+                assert!(stays || *stamp > run.safe, "the commit at {stamp} is lost: {place}");
                 if stays {
                     run_on(&mut words, txn);
                 }

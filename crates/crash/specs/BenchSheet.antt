@@ -1,4 +1,4 @@
--- The bench sheet's rows that are to be proved, as one table. SPECIFICATION, "Bench sheet". Assumes nothing.
+-- The bench sheet's rows that are to be proved, and two of marked lanes, as one table. SPECIFICATION, "Bench sheet". Assumes nothing.
 use Prim.Native.Nat.{ℕ, _-_, _^_}
 use mathlib.Core.Path.{_≡_}
 use mathlib.Core.List.{List, [], _∷_, _++_}

@@ -1,4 +1,4 @@
--- What users are promised beside the crash theorem, and follows from it: when a commit can no longer be lost, and that a lane which is marked and drained
+-- What users are promised beside the crash theorem; it follows from that: when a commit can no longer be lost, and that a lane which is marked and drained
 -- and then stays idle delays nobody. SPECIFICATION, "Corollaries". Assumes nothing.
 use Prim.Native.Nat.{ℕ, _+_, _≤_}
 use mathlib.Core.Bool.{Bool, true, false, not, _&&_, _||_}
@@ -12,6 +12,7 @@ use Rattle.log.specs.declared.Timestamp.{Timestamp}
 use Rattle.log.specs.declared.Timestamp.the-variants.{At}
 use Rattle.store.specs.Machine.{Machine, said}
 use Rattle.store.specs.Calls.{formatRefusal}
+use Rattle.recovery.specs.Recovery.{told}
 use Rattle.recovery.specs.declared.Recovered.{Recovered}
 use Rattle.recovery.specs.declared.Recovered.the-variants.{Refused, Cut, Finished}
 use Rattle.crash.specs.Events.{Call, logBy, redo, validateBy, mark, drain, laneOf, Junk, System, live, down, Design, happens}
@@ -61,29 +62,37 @@ Kept z h kept y (failed d) = Unit {0}
 Kept z h kept y ignored = Unit {0}
 
 -- ---- a commit that can no longer be lost
--- events that may start anew: Format, and a recovery that may finish. One that power cuts short is a failure, and goes on
-unfoldable pub mayStart : Event → Bool
-mayStart (format start) = true
-mayStart (writeBack i) = false
-mayStart (call c) = false
-mayStart (recover limit j) = true
-mayStart (fails j) = false
-mayStart (failsInDrain c is j) = false
-mayStart (failsAfterDrain c j) = false
-mayStart (failsInRecovery n j) = false
+-- does an event start anew: is it a Format that is taken, or a recovery that finishes
+unfoldable pub isFormat : Event → Bool
+isFormat (format start) = true
+isFormat (writeBack i) = false
+isFormat (call c) = false
+isFormat (recover limit j) = false
+isFormat (fails j) = false
+isFormat (failsInDrain c is j) = false
+isFormat (failsAfterDrain c j) = false
+isFormat (failsInRecovery n j) = false
 
-unfoldable pub goesOn : List Event → Bool
-goesOn [] = true
-goesOn (e ∷ es) = not (mayStart e) && goesOn es
+unfoldable pub startsAnew : Event → Reply → Bool
+startsAnew e (answered a) = isFormat e && not (said a .refused)
+startsAnew e (recovered r) = not (told r .refused || told r .cut)
+startsAnew e (failed d) = false
+startsAnew e ignored = false
 
--- once the least floor is above s, a timestamp that was given, or no lane has a floor, recovery keeps every commit up to s, whatever happens until then
+-- does none of these events
+unfoldable pub goesOn : Design → Sizes → World → List Event → Bool
+goesOn d z w [] = true
+goesOn d z w (e ∷ es) = not (startsAnew e (happens d z (w .system) e .reply)) && goesOn d z (nextWorld d z w e) es
+
+-- once the least floor is above s, which is not above the clock, or no lane has a floor: whatever happens until the next start, a recovery that then
+-- finishes keeps every commit up to s
 unfoldable pub SafeTheorem : Design → Type 0
 SafeTheorem d =
     (z : Sizes) (start : List ℕ) (m : Machine) (h : History) → formatRefusal z start m ≡ 0
     → (es fs : List Event) (s : ℕ) →
     let a = worldAfter d z (record { system = live m; history = h }) (format start ∷ es) in
     let b = worldAfter d z a fs in
-    s ≤ a .history .clock → isBelow (leastFloorOf (a .history .pages)) s ≡ true → goesOn fs ≡ true
+    s ≤ a .history .clock → isBelow (leastFloorOf (a .history .pages)) s ≡ true → goesOn d z a fs ≡ true
     → (limit : ℕ) (j : Junk) → let r = happens d z (b .system) (recover limit j) in
     Kept z (b .history) (At (s + 1)) (r .system) (r .reply)
 

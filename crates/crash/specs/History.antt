@@ -25,8 +25,8 @@ use Rattle.crash.specs.Events.{Reply, answered, recovered, failed, ignor
 -- a lane's newest timestamp: unset at a start, one that closes entries, or a mark's
 pub data Newest : Type 0 where
   unset : Newest
-  closing : (stamp : ℕ) → Newest
-  marking : (stamp : ℕ) → Newest
+  closingAt : (stamp : ℕ) → Newest
+  markAt : (stamp : ℕ) → Newest
 
 -- a lane's page: the transaction it holds, its newest timestamp, its floor
 pub record Page : Type 0 where
@@ -77,8 +77,8 @@ floorOr (At a) b = At a
 -- a lane's floor after a drain
 unfoldable pub floorOnDrain : Newest → Timestamp → Timestamp
 floorOnDrain unset floor = floor
-floorOnDrain (closing s) floor = At s
-floorOnDrain (marking s) floor = None
+floorOnDrain (closingAt s) floor = At s
+floorOnDrain (markAt s) floor = None
 
 -- a drain of lane L: its newest timestamp, if any, becomes its floor; a mark's ends it
 unfoldable pub settled : ℕ → History → History
@@ -123,10 +123,10 @@ isCounted (n ∷ ns) = leb 1 n
 
 -- a call that was taken, by what it answered
 unfoldable pub taken : Call → Said → History → History
-taken (logBy r L f) t h = cond (isCounted t.count) (stamped L closing (some f) [] (settled L h)) (settled L h)
-taken (redo L) t h = cond t.stale (settled L h) (stamped L closing none (heldBy (pageAt h L .held)) (settled L h))
-taken (validateBy r L f) t h = cond t.changed (released L (settled L h)) (stamped L closing none (f ∷ []) (settled L h))
-taken (mark L) t h = stamped L marking none [] (settled L h)
+taken (logBy r L f) t h = cond (isCounted t.count) (stamped L closingAt (some f) [] (settled L h)) (settled L h)
+taken (redo L) t h = cond t.stale (settled L h) (stamped L closingAt none (heldBy (pageAt h L .held)) (settled L h))
+taken (validateBy r L f) t h = cond t.changed (released L (settled L h)) (stamped L closingAt none (f ∷ []) (settled L h))
+taken (mark L) t h = stamped L markAt none [] (settled L h)
 taken (drain L) t h = settled L h
 
 -- a finished recovery that started from these cut cells
@@ -180,14 +180,14 @@ present z h = wordsBelow z None h
 unfoldable pub writesNow : Sizes → List ℕ → History → List Write
 writesNow z f h = run z.words f (present z h)
 
-unfoldable pub stampOf : Newest → Timestamp
-stampOf unset = None
-stampOf (closing s) = At s
-stampOf (marking s) = At s
+unfoldable pub newestStamp : Newest → Timestamp
+newestStamp unset = None
+newestStamp (closingAt s) = At s
+newestStamp (markAt s) = At s
 
 -- the writes that lane L has logged: those of the transaction that it holds, on the words before its timestamp
 unfoldable pub writesLogged : Sizes → ℕ → History → List Write
-writesLogged z L h = elim (pageAt h L .held) [ none ↦ [] | some f ↦ run z.words f (wordsBelow z (stampOf (pageAt h L .newest)) h) ]
+writesLogged z L h = elim (pageAt h L .held) [ none ↦ [] | some f ↦ run z.words f (wordsBelow z (newestStamp (pageAt h L .newest)) h) ]
 
 -- the same words and old values, in the same order
 unfoldable pub sameOlds : List Write → List Write → Bool
@@ -241,7 +241,7 @@ unfoldable pub takenAnswer : Sizes → Call → History → Answer
 takenAnswer z (logBy r L f) h =
     let n = length (writesNow z f h) in
     cond (eqb n 0) answer.NoWrites (answer.Logged (record { count = n; stamp = h.clock + 2 }))
-takenAnswer z (redo L) h = cond (commitAbove (stampOf (pageAt h L .newest)) h.commits) answer.Stale (answer.Committed (h.clock + 2))
+takenAnswer z (redo L) h = cond (commitAbove (newestStamp (pageAt h L .newest)) h.commits) answer.Stale (answer.Committed (h.clock + 2))
 takenAnswer z (validateBy r L f) h =
     cond (sameOlds (writesNow z f h) (writesLogged z L h)) (answer.Committed (h.clock + 2)) answer.Changed
 takenAnswer z (mark L) h = answer.Marked (record { stamp = h.clock + 2; dropped = holdsOne L h })

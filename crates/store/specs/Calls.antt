@@ -42,7 +42,7 @@ notLogged L m = record { number = 7; holds = not (isLogged (laneAt m.state L .ph
 unfoldable pub clockSpent : Machine → Cause
 clockSpent m = record { number = 8; holds = spent m.state }
 
--- ---- a drain of lane L: its flushed words reach non-volatile memory, its floor moves
+-- ---- a drain of lane L: its flushed words reach non-volatile memory, its floor moves or ends
 unfoldable pub drained : Sizes → ℕ → Machine → Machine
 drained z L m =
     record {

@@ -29,7 +29,7 @@ use Rattle.record.specs.declared.Phase.{Phase}
 use Rattle.record.specs.declared.Phase.the-variants.{Idle, Holds}
 use Rattle.store.specs.Machine.{Machine}
 use Rattle.store.specs.Calls.{entryMatches, entriesMatch}
-use Rattle.crash.specs.History.{closing, stampOf, Commit, History, pageAt, writesLogged, sameOlds, isAbove, commitAbove}
+use Rattle.crash.specs.History.{closingAt, newestStamp, Commit, History, pageAt, writesLogged, sameOlds, isAbove, commitAbove}
 use Rattle.crash.specs.Theorem.{Live}
 use Rattle.crash.proofs.recovery.Data.{Rising, last, then}
 use Rattle.crash.proofs.lane.Newest.{newestOf}
@@ -53,7 +53,7 @@ pub record Holding (z : Sizes) (base : ℕ) (h : History) (m : Machine) (L : ℕ
   pub txn : List ℕ
   pub held : pageAt h L .held ≡ some txn
   pub ok : txnBy former maxWrites z.words txn ≡ true
-  pub newest : pageAt h L .newest ≡ closing (g .stamp)
+  pub newest : pageAt h L .newest ≡ closingAt (g .stamp)
   pub above : base ≤ g .stamp
   pub upto : g .stamp ≤ h .clock
   -- its timestamp is no commit's
@@ -74,7 +74,7 @@ pub record Book (z : Sizes) (base : ℕ) (h : History) (m : Machine) : Type 0 wh
   pub upto : All (λ c. c .stamp ≤ h .clock) (h .commits)
   pub low : base ≤ h .clock
   pub last : m .state .last ≡ lastOf base (h .commits)
-  pub stamps : (L s : ℕ) → L < z.lanes → stampOf (pageAt h L .newest) ≡ At s → stampOk (h .clock) s ≡ true
+  pub stamps : (L s : ℕ) → L < z.lanes → newestStamp (pageAt h L .newest) ≡ At s → stampOk (h .clock) s ≡ true
   pub holding : (L : ℕ) (g : Logged) → L < z.lanes → laneAt (m .state) L .phase ≡ Holds g → Holding z base h m L g
 
 -- ---- what the cached logs must say

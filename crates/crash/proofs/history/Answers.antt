@@ -23,7 +23,7 @@ use Rattle.store.specs.Calls.{drained, writesOn, isStale, entriesMatch, matches
 use Rattle.store.specs.declared.Answer.{Answer}
 use Rattle.store.specs.declared.Answer.the-variants.{Refused}
 use Rattle.crash.specs.Events.{Call, logBy, redo, validateBy, mark, laneOf, callStep}
-use Rattle.crash.specs.History.{Newest, unset, stampOf, History, pageAt, settled, leastFloorOf}
+use Rattle.crash.specs.History.{Newest, unset, newestStamp, History, pageAt, settled, leastFloorOf}
 use Rattle.crash.specs.History.{writesLogged, sameOlds, commitAbove, slotsBy, takenAnswer}
 use Rattle.crash.specs.Theorem.{isFull, refusalBy, answerBy, Answers}
 use Rattle.crash.proofs.recovery.Data.{oldsOf}
@@ -64,13 +64,13 @@ module _ (z : Sizes) (base : ℕ) (h : History) (m : Machine) (b : Book z base h
     pub holds-it : Holding z base h m L (loggedIn (laneAt (m .state) L .phase))
     holds-it = b .holding L (loggedIn (laneAt (m .state) L .phase)) lane (is-held (laneAt (m .state) L .phase) held)
 
-    pub same-stale : isStale L m ≡ commitAbove (stampOf (pageAt h L .newest)) (h .commits)
-    unfolding isStale stampOf
+    pub same-stale : isStale L m ≡ commitAbove (newestStamp (pageAt h L .newest)) (h .commits)
+    unfolding isStale newestStamp
     same-stale =
         let g = loggedIn (laneAt (m .state) L .phase) in
         ap (ltb (g .stamp)) (b .last)
         ∙ sym (above-last base (g .stamp) (holds-it .above) (b .rising))
-        ∙ ap (λ (n : Newest). commitAbove (stampOf n) (h .commits)) (sym (holds-it .newest))
+        ∙ ap (λ (n : Newest). commitAbove (newestStamp n) (h .commits)) (sym (holds-it .newest))
 
     pub same-matches : (ws : List Write) → matches z L ws m ≡ sameOlds ws (writesLogged z L h)
     unfolding matches

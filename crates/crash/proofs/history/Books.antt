@@ -36,7 +36,7 @@ use Rattle.record.specs.declared.Lane.{Lane}
 use Rattle.store.specs.Machine.{Machine}
 use Rattle.store.specs.Calls.{drained, changed, writesOn, appended, logged, committed, isStale, redoPairs}
 use Rattle.store.specs.Calls as calls
-use Rattle.crash.specs.History.{Newest, unset, closing, marking, stampOf, Commit, Page, History, pageAt, isBelow, replay, isSome, wordsBelow, present}
+use Rattle.crash.specs.History.{Newest, unset, closingAt, markAt, newestStamp, Commit, Page, History, pageAt, isBelow, replay, isSome, wordsBelow, present}
 use Rattle.crash.specs.History.{floorOr, floorOnDrain, settled, stamped, released, heldBy, isAbove, commitAbove, writesLogged}
 use Rattle.crash.proofs.recovery.Data.{length-replay, replay-snoc, replay-all}
 use Rattle.crash.proofs.induction.Moves.{Known, Ready}
@@ -68,7 +68,7 @@ pub record Moved (z : Sizes) (base : ℕ) (L : ℕ) (h k : History) (m n : Machi
   pub range : LaneIn z (k .clock) lane
   pub floor : lane .floor ≡ page .floor
   pub held : isLogged (lane .phase) ≡ isSome (page .held)
-  pub newest : (s : ℕ) → stampOf (page .newest) ≡ At s → stampOk (k .clock) s ≡ true
+  pub newest : (s : ℕ) → newestStamp (page .newest) ≡ At s → stampOk (k .clock) s ≡ true
   pub holding : (g : Logged) → lane .phase ≡ Holds g → Holding z base k n L g
 
 module _ (z : Sizes) (base : ℕ) (L : ℕ) (lane : L < z.lanes) (h k : History) (m n : Machine) (b : Book z base h m) (v : Moved z base L h k m n) where
@@ -110,10 +110,10 @@ module _ (z : Sizes) (base : ℕ) (L : ℕ) (lane : L < z.lanes) (h k : History)
         upto = upto-onward z h k (v .onward) (b .upto);
         low = le-trans (b .low) (v .onward .clock);
         last = v .last;
-        stamps = λ M s i e. lane-cases (λ M. (s : ℕ) → M < z.lanes → stampOf (pageAt k M .newest) ≡ At s → stampOk (k .clock) s ≡ true) L
-            (λ s i e. v .newest s (ap (λ (p : Page). stampOf (p .newest)) (sym (v .pages .here)) ∙ e))
+        stamps = λ M s i e. lane-cases (λ M. (s : ℕ) → M < z.lanes → newestStamp (pageAt k M .newest) ≡ At s → stampOk (k .clock) s ≡ true) L
+            (λ s i e. v .newest s (ap (λ (p : Page). newestStamp (p .newest)) (sym (v .pages .here)) ∙ e))
             (λ M d s i e. stamp-later (h .clock) (k .clock) s (v .onward .clock)
-            (b .stamps M s i (ap (λ (p : Page). stampOf (p .newest)) (sym (v .pages .others M d)) ∙ e)))
+            (b .stamps M s i (ap (λ (p : Page). newestStamp (p .newest)) (sym (v .pages .others M d)) ∙ e)))
             M s i e;
         holding = λ M g i e. lane-cases (λ M. (g : Logged) → M < z.lanes → laneAt (n .state) M .phase ≡ Holds g → Holding z base k n M g) L
             (λ g i e. v .holding g (ap (λ (l : Lane). l .phase) (sym (v .lanes .here)) ∙ e))
@@ -127,12 +127,12 @@ module _ (z : Sizes) (base : ℕ) (L : ℕ) (lane : L < z.lanes) (h k : History)
       }
 
 -- ---- a drain
-drain-ok : (c : ℕ) (n : Newest) (f : Timestamp) → ((s : ℕ) → stampOf n ≡ At s → stampOk c s ≡ true) → floorOk c f ≡ true
+drain-ok : (c : ℕ) (n : Newest) (f : Timestamp) → ((s : ℕ) → newestStamp n ≡ At s → stampOk c s ≡ true) → floorOk c f ≡ true
     → floorOk c (floorOnDrain n f) ≡ true
-unfolding floorOnDrain floorOk stampOf
+unfolding floorOnDrain floorOk newestStamp
 drain-ok c unset f h e = e
-drain-ok c (closing s) f h e = h s refl
-drain-ok c (marking s) f h e = refl
+drain-ok c (closingAt s) f h e = h s refl
+drain-ok c (markAt s) f h e = refl
 
 newest-stamp : (c s : ℕ) (t : Timestamp) → c % 2 ≡ 0 → t ≡ At c → t ≡ At s → stampOk c s ≡ true
 newest-stamp c s t e p q = let d : c ≡ s = cc in rw (sym d) (stamp-now c e)
@@ -218,7 +218,7 @@ module _ (z : Sizes) (base : ℕ) (L : ℕ) (lane : L < z.lanes) (h : History) (
   present-stamped kind held = ap (λ (cs : List Commit). replay z.words None cs (h .start)) (append-nil (h .commits))
 
   moved-appended : (ws : List Write) (phase : Phase) (redo : List Pair) (kind : ℕ → Newest) (held : Option (List ℕ))
-      → ((s : ℕ) → stampOf (kind s) ≡ At s) → phaseOk z (h .clock + 2) redo phase ≡ true → isLogged phase ≡ isSome held
+      → ((s : ℕ) → newestStamp (kind s) ≡ At s) → phaseOk z (h .clock + 2) redo phase ≡ true → isLogged phase ≡ isSome held
       → ((g : Logged) → phase ≡ Holds g → Holding z base (stamped L kind held [] h) (appended z L ws phase redo m) L g)
       → Moved z base L h (stamped L kind held [] h) m (appended z L ws phase redo m)
   unfolding stamped appended changed appendedLane withLane withClock
@@ -255,7 +255,7 @@ module _ (z : Sizes) (base : ℕ) (L : ℕ) (lane : L < z.lanes) (h : History) (
       replay-all z.words (h .clock + 2) (stamped L kind held [] h .start) (All-map (λ c i. omega (arith, i)) (stamped-upto kind held))
 
   pub book-appended : (ws : List Write) (phase : Phase) (redo : List Pair) (kind : ℕ → Newest) (held : Option (List ℕ))
-      → ((s : ℕ) → stampOf (kind s) ≡ At s) → phaseOk z (h .clock + 2) redo phase ≡ true → isLogged phase ≡ isSome held
+      → ((s : ℕ) → newestStamp (kind s) ≡ At s) → phaseOk z (h .clock + 2) redo phase ≡ true → isLogged phase ≡ isSome held
       → ((g : Logged) → phase ≡ Holds g → Holding z base (stamped L kind held [] h) (appended z L ws phase redo m) L g)
       → Book z base (stamped L kind held [] h) (appended z L ws phase redo m)
   book-appended ws phase redo kind held stamps ranged both holds =
@@ -284,47 +284,47 @@ module _ (z : Sizes) (base : ℕ) (L : ℕ) (lane : L < z.lanes) (h : History) (
         some-write writes-few (let k = even-now in omega arith) writes-low (pairs-cut (length (writesOn z f m)) maxWrites (writesOn z f m) writes-few))
 
     -- what is logged now is what the history's lane has logged
-    logged-writes : writesLogged z L (stamped L closing (some f) [] h) ≡ writesOn z f m
+    logged-writes : writesLogged z L (stamped L closingAt (some f) [] h) ≡ writesOn z f m
     unfolding writesOn
     logged-writes =
-        let p = page-stamped L h in-pages closing (some f) [] in
-        writes-held z (stamped L closing (some f) [] h) L f (h .clock + 2) (ap (λ (p : Page). p .held) (p .here)) (ap (λ (p : Page). p .newest) (p .here))
-        ∙ ap (run z.words f) (below-next closing (some f) ∙ present-stamped closing (some f) ∙ sym (b .live .words))
+        let p = page-stamped L h in-pages closingAt (some f) [] in
+        writes-held z (stamped L closingAt (some f) [] h) L f (h .clock + 2) (ap (λ (p : Page). p .held) (p .here)) (ap (λ (p : Page). p .newest) (p .here))
+        ∙ ap (run z.words f) (below-next closingAt (some f) ∙ present-stamped closingAt (some f) ∙ sym (b .live .words))
 
-    clock-stamped : m .state .clock ≡ h .clock → m .state .clock + 2 ≤ stamped L closing (some f) [] h .clock
+    clock-stamped : m .state .clock ≡ h .clock → m .state .clock + 2 ≤ stamped L closingAt (some f) [] h .clock
     unfolding stamped
     clock-stamped c = omega arith
 
-    logged-holding : Holding z base (stamped L closing (some f) [] h) (logged z L (writesOn z f m) m) L held-now
+    logged-holding : Holding z base (stamped L closingAt (some f) [] h) (logged z L (writesOn z f m) m) L held-now
     unfolding logged appendedLane
     logged-holding =
-        let k = stamped L closing (some f) [] h in
-        let p = page-stamped L h in-pages closing (some f) [] in
+        let k = stamped L closingAt (some f) [] h in
+        let p = page-stamped L h in-pages closingAt (some f) [] in
         let a = lane-appended z L m in-lanes (writesOn z f m) (Holds held-now) (pairsOf maxWrites (writesOn z f m)) in
         let c = b .live .clock in
         record {
           txn = f;
           held = ap (λ (p : Page). p .held) (p .here);
           ok = ok;
-          newest = ap (λ (p : Page). p .newest) (p .here) ∙ ap (λ (s : ℕ). closing (s + 2)) (sym c);
+          newest = ap (λ (p : Page). p .newest) (p .here) ∙ ap (λ (s : ℕ). closingAt (s + 2)) (sym c);
           above = omega (arith, b .low, c);
           upto = clock-stamped c;
-          apart = All-map (λ d i e. omega (arith, c, i)) (stamped-upto closing (some f));
+          apart = All-map (λ d i e. omega (arith, c, i)) (stamped-upto closingAt (some f));
           count = ap length (sym logged-writes);
           redo = ap (λ (l : Lane). take (length (writesOn z f m)) (l .redo)) (a .here)
               ∙ pairs-cut (length (writesOn z f m)) maxWrites (writesOn z f m) writes-few ∙ ap (pairsOf (length (writesOn z f m))) (sym logged-writes);
         }
 
-    pub book-logged : Book z base (stamped L closing (some f) [] h) (logged z L (writesOn z f m) m)
-    unfolding logged isLogged isSome stampOf
+    pub book-logged : Book z base (stamped L closingAt (some f) [] h) (logged z L (writesOn z f m) m)
+    unfolding logged isLogged isSome newestStamp
     book-logged =
-        book-appended (writesOn z f m) (Holds held-now) (pairsOf maxWrites (writesOn z f m)) closing (some f) (λ s. refl) logged-ranged refl
-        (λ g e. let q : held-now ≡ g = cc in subst (Holding z base (stamped L closing (some f) [] h) (logged z L (writesOn z f m) m) L) q logged-holding)
+        book-appended (writesOn z f m) (Holds held-now) (pairsOf maxWrites (writesOn z f m)) closingAt (some f) (λ s. refl) logged-ranged refl
+        (λ g e. let q : held-now ≡ g = cc in subst (Holding z base (stamped L closingAt (some f) [] h) (logged z L (writesOn z f m) m) L) q logged-holding)
 
   -- ---- Mark
-  pub book-marked : (redo : List Pair) → Book z base (stamped L marking none [] h) (appended z L [] Idle redo m)
-  unfolding phaseOk isLogged isSome stampOf
-  book-marked redo = book-appended [] Idle redo marking none (λ s. refl) refl refl (λ g e. not-held Idle g refl e)
+  pub book-marked : (redo : List Pair) → Book z base (stamped L markAt none [] h) (appended z L [] Idle redo m)
+  unfolding phaseOk isLogged isSome newestStamp
+  book-marked redo = book-appended [] Idle redo markAt none (λ s. refl) refl refl (λ g e. not-held Idle g refl e)
 
   -- ---- a lane that is idle again
   idle-range : (c : ℕ) → h .clock ≤ c → LaneIn z c (idleLane (laneAt (m .state) L))
@@ -365,11 +365,11 @@ module _ (z : Sizes) (base : ℕ) (L : ℕ) (lane : L < z.lanes) (h : History) (
     abbrev its : List Write
     its = run z.words f (dataOf z (m .cache))
 
-    present-commit : present z (stamped L closing none (f ∷ []) h) ≡ after z.words f (present z h)
+    present-commit : present z (stamped L closingAt none (f ∷ []) h) ≡ after z.words f (present z h)
     unfolding present wordsBelow stamped isBelow
     present-commit = replay-snoc z.words None (h .commits) (record { stamp = h .clock + 2; txn = f }) (h .start)
 
-    words-commit : dataOf z (committed z L (pairsOf (length its) its) m .cache) ≡ present z (stamped L closing none (f ∷ []) h)
+    words-commit : dataOf z (committed z L (pairsOf (length its) its) m .cache) ≡ present z (stamped L closingAt none (f ∷ []) h)
     unfolding after
     words-commit =
         data-committed z L its m (run-low former maxWrites z.words f (dataOf z (m .cache)) ok)
@@ -379,14 +379,14 @@ module _ (z : Sizes) (base : ℕ) (L : ℕ) (lane : L < z.lanes) (h : History) (
     unfolding floorOr
     floor-stays t e = rw e
 
-    moved-committed : Moved z base L h (stamped L closing none (f ∷ []) h) m (committed z L (pairsOf (length its) its) m)
-    unfolding stamped committed changed withLane withClock withLast idleLane isLogged isSome stampOf
+    moved-committed : Moved z base L h (stamped L closingAt none (f ∷ []) h) m (committed z L (pairsOf (length its) its) m)
+    unfolding stamped committed changed withLane withClock withLast idleLane isLogged isSome newestStamp
     moved-committed =
         record {
           lane = idleLane (laneAt (m .state) L);
-          page = record { held = none; newest = closing (h .clock + 2); floor = floorOr (pageAt h L .floor) (At (h .clock + 2)) };
+          page = record { held = none; newest = closingAt (h .clock + 2); floor = floorOr (pageAt h L .floor) (At (h .clock + 2)) };
           lanes = lane-committed z L m in-lanes (pairsOf (length its) its);
-          pages = page-stamped L h in-pages closing none (f ∷ []);
+          pages = page-stamped L h in-pages closingAt none (f ∷ []);
           onward = onward-commit L f h;
           in-cache = length-stored _ (m .cache);
           in-nvm = refl;
@@ -403,8 +403,8 @@ module _ (z : Sizes) (base : ℕ) (L : ℕ) (lane : L < z.lanes) (h : History) (
           holding = λ g e. not-held Idle g refl e;
         }
 
-    pub book-committed : Book z base (stamped L closing none (f ∷ []) h) (committed z L (pairsOf (length its) its) m)
-    book-committed = book-moved z base L lane h (stamped L closing none (f ∷ []) h) m (committed z L (pairsOf (length its) its) m) b moved-committed
+    pub book-committed : Book z base (stamped L closingAt none (f ∷ []) h) (committed z L (pairsOf (length its) its) m)
+    book-committed = book-moved z base L lane h (stamped L closingAt none (f ∷ []) h) m (committed z L (pairsOf (length its) its) m) b moved-committed
 
 -- ---- the start words
 pub start-long : (z : Sizes) (base : ℕ) (h : History) (m : Machine) → Book z base h m → length (h .start) ≡ z.words
@@ -427,11 +427,11 @@ module _ (z : Sizes) (base : ℕ) (h : History) (m : Machine) (b : Book z base h
     book-drains = book-drained z base L (k .lane) h m b l
 
     pub book-logs : (f : List ℕ) → txnBy former maxWrites z.words f ≡ true → 0 < length (writesOn z f m)
-        → Book z base (stamped L closing (some f) [] (settled L h)) (logged z L (writesOn z f m) (drained z L m))
+        → Book z base (stamped L closingAt (some f) [] (settled L h)) (logged z L (writesOn z f m) (drained z L m))
     unfolding drained writesOn
     book-logs f ok some-write = book-logged z base L (k .lane) (settled L h) (drained z L m) book-drains f ok some-write
 
-    pub book-marks : Book z base (stamped L marking none [] (settled L h)) (appended z L [] Idle (laneAt (m .state) L .redo) (drained z L m))
+    pub book-marks : Book z base (stamped L markAt none [] (settled L h)) (appended z L [] Idle (laneAt (m .state) L .redo) (drained z L m))
     book-marks = book-marked z base L (k .lane) (settled L h) (drained z L m) book-drains (laneAt (m .state) L .redo)
 
     pub book-gives-up : Book z base (released L (settled L h)) (calls.released L (drained z L m))
@@ -449,20 +449,20 @@ module _ (z : Sizes) (base : ℕ) (h : History) (m : Machine) (b : Book z base h
           ap (λ (p : Page). p .floor) (page-settled L h (rw (b .pages) (k .lane)) .here) ∙ rw (v .newest)
 
       pub book-validates : (f : List ℕ) → txnBy former maxWrites z.words f ≡ true
-          → Book z base (stamped L closing none (f ∷ []) (settled L h)) (committed z L (pairsOf (length (writesOn z f m)) (writesOn z f m)) (drained z L m))
+          → Book z base (stamped L closingAt none (f ∷ []) (settled L h)) (committed z L (pairsOf (length (writesOn z f m)) (writesOn z f m)) (drained z L m))
       unfolding drained writesOn
       book-validates f ok = book-committed z base L (k .lane) (settled L h) (drained z L m) book-drains f ok (it .stamp) floor-drained
 
       -- a Redo that is not stale writes what its transaction writes now
       pub redo-now : isStale L m ≡ false → writesLogged z L h ≡ writesOn z (holds-it z base h m b l L (k .lane) (y .held) .txn) m
-      unfolding writesOn present wordsBelow stampOf
+      unfolding writesOn present wordsBelow newestStamp
       redo-now t =
           let v = holds-it z base h m b l L (k .lane) (y .held) in
           let e = sym (same-stale z base h m b l L (k .lane) (y .held)) ∙ t in
           writes-held z h L (v .txn) (it .stamp) (v .held) (v .newest)
           ∙ ap (run z.words (v .txn))
           (replay-all z.words (it .stamp) (h .start)
-          (all-below (it .stamp) (ap (λ (n : Newest). commitAbove (stampOf n) (h .commits)) (sym (v .newest)) ∙ e) (v .apart))
+          (all-below (it .stamp) (ap (λ (n : Newest). commitAbove (newestStamp n) (h .commits)) (sym (v .newest)) ∙ e) (v .apart))
           ∙ sym (b .live .words))
 
       pub redo-held : heldBy (pageAt h L .held) ≡ holds-it z base h m b l L (k .lane) (y .held) .txn ∷ []
@@ -478,7 +478,7 @@ module _ (z : Sizes) (base : ℕ) (h : History) (m : Machine) (b : Book z base h
           v .redo ∙ ap (λ (n : ℕ). pairsOf n (writesLogged z L h)) (v .count) ∙ ap (λ (ws : List Write). pairsOf (length ws) ws) (redo-now t)
 
       pub book-redoes : isStale L m ≡ false
-          → Book z base (stamped L closing none (heldBy (pageAt h L .held)) (settled L h)) (committed z L (redoPairs L m) (drained z L m))
+          → Book z base (stamped L closingAt none (heldBy (pageAt h L .held)) (settled L h)) (committed z L (redoPairs L m) (drained z L m))
       book-redoes t =
           let v = holds-it z base h m b l L (k .lane) (y .held) in
           rw (redo-pairs t, redo-held) (book-validates (v .txn) (v .ok))

@@ -15,7 +15,7 @@ use Rattle.log.specs.declared.Timestamp.the-variants.{At}
 use Rattle.record.specs.Record.{laneAt, pairsOf}
 use Rattle.record.specs.declared.Logged.{Logged}
 use Rattle.store.specs.Machine.{Machine}
-use Rattle.crash.specs.History.{Newest, closing, stampOf, Commit, History, pageAt, isBelow, replay, wordsBelow}
+use Rattle.crash.specs.History.{Newest, closingAt, newestStamp, Commit, History, pageAt, isBelow, replay, wordsBelow}
 use Rattle.crash.specs.History.{settled, stamped, released, writesLogged}
 use Rattle.crash.proofs.recovery.Data.{Rising, last, then, replay-none}
 use Rattle.crash.proofs.history.Agree.{lastOf, Holding}
@@ -38,10 +38,10 @@ rising-append clock last nil r f = r
 rising-append clock (then {c = c} a q) (more h hs) r f = then (All-append a (All-map (λ d k. omega arith) f)) (rising-append clock q hs r f)
 
 -- ---- the writes that a lane has logged
-pub writes-held : (z : Sizes) (h : History) (L : ℕ) (f : List ℕ) (s : ℕ) → pageAt h L .held ≡ some f → pageAt h L .newest ≡ closing s
+pub writes-held : (z : Sizes) (h : History) (L : ℕ) (f : List ℕ) (s : ℕ) → pageAt h L .held ≡ some f → pageAt h L .newest ≡ closingAt s
     → writesLogged z L h ≡ run z.words f (wordsBelow z (At s) h)
-unfolding writesLogged stampOf
-writes-held z h L f s p q = rw (p, writesLogged) (ap (λ (n : Newest). run z.words f (wordsBelow z (stampOf n) h)) q)
+unfolding writesLogged newestStamp
+writes-held z h L f s p q = rw (p, writesLogged) (ap (λ (n : Newest). run z.words f (wordsBelow z (newestStamp n) h)) q)
 
 -- ---- the relation
 pub record Onward (h k : History) : Type 0 where
@@ -69,7 +69,7 @@ unfolding stamped
 onward-stamped L kind held h = record { new = []; start = refl; clock = omega arith; commits = refl; rising = last; fresh = nil; upto = nil }
 
 -- a commit
-pub onward-commit : (L : ℕ) (f : List ℕ) (h : History) → Onward h (stamped L closing none (f ∷ []) h)
+pub onward-commit : (L : ℕ) (f : List ℕ) (h : History) → Onward h (stamped L closingAt none (f ∷ []) h)
 unfolding stamped
 onward-commit L f h =
     record {

@@ -21,7 +21,7 @@ use Rattle.record.specs.declared.Logged.{Logged}
 use Rattle.store.specs.Calls.{started, startImage}
 use Rattle.store.specs.inner.Checked.{bodyOf}
 use Rattle.store.specs.inner.FormatLaws.{length-body, body-trailer, length-startImage}
-use Rattle.crash.specs.History.{stampOf, Page, blankPage, pageAt, opened, replay, wordsBelow, present, isSome}
+use Rattle.crash.specs.History.{newestStamp, Page, blankPage, pageAt, opened, replay, wordsBelow, present, isSome}
 use Rattle.crash.specs.Theorem.{Live, endOf}
 use Rattle.crash.proofs.recovery.Data.{last}
 use Rattle.crash.proofs.history.Lanes.{lane-start}
@@ -70,10 +70,10 @@ module _ (z : Sizes) (base : ℕ) (image words : List ℕ) (ok : sizesOk z ≡ t
   unfolding startLane isLogged isSome
   held-start M i = rw (lane-start z base eight M i, page-start M i)
 
-  no-stamp : {A : Type 0} (M s : ℕ) → M < z.lanes → stampOf (pageAt (opened z words base) M .newest) ≡ At s → A
-  unfolding stampOf
+  no-stamp : {A : Type 0} (M s : ℕ) → M < z.lanes → newestStamp (pageAt (opened z words base) M .newest) ≡ At s → A
+  unfolding newestStamp
   no-stamp M s i e =
-      absurd (let d = ap (λ (p : Page). stampOf (p .newest)) (page-start M i) in let z : _≡_ {A = ℕ} 0 1 = cc in omega arith)
+      absurd (let d = ap (λ (p : Page). newestStamp (p .newest)) (page-start M i) in let z : _≡_ {A = ℕ} 0 1 = cc in omega arith)
 
   live-start : Live z (opened z words base) (started base image)
   unfolding started opened present wordsBelow replay startRecord

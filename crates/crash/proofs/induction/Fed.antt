@@ -19,7 +19,7 @@ use Rattle.store.specs.Calls as calls
 use Rattle.store.specs.declared.Answer.{Answer}
 use Rattle.store.specs.declared.Answer.the-variants.{Refused, Done}
 use Rattle.crash.specs.Events.{Call, drain, laneOf, callStep, vandzulge, isTaken}
-use Rattle.crash.specs.History.{closing, marking, History, pageAt, settled, stamped, released, heldBy, isCounted, taken, afterCall}
+use Rattle.crash.specs.History.{closingAt, markAt, History, pageAt, settled, stamped, released, heldBy, isCounted, taken, afterCall}
 use Rattle.crash.proofs.induction.Moves.{Known, Room, Ready, Drains, quiet, late, plain}
 use Rattle.crash.proofs.induction.Moves.{Move, refusing, draining, logging, redoing, validating, giving-up, marking, call-moves}
 
@@ -39,17 +39,17 @@ pub record Steps (z : Sizes) (Inv : Machine → History → Type 0) : Type 0 whe
   pub drains : (m : Machine) (h : History) (L : ℕ) → Inv m h → Known z m L → Inv (drained z L m) (settled L h)
   pub logs : (m : Machine) (h : History) (L : ℕ) (f : List ℕ) → Inv m h → Known z m L → txnBy former maxWrites z.words f ≡ true
       → isLogged (laneAt (m .state) L .phase) ≡ false → 0 < length (writesOn z f m) → Room z m L (length (writesOn z f m) + 1)
-      → Inv (logged z L (writesOn z f m) (drained z L m)) (stamped L closing (some f) [] (settled L h))
+      → Inv (logged z L (writesOn z f m) (drained z L m)) (stamped L closingAt (some f) [] (settled L h))
   pub redoes : (m : Machine) (h : History) (L : ℕ) → Inv m h → Known z m L → Ready m L → isStale L m ≡ false
-      → Inv (committed z L (redoPairs L m) (drained z L m)) (stamped L closing none (heldBy (pageAt h L .held)) (settled L h))
+      → Inv (committed z L (redoPairs L m) (drained z L m)) (stamped L closingAt none (heldBy (pageAt h L .held)) (settled L h))
   pub validates : (m : Machine) (h : History) (L : ℕ) (f : List ℕ) → Inv m h → Known z m L → txnBy former maxWrites z.words f ≡ true
       → Ready m L → matches z L (writesOn z f m) m ≡ true
-      → Inv (committed z L (pairsOf (length (writesOn z f m)) (writesOn z f m)) (drained z L m)) (stamped L closing none (f ∷ []) (settled L h))
+      → Inv (committed z L (pairsOf (length (writesOn z f m)) (writesOn z f m)) (drained z L m)) (stamped L closingAt none (f ∷ []) (settled L h))
   pub gives-up : (m : Machine) (h : History) (L : ℕ) (f : List ℕ) → Inv m h → Known z m L → txnBy former maxWrites z.words f ≡ true
       → Ready m L → matches z L (writesOn z f m) m ≡ false
       → Inv (calls.released L (drained z L m)) (released L (settled L h))
   pub marks : (m : Machine) (h : History) (L : ℕ) → Inv m h → Known z m L → Room z m L 1
-      → Inv (appended z L [] Idle (laneAt (m .state) L .redo) (drained z L m)) (stamped L marking none [] (settled L h))
+      → Inv (appended z L [] Idle (laneAt (m .state) L .redo) (drained z L m)) (stamped L markAt none [] (settled L h))
 
 module _ (z : Sizes) (Inv : Machine → History → Type 0) (steps : Steps z Inv) where
   by-move : (m : Machine) (h : History) {c : Call} {s : Step} → Move z m c s → Inv m h → Inv (s .machine) (afterCall c (s .answer) h)

@@ -1,7 +1,7 @@
 -- A lane that is marked and drained and then stays idle has no floor, so the boundary is not below the least floor of the other lanes: of every store of
 -- which the crash theorem holds. Assumes nothing.
 use mathlib.Core.Path.{_≡_, refl, ap, subst, sym, _∙_}
-use mathlib.Core.Logic.{_≢_}
+use mathlib.Core.Logic.{_≢_, inl}
 use mathlib.Core.Bool.{Bool, true, false, cond, not, _||_}
 use mathlib.Core.List.{List, [], _∷_, _++_}
 use mathlib.Core.Option.{Option, none}
@@ -23,14 +23,14 @@ use Rattle.recovery.specs.Recovery.{boundary}
 use Rattle.crash.specs.Events.{Call, mark, drain, laneOf, live, Design, happens}
 use Rattle.crash.specs.Events.{Event, format, call, recover}
 use Rattle.crash.specs.Events.{Reply, answered, recovered, failed, ignored}
-use Rattle.crash.specs.History.{Newest, unset, closing, marking, Page, History, blankPage, pageAt, opened}
+use Rattle.crash.specs.History.{markAt, Page, History, blankPage, pageAt}
 use Rattle.crash.specs.History.{floorOr, floorOnDrain, settled, stamped, released, taken, afterCall}
 use Rattle.crash.specs.History.{fedAnswer, fed, leastFloorOf}
 use Rattle.crash.specs.Theorem.{Holds, CrashTheorem}
 use Rattle.crash.proofs.induction.Lists.{holds-next, holds-after}
-use Rattle.crash.proofs.induction.Pages.{onDrain, page-set, opened-page, Keeping, after-keeps}
+use Rattle.crash.proofs.induction.Pages.{drained-twice, onDrain, page-set, opened-page, Keeping, MayStep, after-keeps}
 use Rattle.crash.proofs.induction.Kept.{recovery-keeps}
-use Rattle.crash.specs.Corollaries.{World, nextWorld, worldAfter, isDone, isDrain, isIdle, staysIdle, mayStart, othersFloor, IdleTheorem}
+use Rattle.crash.specs.Corollaries.{World, nextWorld, worldAfter, isDone, isDrain, isIdle, staysIdle, othersFloor, IdleTheorem}
 
 -- ---- one page
 -- a page that a drain leaves without floor
@@ -40,12 +40,6 @@ Marked p = floorOnDrain (p .newest) (p .floor) ≡ None
 -- and one that is without floor already
 unfoldable Settled : Page → Type 0
 Settled p = (p .floor ≡ None) × Marked p
-
-again : (n : Newest) (f : Timestamp) → floorOnDrain n f ≡ None → floorOnDrain n (floorOnDrain n f) ≡ None
-unfolding floorOnDrain
-again unset f e = e
-again (closing s) f e = e
-again (marking s) f e = refl
 
 -- ---- what idle events do to a page: a property that a blank page has and that a drain keeps is kept
 module _ (P : Page → Type 0) (blank : P blankPage) (drains : (p : Page) → P p → P (onDrain p)) (L : ℕ) where
@@ -65,19 +59,15 @@ module _ (P : Page → Type 0) (blank : P blankPage) (drains : (p : Page) → P 
   other-lane : (c : Call) → (isDrain c || not (eqb (laneOf c) L)) ≡ true → isDrain c ≡ false → L ≢ laneOf c
   other-lane c t f e = clash (eqb (laneOf c) L) (eq-eqb (laneOf c) L (sym e)) (not-true (eqb (laneOf c) L) (rw f at t))
 
-  idle-steps : (es : List Event) → staysIdle L es ≡ true → All (λ e. (c : Call) → e ≡ call c → isDrain c ≡ false → L ≢ laneOf c) es
+  idle-steps : (es : List Event) → staysIdle L es ≡ true → All (MayStep (λ M. L ≢ M)) es
   unfolding staysIdle isIdle
   idle-steps [] t = nil
   idle-steps (e ∷ es) t =
       more (λ c p f. other-lane c (ap (isIdle L) (sym p) ∙ and-left (isIdle L e) _ t) f) (idle-steps es (and-right (isIdle L e) _ t))
 
-  any-start : (z : Sizes) (es : List Event) → All (λ e. mayStart e ≡ true → (start : List ℕ) (clock : ℕ) → P (pageAt (opened z start clock) L)) es
-  any-start z [] = nil
-  any-start z (e ∷ es) = more (λ t start clock. opened-page P blank z start clock L) (any-start z es)
-
   idle-page : (d : Design) (z : Sizes) (w : World) (es : List Event) → staysIdle L es ≡ true → P (pageAt (w .history) L)
       → P (pageAt (worldAfter d z w es .history) L)
-  idle-page d z w es t i = after-keeps (λ h. P (pageAt h L)) (λ M. L ≢ M) page-keeping d z w es (idle-steps es t) (any-start z es) i
+  idle-page d z w es t i = after-keeps (λ h. P (pageAt h L)) (λ M. L ≢ M) page-keeping d z w es (idle-steps es t) (inl (λ start clock. opened-page P blank z start clock L)) i
 
 -- ---- a mark, and a drain
 blank-settled : Settled blankPage
@@ -90,7 +80,7 @@ blank-marked = refl
 
 drain-settles : (p : Page) → Marked p → Settled (onDrain p)
 unfolding Settled Marked
-drain-settles p e = (e, again (p .newest) (p .floor) e)
+drain-settles p e = (e, drained-twice (p .newest) (p .floor) ∙ e)
 
 settled-marked : (p : Page) → Settled p → Marked p
 unfolding Settled
@@ -109,7 +99,7 @@ done-call P z c (recovered r) found h done i = clash false done refl
 done-call P z c (failed d) found h done i = clash false done refl
 done-call P z c ignored found h done i = clash false done refl
 
-marks : (held : Option (List ℕ)) (s : ℕ) (floor : Timestamp) → Marked (record { held = held; newest = marking s; floor = floor })
+marks : (held : Option (List ℕ)) (s : ℕ) (floor : Timestamp) → Marked (record { held = held; newest = markAt s; floor = floor })
 unfolding Marked floorOnDrain
 marks held s floor = refl
 
@@ -118,7 +108,7 @@ unfolding taken stamped pageAt
 mark-marks L t h =
     let k = settled L h in
     let s : ℕ = k .clock + 2 in
-    let p : Page = record { held = none; newest = marking s; floor = floorOr (pageAt k L .floor) (At s) } in
+    let p : Page = record { held = none; newest = markAt s; floor = floorOr (pageAt k L .floor) (At s) } in
     page-set Marked blank-marked L (k .pages) p (marks none s (p .floor))
 
 drain-drains : (L : ℕ) (t : Said) (h : History) → Marked (pageAt h L) → Settled (pageAt (taken (drain L) t h) L)

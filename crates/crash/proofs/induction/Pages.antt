@@ -1,7 +1,8 @@
 -- What an event does to the history is made of drains, timestamps, releases and starts: a property of histories that these keep is kept by every event.
 -- Assumes nothing.
-use mathlib.Core.Path.{_≡_, refl, sym, subst}
-use mathlib.Core.Bool.{Bool, true, false, cond, _||_}
+use mathlib.Core.Path.{_≡_, refl, ap, sym, subst}
+use mathlib.Core.Logic.{_⊎_, inl, inr}
+use mathlib.Core.Bool.{Bool, true, false, cond, not, _||_}
 use mathlib.Core.List.{List, [], _∷_}
 use mathlib.Core.Option.{Option, none, some}
 use Prim.Native.Nat.{ℕ, _≤_}
@@ -10,25 +11,31 @@ use native.Mathlib.Decide.{ℕ-discrete}
 use lib.Dec.{ltb}
 use lib.ListN.{length, getD, set, replicate, length-set, length-replicate, getD-replicate, List·getD-eq-default}
 use lib.Seq.{getD-set-same, getD-set-other}
-use borrow.Author.Tests.{ltb-true, ltb-false}
-use Rattle.laws.specs.inner.Tests.{split}
+use borrow.Author.Tests.{ltb-true, ltb-false, not-true}
+use Rattle.laws.specs.inner.Tests.{split, clash, and-left, and-right}
 use Rattle.laws.specs.inner.Lists.{All, none as nil, more}
 use Rattle.image.specs.declared.Sizes.{Sizes}
+use Rattle.log.specs.declared.Timestamp.{Timestamp}
 use Rattle.log.specs.declared.Timestamp.the-variants.{At}
 use Rattle.store.specs.Machine.{Said, said}
 use Rattle.store.specs.declared.Answer.{Answer}
 use Rattle.recovery.specs.Recovery.{boundary, newBase, told}
-use Rattle.recovery.specs.declared.Recovered.{Recovered}
-use Rattle.crash.specs.Events.{Call, logBy, redo, validateBy, mark, drain, laneOf, System, live, down, Design, happens}
-use Rattle.crash.specs.Events.{afterFormat, afterStep, afterRecovery, afterFailure, notOffered}
+use Rattle.crash.specs.Events.{Call, logBy, redo, validateBy, mark, drain, laneOf, Design, happens}
 use Rattle.crash.specs.Events.{Event, format, writeBack, call, recover, fails, failsInDrain, failsAfterDrain, failsInRecovery}
 use Rattle.crash.specs.Events.{Reply, answered, recovered, failed, ignored}
-use Rattle.crash.specs.History.{Newest, closing, marking, stampOf, Page, History, blankPage, pageAt, opened, wordsBelow}
+use Rattle.crash.specs.History.{Newest, unset, closingAt, markAt, newestStamp, Page, History, blankPage, pageAt, opened, wordsBelow}
 use Rattle.crash.specs.History.{floorOnDrain, settled, stamped, released, isCounted, heldBy}
 use Rattle.crash.specs.History.{taken, restarted, afterCall, afterRecovered, fedAnswer, fedFailure, fed}
-use Rattle.crash.specs.Corollaries.{World, nextWorld, worldAfter, isDrain, mayStart}
+use Rattle.crash.specs.Corollaries.{World, nextWorld, worldAfter, isFormat, startsAnew, goesOn, isDrain}
 
 -- ---- pages
+-- a second drain leaves the floor
+pub drained-twice : (n : Newest) (f : Timestamp) → floorOnDrain n (floorOnDrain n f) ≡ floorOnDrain n f
+unfolding floorOnDrain
+drained-twice unset f = refl
+drained-twice (closingAt s) f = refl
+drained-twice (markAt s) f = refl
+
 -- a page after a drain
 abbrev pub onDrain : Page → Page
 onDrain p = record { held = p .held; newest = p .newest; floor = floorOnDrain (p .newest) (p .floor) }
@@ -61,16 +68,23 @@ module _ (P : Page → Type 0) (blank : P blankPage) where
 -- kept by a drain of any lane, and by timestamps and releases of the lanes that may step
 pub record Keeping (P : History → Type 0) (may : ℕ → Type 0) : Type 0 where
   pub settles : (M : ℕ) (h : History) → P h → P (settled M h)
-  pub stamps : (M : ℕ) → may M → (kind : ℕ → Newest) → ((n : ℕ) → stampOf (kind n) ≡ At n) → (held : Option (List ℕ)) (txns : List (List ℕ))
+  pub stamps : (M : ℕ) → may M → (kind : ℕ → Newest) → ((n : ℕ) → newestStamp (kind n) ≡ At n) → (held : Option (List ℕ)) (txns : List (List ℕ))
       → (h : History) → P h → P (stamped M kind held txns h)
   pub releases : (M : ℕ) → may M → (h : History) → P h → P (released M h)
 
-closes : (n : ℕ) → stampOf (closing n) ≡ At n
-unfolding stampOf
+-- of an event: a step that is called is of a lane that may, and a start has the property
+abbrev pub MayStep : (ℕ → Type 0) → Event → Type 0
+MayStep may e = (c : Call) → e ≡ call c → isDrain c ≡ false → may (laneOf c)
+
+abbrev Starts : (History → Type 0) → Sizes → Event → Reply → Type 0
+Starts P z e r = startsAnew e r ≡ true → (start : List ℕ) (clock : ℕ) → P (opened z start clock)
+
+closes : (n : ℕ) → newestStamp (closingAt n) ≡ At n
+unfolding newestStamp
 closes n = refl
 
-marks : (n : ℕ) → stampOf (marking n) ≡ At n
-unfolding stampOf
+marks : (n : ℕ) → newestStamp (markAt n) ≡ At n
+unfolding newestStamp
 marks n = refl
 
 module _ (P : History → Type 0) (may : ℕ → Type 0) (k : Keeping P may) where
@@ -83,34 +97,31 @@ module _ (P : History → Type 0) (may : ℕ → Type 0) (k : Keeping P may) whe
   unfolding taken isDrain laneOf
   taken-keeps (logBy r M f) m t h i =
       let d = k .settles M h i in
-      one-of (isCounted (t .count)) _ _ (k .stamps M (m refl) closing closes (some f) [] (settled M h) d) d
+      one-of (isCounted (t .count)) _ _ (k .stamps M (m refl) closingAt closes (some f) [] (settled M h) d) d
   taken-keeps (redo M) m t h i =
       let d = k .settles M h i in
-      one-of (t .stale) _ _ d (k .stamps M (m refl) closing closes none (heldBy (pageAt h M .held)) (settled M h) d)
+      one-of (t .stale) _ _ d (k .stamps M (m refl) closingAt closes none (heldBy (pageAt h M .held)) (settled M h) d)
   taken-keeps (validateBy r M f) m t h i =
       let d = k .settles M h i in
-      one-of (t .changed) _ _ (k .releases M (m refl) (settled M h) d) (k .stamps M (m refl) closing closes none (f ∷ []) (settled M h) d)
-  taken-keeps (mark M) m t h i = k .stamps M (m refl) marking marks none [] (settled M h) (k .settles M h i)
+      one-of (t .changed) _ _ (k .releases M (m refl) (settled M h) d) (k .stamps M (m refl) closingAt closes none (f ∷ []) (settled M h) d)
+  taken-keeps (mark M) m t h i = k .stamps M (m refl) markAt marks none [] (settled M h) (k .settles M h i)
   taken-keeps (drain M) m t h i = k .settles M h i
 
   -- an event that does not start anew, or whose start has the property
   module _ (z : Sizes) where
-    abbrev May : Event → Type 0
-    May e = (c : Call) → e ≡ call c → isDrain c ≡ false → may (laneOf c)
-
-    abbrev Starts : Event → Type 0
-    Starts e = mayStart e ≡ true → (start : List ℕ) (clock : ℕ) → P (opened z start clock)
-
-    answered-keeps : (e : Event) → May e → Starts e → (a : Answer) (h : History) → P h → P (fedAnswer z e a h)
-    unfolding fedAnswer afterCall mayStart
-    answered-keeps (format start) m s a h i = one-of (said a .refused) _ _ i (s refl start 0)
-    answered-keeps (writeBack w) m s a h i = i
-    answered-keeps (call c) m s a h i = one-of (said a .refused) _ _ i (taken-keeps c (m c refl) (said a) h i)
-    answered-keeps (recover limit j) m s a h i = i
-    answered-keeps (fails j) m s a h i = i
-    answered-keeps (failsInDrain c ws j) m s a h i = i
-    answered-keeps (failsAfterDrain c j) m s a h i = i
-    answered-keeps (failsInRecovery n j) m s a h i = i
+    answered-keeps : (e : Event) (a : Answer) → MayStep may e → Starts P z e (answered a) → (h : History) → P h → P (fedAnswer z e a h)
+    unfolding fedAnswer afterCall startsAnew isFormat
+    answered-keeps (format start) a m s h i =
+        split (said a .refused)
+        (λ t. subst (λ (b : Bool). P (cond b h (opened z start 0))) (sym t) i)
+        (λ t. subst (λ (b : Bool). P (cond b h (opened z start 0))) (sym t) (s (ap not t) start 0))
+    answered-keeps (writeBack w) a m s h i = i
+    answered-keeps (call c) a m s h i = one-of (said a .refused) _ _ i (taken-keeps c (m c refl) (said a) h i)
+    answered-keeps (recover limit j) a m s h i = i
+    answered-keeps (fails j) a m s h i = i
+    answered-keeps (failsInDrain c ws j) a m s h i = i
+    answered-keeps (failsAfterDrain c j) a m s h i = i
+    answered-keeps (failsInRecovery n j) a m s h i = i
 
     failed-keeps : (e : Event) (d : Bool) (h : History) → P h → P (fedFailure e d h)
     unfolding fedFailure
@@ -123,45 +134,27 @@ module _ (P : History → Type 0) (may : ℕ → Type 0) (k : Keeping P may) whe
     failed-keeps (failsAfterDrain c j) d h i = one-of d _ _ (k .settles (laneOf c) h i) i
     failed-keeps (failsInRecovery n j) d h i = i
 
-    fed-keeps : (e : Event) → May e → Starts e → (r : Reply) → ((x : Recovered) → r ≡ recovered x → mayStart e ≡ true)
-        → (found : List ℕ) (h : History) → P h → P (fed z e r found h)
-    unfolding fed afterRecovered restarted
-    fed-keeps e m s (answered a) q found h i = answered-keeps e m s a h i
-    fed-keeps e m s (recovered x) q found h i =
-        one-of (told x .refused || told x .cut) _ _ i (s (q x refl) (wordsBelow z (boundary z found) h) (newBase z found))
-    fed-keeps e m s (failed d) q found h i = failed-keeps e d h i
-    fed-keeps e m s ignored q found h i = i
+    fed-keeps : (e : Event) (r : Reply) → MayStep may e → Starts P z e r → (found : List ℕ) (h : History) → P h → P (fed z e r found h)
+    unfolding fed afterRecovered restarted startsAnew
+    fed-keeps e (answered a) m s found h i = answered-keeps e a m s h i
+    fed-keeps e (recovered x) m s found h i =
+        let new : History = opened z (wordsBelow z (boundary z found) h) (newBase z found) in
+        split (told x .refused || told x .cut)
+        (λ t. subst (λ (b : Bool). P (cond b h new)) (sym t) i)
+        (λ t. subst (λ (b : Bool). P (cond b h new)) (sym t) (s (ap not t) (wordsBelow z (boundary z found) h) (newBase z found)))
+    fed-keeps e (failed d) m s found h i = failed-keeps e d h i
+    fed-keeps e ignored m s found h i = i
 
--- only a recovery is replied to as one
-recovers-only : (d : Design) (z : Sizes) (y : System) (e : Event) (x : Recovered) → happens d z y e .reply ≡ recovered x → mayStart e ≡ true
-unfolding happens afterFormat afterStep afterRecovery afterFailure notOffered mayStart
-recovers-only d z (live m) (format start) x e = refl
-recovers-only d z (live m) (writeBack i) x e = absurd (let n : _≡_ {A = ℕ} 0 1 = cc in omega arith)
-recovers-only d z (live m) (call c) x e = absurd (let n : _≡_ {A = ℕ} 0 1 = cc in omega arith)
-recovers-only d z (live m) (recover limit j) x e = refl
-recovers-only d z (live m) (fails j) x e = absurd (let n : _≡_ {A = ℕ} 0 1 = cc in omega arith)
-recovers-only d z (live m) (failsInDrain c ws j) x e = absurd (let n : _≡_ {A = ℕ} 0 1 = cc in omega arith)
-recovers-only d z (live m) (failsAfterDrain c j) x e = absurd (let n : _≡_ {A = ℕ} 0 1 = cc in omega arith)
-recovers-only d z (live m) (failsInRecovery n j) x e = absurd (let n : _≡_ {A = ℕ} 0 1 = cc in omega arith)
-recovers-only d z (down nvm k f) (format start) x e = refl
-recovers-only d z (down nvm k f) (writeBack i) x e = absurd (let n : _≡_ {A = ℕ} 0 1 = cc in omega arith)
-recovers-only d z (down nvm k f) (call c) x e = absurd (let n : _≡_ {A = ℕ} 0 1 = cc in omega arith)
-recovers-only d z (down nvm k f) (recover limit j) x e = refl
-recovers-only d z (down nvm k f) (fails j) x e = absurd (let n : _≡_ {A = ℕ} 0 1 = cc in omega arith)
-recovers-only d z (down nvm k f) (failsInDrain c ws j) x e = absurd (let n : _≡_ {A = ℕ} 0 1 = cc in omega arith)
-recovers-only d z (down nvm k f) (failsAfterDrain c j) x e = absurd (let n : _≡_ {A = ℕ} 0 1 = cc in omega arith)
-recovers-only d z (down nvm k f) (failsInRecovery n j) x e = absurd (let n : _≡_ {A = ℕ} 0 1 = cc in omega arith)
-
--- so a list of events keeps the property
+-- ---- lists
 module _ (P : History → Type 0) (may : ℕ → Type 0) (k : Keeping P may) (d : Design) (z : Sizes) where
-  pub next-keeps : (w : World) (e : Event) → ((c : Call) → e ≡ call c → isDrain c ≡ false → may (laneOf c))
-      → (mayStart e ≡ true → (start : List ℕ) (clock : ℕ) → P (opened z start clock)) → P (w .history) → P (nextWorld d z w e .history)
-  unfolding nextWorld
-  next-keeps w e m s i =
-      fed-keeps P may k z e m s (happens d z (w .system) e .reply) (recovers-only d z (w .system) e) (happens d z (w .system) e .found) (w .history) i
-
-  pub after-keeps : (w : World) (es : List Event) → All (λ e. (c : Call) → e ≡ call c → isDrain c ≡ false → may (laneOf c)) es
-      → All (λ e. mayStart e ≡ true → (start : List ℕ) (clock : ℕ) → P (opened z start clock)) es → P (w .history) → P (worldAfter d z w es .history)
-  unfolding worldAfter
-  after-keeps w [] nil nil i = i
-  after-keeps w (e ∷ es) (more m ms) (more s ss) i = after-keeps (nextWorld d z w e) es ms ss (next-keeps w e m s i)
+  -- of events that start anew where every start has the property, or that do not
+  pub after-keeps : (w : World) (es : List Event) → All (MayStep may) es
+      → ((start : List ℕ) (clock : ℕ) → P (opened z start clock)) ⊎ (goesOn d z w es ≡ true) → P (w .history) → P (worldAfter d z w es .history)
+  unfolding worldAfter nextWorld goesOn
+  after-keeps w [] nil s i = i
+  after-keeps w (e ∷ es) (more m ms) (inl s) i =
+      after-keeps (nextWorld d z w e) es ms (inl s) (fed-keeps P may k z e (happens d z (w .system) e .reply) m (λ t. s) _ (w .history) i)
+  after-keeps w (e ∷ es) (more m ms) (inr t) i =
+      let x = happens d z (w .system) e .reply in
+      after-keeps (nextWorld d z w e) es ms (inr (and-right (not (startsAnew e x)) _ t))
+      (fed-keeps P may k z e x m (λ y. clash (startsAnew e x) y (not-true (startsAnew e x) (and-left _ _ t))) _ (w .history) i)

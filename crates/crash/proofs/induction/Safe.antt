@@ -1,37 +1,35 @@
 -- A commit that can no longer be lost: floors rise, end, or are set above the clock, so the least floor stays above a timestamp that it has passed. Of every
 -- store of which the crash theorem holds. Assumes nothing.
 use mathlib.Core.Path.{_≡_, refl, ap, sym, subst, _∙_}
-use mathlib.Core.Bool.{true, false, not}
+use mathlib.Core.Logic.{inl, inr}
+use mathlib.Core.Bool.{true, not}
 use mathlib.Core.List.{List, [], _∷_, _++_}
 use Prim.Native.Nat.{ℕ, zero, suc, _+_, _≤_, _<_, min}
 use native.Mathlib.Omega.{arith}
 use native.Mathlib.Nat.{le-trans}
 use lib.Dec.{eqb}
 use lib.ListN.{length, getD}
-use borrow.Author.Tests.{ltb-true, lt-ltb, not-true, not-false}
-use Rattle.laws.specs.inner.Tests.{clash, and-left, and-right}
+use borrow.Author.Tests.{ltb-true, lt-ltb, not-false}
 use Rattle.laws.specs.inner.Lists.{All, none as nil, more}
 use Rattle.image.specs.Image.{trailer}
 use Rattle.image.specs.declared.Sizes.{Sizes}
+use Rattle.log.specs.inner.LogLaws.{at-one}
 use Rattle.log.specs.declared.Timestamp.{Timestamp}
 use Rattle.log.specs.declared.Timestamp.the-variants.{None, At}
 use Rattle.record.specs.Record.{lesser}
 use Rattle.store.specs.Machine.{Machine, said}
 use Rattle.store.specs.Calls.{formatRefusal}
-use Rattle.crash.specs.Events.{Call, Event, format, call, recover, live, Design, happens, afterFormat}
-use Rattle.crash.specs.History.{Newest, unset, closing, marking, stampOf, Page, History, blankPage, pageAt, opened, isBelow}
+use Rattle.crash.specs.Events.{Event, format, recover, live, Design, happens, afterFormat}
+use Rattle.crash.specs.History.{Newest, unset, closingAt, markAt, newestStamp, Page, History, blankPage, pageAt, opened, isBelow}
 use Rattle.crash.specs.History.{floorOr, floorOnDrain, settled, stamped, released, fedAnswer, fed, leastFloorOf}
 use Rattle.crash.specs.Theorem.{Replied, CrashTheorem}
-use Rattle.crash.specs.Corollaries.{World, nextWorld, worldAfter, isDrain, mayStart, goesOn, SafeTheorem}
+use Rattle.crash.specs.Corollaries.{World, nextWorld, worldAfter, SafeTheorem}
 use Rattle.crash.proofs.induction.Lists.{holds-next, holds-after}
 use Rattle.crash.proofs.induction.Moves.{none-holds}
-use Rattle.crash.proofs.induction.Pages.{onDrain, page-all, opened-page, Keeping, after-keeps}
+use Rattle.crash.proofs.induction.Pages.{drained-twice, onDrain, page-all, opened-page, Keeping, MayStep, after-keeps}
 use Rattle.crash.proofs.induction.Kept.{recovery-keeps}
 
 -- ---- timestamps
-at-one : {a b : ℕ} → At a ≡ At b → a ≡ b
-at-one p = cc
-
 not-at : {A : Type 0} {a : ℕ} → None ≡ At a → A
 not-at p = absurd (let z : _≡_ {A = ℕ} 0 1 = cc in omega arith)
 
@@ -72,23 +70,17 @@ least-above [] s f = refl
 least-above (p ∷ ps) s f = lesser-below (p .floor) (leastFloorOf ps) s (f 0) (least-above ps s (λ L. f (suc L)))
 
 -- ---- one page
--- what a drain makes of the floor under a new timestamp t, closing entries or a mark's, is not below t
-new-drained : (n : Newest) (floor : Timestamp) (s t : ℕ) → stampOf n ≡ At t → s < t → isBelow (floorOnDrain n floor) s ≡ true
-unfolding stampOf floorOnDrain isBelow
+-- what a drain makes of the floor under a new timestamp t, closingAt entries or a mark's, is not below t
+new-drained : (n : Newest) (floor : Timestamp) (s t : ℕ) → newestStamp n ≡ At t → s < t → isBelow (floorOnDrain n floor) s ≡ true
+unfolding newestStamp floorOnDrain isBelow
 new-drained unset floor s t e l = not-at e
-new-drained (closing u) floor s t e l = let q : u ≡ t = at-one e in lt-ltb s u (omega arith)
-new-drained (marking u) floor s t e l = refl
-
-again-drained : (n : Newest) (f : Timestamp) (s : ℕ) → isBelow (floorOnDrain n f) s ≡ true → isBelow (floorOnDrain n (floorOnDrain n f)) s ≡ true
-unfolding floorOnDrain isBelow
-again-drained unset f s e = e
-again-drained (closing t) f s e = e
-again-drained (marking t) f s e = refl
+new-drained (closingAt u) floor s t e l = let q : u ≡ t = at-one e in lt-ltb s u (omega arith)
+new-drained (markAt u) floor s t e l = refl
 
 -- a page's floor and newest timestamp are not above the clock, and a drain does not lower its floor
 record Rises (clock : ℕ) (p : Page) : Type 0 where
   floor-low : (a : ℕ) → p .floor ≡ At a → a ≤ clock
-  newest-low : (t : ℕ) → p .newest ≡ closing t → t ≤ clock
+  newest-low : (t : ℕ) → p .newest ≡ closingAt t → t ≤ clock
   rises : (s : ℕ) → isBelow (p .floor) s ≡ true → isBelow (floorOnDrain (p .newest) (p .floor)) s ≡ true
 
 rises-blank : (clock : ℕ) → Rises clock blankPage
@@ -99,18 +91,18 @@ rises-later : (a b : ℕ) (p : Page) → a ≤ b → Rises a p → Rises b p
 rises-later a b p l r =
     record { floor-low = λ x e. le-trans (r .floor-low x e) l; newest-low = λ t e. le-trans (r .newest-low t e) l; rises = r .rises }
 
-drained-low : (n : Newest) (f : Timestamp) (c a : ℕ) → ((x : ℕ) → f ≡ At x → x ≤ c) → ((t : ℕ) → n ≡ closing t → t ≤ c) → floorOnDrain n f ≡ At a → a ≤ c
+drained-low : (n : Newest) (f : Timestamp) (c a : ℕ) → ((x : ℕ) → f ≡ At x → x ≤ c) → ((t : ℕ) → n ≡ closingAt t → t ≤ c) → floorOnDrain n f ≡ At a → a ≤ c
 unfolding floorOnDrain
 drained-low unset f c a g h e = g a e
-drained-low (closing t) f c a g h e = let q : t ≡ a = at-one e in let k = h t refl in omega arith
-drained-low (marking t) f c a g h e = not-at e
+drained-low (closingAt t) f c a g h e = let q : t ≡ a = at-one e in let k = h t refl in omega arith
+drained-low (markAt t) f c a g h e = not-at e
 
 rises-drain : (clock : ℕ) (p : Page) → Rises clock p → Rises clock (onDrain p)
 rises-drain clock p r =
     record {
       floor-low = λ a e. drained-low (p .newest) (p .floor) clock a (r .floor-low) (r .newest-low) e;
       newest-low = r .newest-low;
-      rises = λ s e. again-drained (p .newest) (p .floor) s e;
+      rises = λ s e. rw (drained-twice (p .newest) (p .floor)) e;
     }
 
 or-low : (f : Timestamp) (c t a : ℕ) → c ≤ t → ((x : ℕ) → f ≡ At x → x ≤ c) → floorOr f (At t) ≡ At a → a ≤ t
@@ -123,11 +115,11 @@ unfolding floorOr isBelow
 or-below None c t s l g e = ltb-true s t e
 or-below (At b) c t s l g e = let k = g b refl in omega (arith, ltb-true s b e)
 
-stamp-one : (n : Newest) (t u : ℕ) → stampOf n ≡ At t → n ≡ closing u → u ≤ t
-unfolding stampOf
-stamp-one n t u e p = let q : At u ≡ At t = sym (ap stampOf p) ∙ e in let r : u ≡ t = at-one q in omega arith
+stamp-one : (n : Newest) (t u : ℕ) → newestStamp n ≡ At t → n ≡ closingAt u → u ≤ t
+unfolding newestStamp
+stamp-one n t u e p = let q : At u ≡ At t = sym (ap newestStamp p) ∙ e in let r : u ≡ t = at-one q in omega arith
 
-rises-stamp : (c t : ℕ) (p q : Page) → c < t → Rises c p → stampOf (q .newest) ≡ At t → q .floor ≡ floorOr (p .floor) (At t) → Rises t q
+rises-stamp : (c t : ℕ) (p q : Page) → c < t → Rises c p → newestStamp (q .newest) ≡ At t → q .floor ≡ floorOr (p .floor) (At t) → Rises t q
 rises-stamp c t p q l r n f =
     record {
       floor-low = λ a e. or-low (p .floor) c t a (omega arith) (r .floor-low) (sym f ∙ e);
@@ -184,7 +176,7 @@ above-keeping s =
       settles = λ M h i. (
         i .0,
         page-all (Above s) (above-blank s) (h .pages) M (onDrain (getD (h .pages) M blankPage))
-            (record { floor = i .1 M .drained; drained = again-drained _ _ s (i .1 M .drained) }) (i .1),
+            (record { floor = i .1 M .drained; drained = rw (drained-twice (getD (h .pages) M blankPage .newest) (getD (h .pages) M blankPage .floor)) (i .1 M .drained) }) (i .1),
       );
       stamps = λ M u kind ks held txns h i.
           let l : s < h .clock + 2 = omega (arith, i .0) in (
@@ -212,21 +204,9 @@ unfolding AllAbove pageAt
 above-least s h i = least-above (h .pages) s (λ L. i .1 L .floor)
 
 -- ---- lists
-any-step : (es : List Event) → All (λ e. (c : Call) → e ≡ call c → isDrain c ≡ false → Unit {0}) es
+any-step : (es : List Event) → All (MayStep (λ M. Unit {0})) es
 any-step [] = nil
 any-step (e ∷ es) = more (λ c p f. tt) (any-step es)
-
-any-start : (P : History → Type 0) (z : Sizes) → ((start : List ℕ) (clock : ℕ) → P (opened z start clock)) → (es : List Event)
-    → All (λ e. mayStart e ≡ true → (start : List ℕ) (clock : ℕ) → P (opened z start clock)) es
-any-start P z f [] = nil
-any-start P z f (e ∷ es) = more (λ t. f) (any-start P z f es)
-
-no-start : (P : History → Type 0) (z : Sizes) (es : List Event) → goesOn es ≡ true
-    → All (λ e. mayStart e ≡ true → (start : List ℕ) (clock : ℕ) → P (opened z start clock)) es
-unfolding goesOn
-no-start P z [] t = nil
-no-start P z (e ∷ es) t =
-    more (λ s. clash (mayStart e) s (not-true (mayStart e) (and-left _ _ t))) (no-start P z es (and-right (not (mayStart e)) _ t))
 
 -- Format is taken
 format-words : (z : Sizes) (start : List ℕ) (m : Machine) → formatRefusal z start m ≡ 0 → eqb (length start) (z .words) ≡ true
@@ -249,9 +229,9 @@ safe-from d theorem z start m h ok es fs s low above goes limit j =
     let a = worldAfter d z f es in
     let b = worldAfter d z a fs in
     let r : Rising (a .history) = after-keeps Rising (λ M. Unit {0}) rising-keeping d z f es (any-step es)
-    (any-start Rising z (rising-opened z) es) (subst Rising (sym (formatted d z start m h ok (v .0 .reply))) (rising-opened z start 0)) in
+    (inl (rising-opened z)) (subst Rising (sym (formatted d z start m h ok (v .0 .reply))) (rising-opened z start 0)) in
     let i : AllAbove s (b .history) = after-keeps (AllAbove s) (λ M. Unit {0}) (above-keeping s) d z a fs (any-step fs)
-    (no-start (AllAbove s) z fs goes) (above-from s (a .history) r low above) in
+    (inr goes) (above-from s (a .history) r low above) in
     recovery-keeps d z b (At (s + 1)) (λ t e. below-earlier _ s t (up-to s t e) (above-least s (b .history) i)) limit j
     (holds-after d z (trailer z) a fs (recover limit j ∷ [])
     (holds-after d z (trailer z) f es (fs ++ (recover limit j ∷ [])) (holds-next d z (trailer z) w (format start) (es ++ (fs ++ (recover limit j ∷ []))) v)))

@@ -20,7 +20,7 @@ use Rattle.log.specs.declared.Latest.{Latest}
 use Rattle.log.specs.declared.Latest.the-variants.{Nothing, Is}
 use Rattle.record.specs.Record.{laneAt}
 use Rattle.store.specs.Machine.{Machine}
-use Rattle.crash.specs.History.{Newest, unset, closing, marking, floorOr}
+use Rattle.crash.specs.History.{Newest, unset, closingAt, markAt, floorOr}
 use Rattle.crash.specs.Theorem.{NotBelow, noBoundary, atLeast}
 use Rattle.laws.specs.inner.Members.{In, here, there, in-cases, In-All}
 use Rattle.crash.proofs.lane.Ghost.{Past, sta}
@@ -236,23 +236,18 @@ above-floor zero k t s l = noBoundary
 above-floor (suc n) zero t s l = atLeast (le-refl t)
 above-floor (suc n) (suc k) t s l = atLeast l
 
-first-floor : (n t : ℕ) → NotBelow (At t) (giving (newestBy n t))
-unfolding newestBy giving
-first-floor zero t = noBoundary
-first-floor (suc n) t = atLeast (le-refl t)
-
 -- a lane's newest gives nothing below a floor that it gives itself, or that was set over it
 same-floor : (n : Newest) → NotBelow (giving n) (giving n)
 unfolding giving
 same-floor unset = noBoundary
-same-floor (closing s) = atLeast (le-refl s)
-same-floor (marking s) = noBoundary
+same-floor (closingAt s) = atLeast (le-refl s)
+same-floor (markAt s) = noBoundary
 
 over-floor : (n : Newest) (t : ℕ) → NotBelow (floorOr (giving n) (At t)) (giving n)
 unfolding giving floorOr
 over-floor unset t = noBoundary
-over-floor (closing s) t = atLeast (le-refl s)
-over-floor (marking s) t = noBoundary
+over-floor (closingAt s) t = atLeast (le-refl s)
+over-floor (markAt s) t = noBoundary
 
 -- and a commit's timestamp is above the logged one
 commit-floor : (n s c : ℕ) → s ≤ c → NotBelow (giving (newestBy n s)) (giving (newestBy n c))
@@ -261,12 +256,12 @@ commit-floor zero s c l = noBoundary
 commit-floor (suc n) s c l = atLeast l
 
 -- the newest of the present history and that of the last drain give nothing below the floor
-cut-floor : {prior hist : List Past} {priors gs : List Seq} (σ : Since prior hist priors gs) → Falls gs → (c : Newest)
+pub cut-floor : {prior hist : List Past} {priors gs : List Seq} (σ : Since prior hist priors gs) → Falls gs → (c : Newest)
     → (c ≡ newestIn gs) ⊎ (c ≡ newestIn priors) → NotBelow (floorSince σ) (giving c)
-unfolding newestIn floorSince giving floorOr
+unfolding newestIn floorSince giving floorOr newestBy
 cut-floor (level {gs = gs}) f c (inl e) = rw e (same-floor (newestIn gs))
 cut-floor (level {gs = gs}) f c (inr e) = rw e (same-floor (newestIn gs))
-cut-floor (grown {gs = []} es t) f c (inl e) = rw e (first-floor (length es) t)
+cut-floor (grown {gs = []} es t) f c (inl e) = rw e (above-floor (length es) zero t t (le-refl t))
 cut-floor (grown {gs = []} es t) f c (inr e) = rw e (over-floor unset t)
 cut-floor (grown {gs = g ∷ gs} es t) f c (inl e) =
     rw e (above-floor (length es) (length (g .entries)) t (g .stamp) (falls-top g f (there here)))

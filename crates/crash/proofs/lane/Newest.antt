@@ -4,18 +4,18 @@ use Prim.Native.Nat.{ℕ, zero, suc, _<_}
 use native.Mathlib.Omega.{arith}
 use native.Mathlib.Nat.{zero-lt-suc}
 use Rattle.log.specs.Log.{given, contribution}
-use Rattle.log.specs.inner.LatestLaws.{given-none, given-some}
+use Rattle.log.specs.inner.LogLaws.{given-none, given-some}
 use Rattle.log.specs.declared.Timestamp.{Timestamp}
 use Rattle.log.specs.declared.Timestamp.the-variants.{None, At}
 use Rattle.log.specs.declared.Latest.{Latest}
 use Rattle.log.specs.declared.Latest.the-variants.{Nothing, Is}
 use Rattle.record.specs.Record.{floorAfterDrain}
-use Rattle.crash.specs.History.{Newest, unset, closing, marking, floorOnDrain}
+use Rattle.crash.specs.History.{Newest, unset, closingAt, markAt, floorOnDrain}
 
 -- that of a sequence of n entries stamped s
 unfoldable pub newestBy : (n s : ℕ) → Newest
-newestBy zero s = marking s
-newestBy (suc n) s = closing s
+newestBy zero s = markAt s
+newestBy (suc n) s = closingAt s
 
 unfoldable pub newestOf : Latest → Newest
 newestOf Nothing = unset
@@ -24,10 +24,10 @@ newestOf (Is q) = newestBy (q .count) (q .stamp)
 -- what it gives to the boundary
 unfoldable pub giving : Newest → Timestamp
 giving unset = None
-giving (closing s) = At s
-giving (marking s) = None
+giving (closingAt s) = At s
+giving (markAt s) = None
 
-pub closing-by : (n s : ℕ) → 0 < n → newestBy n s ≡ closing s
+pub closing-by : (n s : ℕ) → 0 < n → newestBy n s ≡ closingAt s
 unfolding newestBy
 closing-by zero s h = absurd (omega arith)
 closing-by (suc n) s h = refl

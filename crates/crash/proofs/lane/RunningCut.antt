@@ -10,6 +10,7 @@ use lib.ListN.{length, getD, take}
 use Rattle.laws.specs.inner.Lists.{All, All-map}
 use Rattle.image.specs.declared.Sizes.{Sizes}
 use Rattle.log.specs.Log.{Complete, completeIn, latest, latestIn, contribution}
+use Rattle.log.specs.inner.LogLaws.{at-one}
 use Rattle.log.specs.declared.Timestamp.{Timestamp}
 use Rattle.log.specs.declared.Timestamp.the-variants.{None, At}
 use Rattle.record.specs.Record.{noLane, laneAt, lesser, leastFloor, boundOf}
@@ -26,9 +27,6 @@ use Rattle.crash.proofs.lane.Written.{Whole, foundAs}
 use Rattle.crash.proofs.lane.Log.{Track}
 use Rattle.crash.proofs.lane.Cut.{CutFound, itself, logged, unseen, lane-cut-known, lane-cut-floor, lane-cut-found, lane-cut-newest}
 use Rattle.crash.proofs.lane.Running.{Running}
-
-at-one : {a b : ℕ} → At a ≡ At b → a ≡ b
-at-one p = cc
 
 -- ---- the least floor is at most each
 lesser-left : (f : ℕ) (a b : Timestamp) → a ≡ At f → (c : ℕ) × (lesser a b ≡ At c) × (c ≤ f)

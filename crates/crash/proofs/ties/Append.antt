@@ -28,7 +28,7 @@ use Rattle.record.specs.declared.Phase.the-variants.{Idle, Holds}
 use Rattle.record.specs.declared.Lane.{Lane}
 use Rattle.store.specs.Machine.{Machine}
 use Rattle.store.specs.Calls.{drained, changed, writesOn, appended, logged}
-use Rattle.crash.specs.History.{Newest, closing, marking, Commit, Page, History, pageAt, replay, wordsBelow, present}
+use Rattle.crash.specs.History.{Newest, closingAt, markAt, Commit, Page, History, pageAt, replay, wordsBelow, present}
 use Rattle.crash.specs.History.{floorOr, settled, stamped, leastFloorOf, writesLogged}
 use Rattle.laws.specs.inner.Members.{In, in-cases, there}
 use Rattle.recovery.specs.inner.UndoneLaws.{writes, firstOld}
@@ -122,13 +122,13 @@ module _ (z : Sizes) (base : ℕ) (h : History) (m : Machine) (b : Book z base h
         (all-onward z h was (onward-settled L h) (given-now z base h m b t L (k .lane)) (t .now L (k .lane)))
 
   -- what is logged now is what the lane's page has logged
-  pub logged-new : (f : List ℕ) → writesLogged z L (new closing (some f)) ≡ writesOn z f m
+  pub logged-new : (f : List ℕ) → writesLogged z L (new closingAt (some f)) ≡ writesOn z f m
   unfolding writesOn
   logged-new f =
-      let p = page-stamped L was (rw (book .pages) (k .lane)) closing (some f) [] in
-      writes-held z (new closing (some f)) L f stamp (ap (λ (p : Page). p .held) (p .here))
-      (ap (λ (p : Page). p .newest) (p .here) ∙ ap (λ (c : ℕ). closing (c + 2)) clock-was)
-      ∙ ap (run z.words f) (words-new closing (some f))
+      let p = page-stamped L was (rw (book .pages) (k .lane)) closingAt (some f) [] in
+      writes-held z (new closingAt (some f)) L f stamp (ap (λ (p : Page). p .held) (p .here))
+      (ap (λ (p : Page). p .newest) (p .here) ∙ ap (λ (c : ℕ). closingAt (c + 2)) clock-was)
+      ∙ ap (run z.words f) (words-new closingAt (some f))
 
   -- ---- one sequence more
   module _ (ws : List Write) (chain : Chain (dataOf z (m .cache)) ws)
@@ -229,10 +229,10 @@ module _ (z : Sizes) (base : ℕ) (h : History) (m : Machine) (b : Book z base h
 pub ties-appends : (z : Sizes) (base : ℕ) (m : Machine) (h : History) (L : ℕ) (f : List ℕ)
     → Book z base h m → Ties z base m h → Known z m L → txnBy former maxWrites z.words f ≡ true
     → isLogged (laneAt (m .state) L .phase) ≡ false → 0 < length (writesOn z f m) → Room z m L (length (writesOn z f m) + 1)
-    → Ties z base (logged z L (writesOn z f m) (drained z L m)) (stamped L closing (some f) [] (settled L h))
+    → Ties z base (logged z L (writesOn z f m) (drained z L m)) (stamped L closingAt (some f) [] (settled L h))
 unfolding logged writesOn
 ties-appends z base m h L f b t k ok i p r =
-    appended-ties z base h m b t L k (writesOn z f m) chain r _ _ closing (some f)
+    appended-ties z base h m b t L k (writesOn z f m) chain r _ _ closingAt (some f)
     (λ s. sym (closing-by (length (oldsOf (writesOn z f m))) s (omega (arith, length-olds (writesOn z f m)))))
     (running-logs z m (t .ts) (t .running) L (k .lane) (writesOn z f m) p
     (few-writes former maxWrites z.words f (dataOf z (m .cache)) ok) (run-low former maxWrites z.words f (dataOf z (m .cache)) ok))
@@ -242,9 +242,9 @@ ties-appends z base m h L f b t k ok i p r =
     chain = run-chain z.words f (dataOf z (m .cache))
 
 pub ties-marks : (z : Sizes) (base : ℕ) (m : Machine) (h : History) (L : ℕ) → Book z base h m → Ties z base m h → Known z m L → Room z m L 1
-    → Ties z base (appended z L [] Idle (laneAt (m .state) L .redo) (drained z L m)) (stamped L marking none [] (settled L h))
+    → Ties z base (appended z L [] Idle (laneAt (m .state) L .redo) (drained z L m)) (stamped L markAt none [] (settled L h))
 unfolding newestBy oldsOf
 ties-marks z base m h L b t k r =
-    appended-ties z base h m b t L k [] chain-nil r Idle (laneAt (m .state) L .redo) marking none (λ s. refl)
+    appended-ties z base h m b t L k [] chain-nil r Idle (laneAt (m .state) L .redo) markAt none (λ s. refl)
     (running-marks z m (t .ts) (t .running) L (k .lane) (laneAt (m .state) L .redo))
     (λ x e. not-held Idle x refl e)

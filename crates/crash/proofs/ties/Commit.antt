@@ -28,7 +28,7 @@ use Rattle.record.specs.declared.Phase.the-variants.{Idle, Holds}
 use Rattle.record.specs.declared.Lane.{Lane}
 use Rattle.store.specs.Machine.{Machine}
 use Rattle.store.specs.Calls.{drained, changed, writesOn, pairStores, commitStores, committed, isStale, redoPairs, matches}
-use Rattle.crash.specs.History.{closing, Commit, Page}
+use Rattle.crash.specs.History.{closingAt, Commit, Page}
 use Rattle.crash.specs.History.{History, pageAt, isBelow, wordsBelow, present, floorOr, settled, stamped, heldBy, writesLogged, leastFloorOf}
 use Rattle.laws.specs.inner.Members.{In, in-cases, here, there, In-append, In-All}
 use Rattle.recovery.specs.inner.UndoneLaws.{writes, firstOld}
@@ -79,7 +79,7 @@ commit-named z L ws m w h = among-last (1 + w) (pairStores (pairsOf (length ws) 
 
 -- ---- the words below a commit's timestamp are those before it
 pub commit-below : (z : Sizes) (L : ℕ) (f : List ℕ) (h : History) → All (λ c. c .stamp ≤ h .clock) (h .commits)
-    → wordsBelow z (At (h .clock + 2)) (stamped L closing none (f ∷ []) h) ≡ present z h
+    → wordsBelow z (At (h .clock + 2)) (stamped L closingAt none (f ∷ []) h) ≡ present z h
 unfolding wordsBelow present stamped isBelow
 commit-below z L f h u =
     replay-snoc z.words (At (h .clock + 2)) (h .commits) (record { stamp = h .clock + 2; txn = f }) (h .start)
@@ -94,7 +94,7 @@ seal-one c gs g rest e = rw e
 not-first : {A : Type 0} (c : ℕ) (g : Seq) (gs : List Seq) → sealGs c gs ≡ g ∷ gs → A
 not-first c g gs e = absurd (omega (arith, ap length e, length-sealGs c gs))
 
-newest-one : (c : ℕ) (g : Seq) (rest : List Seq) → 0 < length (g .entries) → closing c ≡ newestIn (restamped c g ∷ rest)
+newest-one : (c : ℕ) (g : Seq) (rest : List Seq) → 0 < length (g .entries) → closingAt c ≡ newestIn (restamped c g ∷ rest)
 unfolding newestIn
 newest-one c g rest some = sym (closing-by (length (g .entries)) c some)
 
@@ -113,7 +113,7 @@ module _ (z : Sizes) (base : ℕ) (h : History) (m : Machine) (b : Book z base h
   ws = writesOn z f m
 
   abbrev k : History
-  k = stamped L closing none (f ∷ []) h
+  k = stamped L closingAt none (f ∷ []) h
 
   abbrev n : Machine
   n = committed z L (pairsOf (length ws) ws) m
@@ -219,8 +219,8 @@ module _ (z : Sizes) (base : ℕ) (h : History) (m : Machine) (b : Book z base h
       record {
         track = restampedBy z L m (h .clock + 2) (t .ts L);
         tracks = to;
-        page = record { held = none; newest = closing (h .clock + 2); floor = floorOr (pageAt h L .floor) (At (h .clock + 2)) };
-        pages = page-stamped L h (rw (b .pages) lane) closing none (f ∷ []);
+        page = record { held = none; newest = closingAt (h .clock + 2); floor = floorOr (pageAt h L .floor) (At (h .clock + 2)) };
+        pages = page-stamped L h (rw (b .pages) lane) closingAt none (f ∷ []);
         onward = onward-commit L f h;
         running = runs;
         at-base = base-same;
@@ -268,7 +268,7 @@ restamped-to z L m ts vs c e p q =
 module _ (z : Sizes) (base : ℕ) (m : Machine) (h : History) (L : ℕ) (b : Book z base h m) (t : Ties z base m h) (k : Known z m L) where
   pub ties-commits : (x : Logged) → laneAt (m .state) L .phase ≡ Holds x → (f : List ℕ) → txnBy former maxWrites z.words f ≡ true
       → oldsOf (writesOn z f m) ≡ oldsOf (writesLogged z L h)
-      → Ties z base (committed z L (pairsOf (length (writesOn z f m)) (writesOn z f m)) (drained z L m)) (stamped L closing none (f ∷ []) (settled L h))
+      → Ties z base (committed z L (pairsOf (length (writesOn z f m)) (writesOn z f m)) (drained z L m)) (stamped L closingAt none (f ∷ []) (settled L h))
   unfolding drained drainedLane writesOn settled withLane
   ties-commits x held f ok same =
       let d = drained-ties z base h m b t L (k .lane) in
@@ -286,7 +286,7 @@ module _ (z : Sizes) (base : ℕ) (m : Machine) (h : History) (L : ℕ) (b : Boo
 
 -- ---- Redo that is not stale, and Validate that matches
 pub ties-redoes : (z : Sizes) (base : ℕ) (m : Machine) (h : History) (L : ℕ) → Book z base h m → Ties z base m h → Known z m L → Ready m L → isStale L m ≡ false
-    → Ties z base (committed z L (redoPairs L m) (drained z L m)) (stamped L closing none (heldBy (pageAt h L .held)) (settled L h))
+    → Ties z base (committed z L (redoPairs L m) (drained z L m)) (stamped L closingAt none (heldBy (pageAt h L .held)) (settled L h))
 ties-redoes z base m h L b t k y e =
     let l = ties-logs z base m h b t in
     let v = holds-it z base h m b l L (k .lane) (y .held) in
@@ -296,7 +296,7 @@ ties-redoes z base m h L b t k y e =
 pub ties-validates : (z : Sizes) (base : ℕ) (m : Machine) (h : History) (L : ℕ) (f : List ℕ)
     → Book z base h m → Ties z base m h → Known z m L → txnBy former maxWrites z.words f ≡ true
     → Ready m L → matches z L (writesOn z f m) m ≡ true
-    → Ties z base (committed z L (pairsOf (length (writesOn z f m)) (writesOn z f m)) (drained z L m)) (stamped L closing none (f ∷ []) (settled L h))
+    → Ties z base (committed z L (pairsOf (length (writesOn z f m)) (writesOn z f m)) (drained z L m)) (stamped L closingAt none (f ∷ []) (settled L h))
 ties-validates z base m h L f b t k ok y e =
     ties-commits z base m h L b t k _ (is-held (laneAt (m .state) L .phase) (y .held)) f ok
     (matched z base h m b (ties-logs z base m h b t) L (k .lane) (y .held) (writesOn z f m) e)

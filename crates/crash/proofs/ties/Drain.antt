@@ -3,36 +3,36 @@
 use mathlib.Core.Path.{_≡_, refl, ap, _∙_, sym, subst}
 use mathlib.Core.Logic.{_⊎_, inl, inr}
 use mathlib.Core.Bool.{true, false}
-use mathlib.Core.List.{List, [], _∷_}
+use mathlib.Core.List.{List, _∷_}
 use mathlib.Core.Option.{none}
-use Prim.Native.Nat.{ℕ, zero, suc, _+_, _≤_, _<_}
+use Prim.Native.Nat.{ℕ, _+_, _<_}
 use native.Mathlib.Omega.{arith}
 use native.Mathlib.Nat.{le-trans}
 use lib.ListN.{length, getD}
 use Rattle.laws.specs.inner.Tests.{clash}
-use Rattle.laws.specs.inner.Lists.{more}
 use Rattle.txn.specs.Txn.{maxWrites, former, txnBy}
 use Rattle.image.specs.declared.Sizes.{Sizes}
 use Rattle.log.specs.declared.Timestamp.{Timestamp}
-use Rattle.log.specs.declared.Timestamp.the-variants.{None, At}
 use Rattle.record.specs.Record.{laneAt, drainedLane, idleLane}
 use Rattle.record.specs.declared.Phase.the-variants.{Idle, Holds}
 use Rattle.record.specs.declared.Lane.{Lane}
 use Rattle.store.specs.Machine.{Machine}
 use Rattle.store.specs.Calls.{drained, matches, writesOn}
 use Rattle.store.specs.Calls as calls
-use Rattle.crash.specs.History.{unset, Page, History, pageAt, floorOr, floorOnDrain, settled, released}
+use Rattle.crash.specs.History.{Page, History, pageAt, floorOnDrain, settled, released}
+use Rattle.crash.specs.Theorem.{NotBelow, noBoundary, atLeast}
 use Rattle.crash.proofs.recovery.Data.{oldsOf}
 use Rattle.crash.proofs.induction.Moves.{Known, Ready}
 use Rattle.crash.proofs.history.Lanes.{lane-drained, lane-released, page-settled, page-released}
 use Rattle.crash.proofs.history.Agree.{Book}
 use Rattle.crash.proofs.history.Onward.{onward-settled, onward-released}
 use Rattle.crash.proofs.history.Books.{book-drains, not-held}
-use Rattle.crash.proofs.lane.Seqs.{Seq, Since, level, grown, sealed}
+use Rattle.crash.proofs.lane.Seqs.{Seq, Since}
 use Rattle.crash.proofs.lane.Ghost.{Past}
-use Rattle.crash.proofs.lane.Written.{Falls, onto, newestIn}
-use Rattle.crash.proofs.lane.Newest.{newestBy, giving}
+use Rattle.crash.proofs.lane.Written.{Falls, newestIn}
+use Rattle.crash.proofs.lane.Newest.{giving}
 use Rattle.crash.proofs.lane.Log.{Track, floorSince, floor-drained, levelled}
+use Rattle.crash.proofs.lane.Cut.{cut-floor}
 use Rattle.crash.proofs.lane.Running.{Running, running-drains, running-releases, updated}
 use Rattle.crash.proofs.ties.Ties.{Flushes, Ties}
 use Rattle.crash.proofs.ties.Logs.{ties-logs}
@@ -40,37 +40,14 @@ use Rattle.crash.proofs.ties.Laws.{AtMost, not-none, at-most, track-to,
 use Rattle.crash.proofs.ties.Laws.{all-onward, logged-onward, given-now, given-before, Moving, TiesOf, ties-moved}
 
 -- ---- a lane's floor
--- what a timestamp t gives is at most x, so it closes entries, and an earlier timestamp of the same kind is at most x too
-given-earlier : (n t s x : ℕ) → s ≤ t → AtMost (giving (newestBy n t)) x → AtMost (giving (newestBy n s)) x
-unfolding giving newestBy
-given-earlier zero t s x l a = a
-given-earlier (suc n) t s x l a = record { stamp = s; is = refl; low = let k = at-most t x a in omega arith }
-
--- and so is the floor that it was appended over, or that it set
-given-over : (n t : ℕ) (f : Timestamp) (x : ℕ) → ((s : ℕ) → f ≡ At s → s ≤ t) → AtMost (giving (newestBy n t)) x → AtMost (floorOr f (At t)) x
-unfolding giving newestBy floorOr
-given-over zero t f x l a = not-none a
-given-over (suc n) t None x l a = a
-given-over (suc n) t (At s) x l a = record { stamp = s; is = refl; low = let k = at-most t x a in let e = l s refl in omega arith }
-
-given-at : (n s t : ℕ) → giving (newestBy n s) ≡ At t → t ≡ s
-unfolding giving newestBy
-given-at zero s t e = absurd (let z : _≡_ {A = ℕ} 0 1 = cc in omega arith)
-given-at (suc n) s t e = cc
-
-none-at : {A : Type 0} (t : ℕ) → giving unset ≡ At t → A
-unfolding giving
-none-at t e = absurd (let z : _≡_ {A = ℕ} 0 1 = cc in omega arith)
+not-below : {f b : Timestamp} → NotBelow f b → (x : ℕ) → AtMost b x → AtMost f x
+not-below noBoundary x a = not-none a
+not-below (atLeast {f = f} {b = b} l) x a = record { stamp = f; is = refl; low = let k = at-most b x a in omega arith }
 
 -- a drain makes it what the newest timestamp gives, which is not below it
 floor-rises : {prior hist : List Past} {priors gs : List Seq} (σ : Since prior hist priors gs) → Falls gs → (x : ℕ)
     → AtMost (giving (newestIn gs)) x → AtMost (floorSince σ) x
-unfolding floorSince newestIn
-floor-rises level f x a = a
-floor-rises (grown {gs = []} es s) f x a = given-over (length es) s (giving unset) x (λ t e. none-at t e) a
-floor-rises (grown {gs = g ∷ gs} es s) (onto (more l h) f) x a =
-    given-over (length es) s (giving (newestIn (g ∷ gs))) x (λ t e. let k = given-at (length (g .entries)) (g .stamp) t e in omega arith) a
-floor-rises (sealed g c up some) f x a = given-earlier (length (g .entries)) c (g .stamp) x (omega arith) a
+floor-rises {gs = gs} σ f x a = not-below (cut-floor σ f (newestIn gs) (inl refl)) x a
 
 -- nothing is appended to a lane that has just drained
 pub not-longer : {A : Type 0} (g : Seq) (gs : List Seq) → gs ≡ g ∷ gs → A

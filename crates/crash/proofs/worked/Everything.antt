@@ -48,9 +48,9 @@ unfolding slots.entryOf slots.stampOf slots.entryShape slots.stampShape slots.wh
     histories.pageAt histories.opened histories.isBelow histories.replay histories.wordsBelow histories.floorOr histories.floorOnDrain histories.settled
     histories.stamped histories.released histories.isSome histories.heldBy histories.isCounted histories.taken histories.restarted histories.afterCall
     histories.afterRecovered histories.fedAnswer histories.fedFailure histories.fed histories.leastFloorOf histories.present histories.writesNow
-    histories.stampOf histories.writesLogged histories.sameOlds histories.isAbove histories.commitAbove histories.holdsOne histories.notHeld
+    histories.newestStamp histories.writesLogged histories.sameOlds histories.isAbove histories.commitAbove histories.holdsOne histories.notHeld
     histories.clockSpent histories.causesBy histories.slotsBy histories.takenAnswer
     theorems.endOf theorems.isFull theorems.refusalBy theorems.answerBy theorems.recoveryAnswer theorems.mayStore
-    corollaries.nextWorld corollaries.worldAfter corollaries.mayStart corollaries.goesOn corollaries.isDone
+    corollaries.nextWorld corollaries.worldAfter corollaries.isFormat corollaries.startsAnew corollaries.goesOn corollaries.isDone
     corollaries.isDrain corollaries.isIdle corollaries.staysIdle corollaries.othersFloor
 everything = 0

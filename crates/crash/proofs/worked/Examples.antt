@@ -278,7 +278,7 @@ idle-words : wordsIn small (afterAll small begun (idleLane1 ++ (twoOnLane0 ++ (r
 unfolding everything afterAll wordsIn
 idle-words = refl
 
--- it commits at 10, is marked and drained too: no lane gives a boundary, and every commit stays
+-- or lane 0 commits at 10, is marked and drained too: no lane gives a boundary, and every commit stays
 abbrev markedToo : List Event
 markedToo = call (log 0 (set0 2)) ∷ call (redo 0) ∷ call (mark 0) ∷ call (drain 0) ∷ fails junk ∷ []
 

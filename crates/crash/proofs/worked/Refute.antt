@@ -321,40 +321,34 @@ lastSides d z w limit j =
 
 -- a commit that can no longer be lost: after the events es the floors are above s, and recovery comes after fs
 module _ (d : Design) (z : Sizes) (start : List ℕ) (es fs : List Event) (s limit : ℕ) (j : Junk) where
-  unfoldable pub atSafe : World
-  atSafe = worldAfter d z (unformatted z) (format start ∷ es)
-
   unfoldable pub atLast : World
-  atLast = worldAfter d z atSafe fs
+  atLast = worldAfter d z (was d z start es) fs
 
   -- Format is taken, s was given, the floors are above it, nothing starts anew, every commit is one of those up to s, and the two sides differ
   unfoldable pub safeDiffers : (has due : List ℕ) → Bool
   safeDiffers has due =
       eqb (formatRefusal z start (blank z)) 0
-      && (leb s (atSafe .history .clock)
-      && (isBelow (leastFloorOf (atSafe .history .pages)) s
-      && (goesOn fs && (areBelow (At (s + 1)) (atLast .history .commits) && differ (lastSides d z atLast limit j) has due))))
+      && (leb s (was d z start es .history .clock)
+      && (isBelow (leastFloorOf (was d z start es .history .pages)) s
+      && (goesOn d z (was d z start es) fs && (areBelow (At (s + 1)) (atLast .history .commits) && differ (lastSides d z atLast limit j) has due))))
 
   pub wrong-safe : (has due : List ℕ) → safeDiffers has due ≡ true → SafeTheorem d → ⊥
-  unfolding safeDiffers lastSides SafeTheorem atSafe atLast
+  unfolding safeDiffers lastSides SafeTheorem was atLast
   wrong-safe has due t c =
       let t₁ = and-right (eqb (formatRefusal z start (blank z)) 0) _ t in
-      let t₂ = and-right (leb s (atSafe .history .clock)) _ t₁ in
-      let t₃ = and-right (isBelow (leastFloorOf (atSafe .history .pages)) s) _ t₂ in
-      let t₄ = and-right (goesOn fs) _ t₃ in
+      let t₂ = and-right (leb s (was d z start es .history .clock)) _ t₁ in
+      let t₃ = and-right (isBelow (leastFloorOf (was d z start es .history .pages)) s) _ t₂ in
+      let t₄ = and-right (goesOn d z (was d z start es) fs) _ t₃ in
       let x = happens d z (atLast .system) (recover limit j) in
       differ-not (lastSides d z atLast limit j) has due (and-right (areBelow (At (s + 1)) (atLast .history .commits)) _ t₄)
       (kept-due z (atLast .history) (At (s + 1)) (and-left _ _ t₄) (x .system) (x .reply)
       (c z start (blank z) (opened z [] 0) (eqb-true (formatRefusal z start (blank z)) 0 (and-left _ _ t)) es fs s
-      (leb-true s (atSafe .history .clock) (and-left _ _ t₁)) (and-left _ _ t₂) (and-left _ _ t₃) limit j))
+      (leb-true s (was d z start es .history .clock) (and-left _ _ t₁)) (and-left _ _ t₂) (and-left _ _ t₃) limit j))
 
 -- an idle lane: L is marked after the events es, drained after fs, and recovery comes after gs
 module _ (d : Design) (z : Sizes) (start : List ℕ) (L : ℕ) (es fs gs : List Event) (limit : ℕ) (j : Junk) where
-  unfoldable pub atMark : World
-  atMark = worldAfter d z (unformatted z) (format start ∷ es)
-
   unfoldable pub atDrain : World
-  atDrain = worldAfter d z (nextWorld d z atMark (call (mark L))) fs
+  atDrain = worldAfter d z (nextWorld d z (was d z start es) (call (mark L))) fs
 
   unfoldable pub atCut : World
   atCut = worldAfter d z (nextWorld d z atDrain (call (drain L))) gs
@@ -363,16 +357,16 @@ module _ (d : Design) (z : Sizes) (start : List ℕ) (L : ℕ) (es fs gs : List 
   unfoldable pub idleDiffers : (has due : List ℕ) → Bool
   idleDiffers has due =
       eqb (formatRefusal z start (blank z)) 0
-      && (isDone (happens d z (atMark .system) (call (mark L)) .reply)
+      && (isDone (happens d z (was d z start es .system) (call (mark L)) .reply)
       && (staysIdle L fs
       && (isDone (happens d z (atDrain .system) (call (drain L)) .reply)
       && (staysIdle L gs && (areBelow (othersFloor L (atCut .history)) (atCut .history .commits) && differ (lastSides d z atCut limit j) has due)))))
 
   pub wrong-idle : (has due : List ℕ) → idleDiffers has due ≡ true → IdleTheorem d → ⊥
-  unfolding idleDiffers lastSides IdleTheorem atMark atDrain atCut
+  unfolding idleDiffers lastSides IdleTheorem was atDrain atCut
   wrong-idle has due t c =
       let t₁ = and-right (eqb (formatRefusal z start (blank z)) 0) _ t in
-      let t₂ = and-right (isDone (happens d z (atMark .system) (call (mark L)) .reply)) _ t₁ in
+      let t₂ = and-right (isDone (happens d z (was d z start es .system) (call (mark L)) .reply)) _ t₁ in
       let t₃ = and-right (staysIdle L fs) _ t₂ in
       let t₄ = and-right (isDone (happens d z (atDrain .system) (call (drain L)) .reply)) _ t₃ in
       let t₅ = and-right (staysIdle L gs) _ t₄ in
@@ -386,5 +380,5 @@ module _ (d : Design) (z : Sizes) (start : List ℕ) (L : ℕ) (es fs gs : List 
 unfoldable pub refuting : ℕ
 unfolding everything same differ wordsSides clockSides endSides numbersIn answerSides countsIn countSides finishedSides recoveredSides blank
     was differs is leftSides formerSides formerDiffers trailerSides trailerDiffers keptBySides keptSides areBelow
-    lastSides atSafe atLast safeDiffers atMark atDrain atCut idleDiffers
+    lastSides atLast safeDiffers atDrain atCut idleDiffers
 refuting = 0

@@ -298,7 +298,7 @@ unfolding made logsFirst
 logs-first =
     wrong-recovery logsFirst small (0 ∷ 0 ∷ []) (twoLanes ++ (writeBacks 0 139 ++ (fails junk ∷ recover 71 junk ∷ []))) 1000 junk (0 ∷ 2 ∷ []) (0 ∷ 0 ∷ []) refl
 
--- 7. No floor for a lane whose first sequence is not drained. Lane 1's first sequence, at 2, was written back and is the boundary, but keeps nobody from
+-- 7. A sequence sets no floor before it is drained. Lane 1's first sequence, at 2, was written back and is the boundary, but keeps nobody from
 -- overwriting: lane 0's third transaction is logged over its first one, and word 0 is left at 16
 unfoldable noFirstFloor : Design
 noFirstFloor =
@@ -385,7 +385,7 @@ stamps-only : CrashTheorem stampsOnly → ⊥
 unfolding made stampsOnly
 stamps-only = wrong-words stampsOnly small (0 ∷ 0 ∷ []) (call (log 0 (set0 2)) ∷ []) (call (redo 0)) (0 ∷ 0 ∷ []) (2 ∷ 0 ∷ []) refl
 
--- 14. A Log answers 9 on an empty log, one of a lane without a floor, while another lane has one
+-- 14. A Log answers 9 on a lane without a floor. Here its log is empty, while another lane has a floor
 unfoldable refusedIfNone : Timestamp → Machine → Step → Step
 refusedIfNone None m s = record { answer = Refused 9; machine = m }
 refusedIfNone (At f) m s = s
@@ -646,8 +646,8 @@ marked-stay =
     (call (log 0 (set0 2)) ∷ call (drain 0) ∷ call (log 1 (set1 9)) ∷ call (redo 1) ∷ call (mark 1) ∷ call (drain 1) ∷ fails junk ∷ [])
     1000 junk (0 ∷ 9 ∷ []) (0 ∷ 0 ∷ []) refl
 
--- 33. A commit's timestamp, which closes entries, is taken for a mark by Drain: it ends the floor of every lane that holds nothing. Lane 1's commit at 4 is
--- the boundary, and lane 0's third transaction is logged over its first one
+-- 33. Drain takes the newest sequence of every lane that holds nothing, a commit's too, for a mark, and ends the floor. Lane 1's commit at 4 is the
+-- boundary, and lane 0's third transaction is logged over its first one
 unfoldable endsAtCommit : Design
 endsAtCommit = calling (draining (λ z L m. let s = drainStep z L m in cond (isLogged (laneIn L s .phase)) s (unfloored L s)) callStep)
 

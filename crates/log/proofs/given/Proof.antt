@@ -1,7 +1,7 @@
 -- `log::given` is `given`, by whether the count is 0. Assumes nothing.
 use mathlib.Core.Path.{sym}
 use native.Mathlib.Omega.{arith}
-use Rattle.log.specs.inner.LatestLaws.{given-none, given-some}
+use Rattle.log.specs.inner.LogLaws.{given-none, given-some}
 use Rattle.log.proofs.given.Statement.{statement}
 use Rattle.log.proofs.given.Tie as tie
 

@@ -1,28 +1,17 @@
--- Inner: how the code goes, need not be believed. The latest sequence of a list: a member that none of the list is above; and what a sequence gives.
--- Assumes nothing.
+-- Inner: how the code goes, need not be believed. The latest sequence of a list: a member that none of the list is above. Assumes nothing.
 use mathlib.Core.Path.{_≡_, refl, ap, _∙_, sym}
 use mathlib.Core.List.{List, [], _∷_}
-use Prim.Native.Nat.{ℕ, _≤_, _<_}
+use Prim.Native.Nat.{ℕ, _≤_}
 use native.Mathlib.Omega.{arith}
 use native.Mathlib.Nat.{le-refl}
 use lib.Dec.{ltb}
-use borrow.Author.Tests.{ltb-true, ltb-false, eq-eqb, ne-eqb}
+use borrow.Author.Tests.{ltb-true, ltb-false}
 use Rattle.laws.specs.inner.Tests.{split}
-use Rattle.log.specs.Log.{Complete, sequenceOf, later, latest, given}
-use Rattle.log.specs.declared.Timestamp.the-variants.{None, At}
+use Rattle.log.specs.Log.{Complete, sequenceOf, later, latest}
 use Rattle.log.specs.declared.Sequence.{Sequence}
 use Rattle.log.specs.declared.Latest.{Latest}
 use Rattle.log.specs.declared.Latest.the-variants.{Nothing, Is}
 use Rattle.laws.specs.inner.Members.{In, here, there}
-
--- a mark gives none, any other sequence its timestamp
-pub given-none : (n s : ℕ) → n ≡ 0 → given n s ≡ None
-unfolding given
-given-none n s e = rw (eq-eqb n 0 e)
-
-pub given-some : (n s : ℕ) → 0 < n → given n s ≡ At s
-unfolding given
-given-some n s h = rw (ne-eqb n 0 (λ e. omega arith))
 
 -- the later of two is the first, and the second is not above it, or it is the second
 data Later (q : Sequence) (l : Latest) : Type 0 where

@@ -1,5 +1,5 @@
--- Inner: how the code goes, need not be believed. Laws of a lane's log: entries back from a timestamp, what a slot closes, the latest of two lists,
--- hits; nothing found depends on the lane. Assumes nothing.
+-- Inner: how the code goes, need not be believed. Laws of a lane's log: entries back from a timestamp, what a slot closes, what a sequence gives,
+-- the latest of two lists, hits; nothing found depends on the lane. Assumes nothing.
 use Prim.Native.Nat.{ℕ, zero, suc, _+_, _-_, _*_, _≤_, _<_}
 use mathlib.Core.Path.{_≡_, refl, sym, ap, _∙_}
 use mathlib.Core.Bool.{Bool, true, false, cond, _&&_, _||_, or-assoc, or-true}
@@ -23,8 +23,21 @@ use Rattle.log.specs.declared.Sequence.{Sequence}
 use Rattle.log.specs.declared.Latest.{Latest}
 use Rattle.log.specs.declared.Latest.the-variants.{Nothing, Is}
 use Rattle.log.specs.Log.{slotAt, Old, Complete, back, backWrap, entryIn, entriesBack, closes, completeBelow, completeIn}
-use Rattle.log.specs.Log.{sequenceOf, later, latest, latestIn, ahead, overlaps, hitsFrom, hits}
+use Rattle.log.specs.Log.{sequenceOf, later, latest, latestIn, given, ahead, overlaps, hitsFrom, hits}
 use Rattle.log.specs.inner.Search.{isEntry, entryBack}
+
+-- ---- timestamps, and what a sequence gives
+pub at-one : {a b : ℕ} → At a ≡ At b → a ≡ b
+at-one p = cc
+
+-- a mark gives none, any other sequence its timestamp
+pub given-none : (n s : ℕ) → n ≡ 0 → given n s ≡ None
+unfolding given
+given-none n s e = rw (eq-eqb n 0 e)
+
+pub given-some : (n s : ℕ) → 0 < n → given n s ≡ At s
+unfolding given
+given-some n s h = rw (ne-eqb n 0 (λ e. omega arith))
 
 -- ---- slots
 pub back-low : (N j i : ℕ) → j < N → i ≤ N → back N j i < N

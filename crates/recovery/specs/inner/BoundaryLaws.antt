@@ -17,13 +17,11 @@ use Rattle.log.specs.declared.Sequence.{Sequence}
 use Rattle.log.specs.declared.Latest.{Latest}
 use Rattle.log.specs.declared.Latest.the-variants.{Nothing, Is}
 use Rattle.record.specs.Record.{lesser}
+use Rattle.log.specs.inner.LogLaws.{at-one}
 use Rattle.log.specs.inner.LatestLaws.{latest-greatest}
 use Rattle.recovery.specs.Recovery.{boundaryBelow, boundary, completeOf}
 use Rattle.laws.specs.inner.Members.{In}
 use Rattle.recovery.specs.inner.SequenceLaws.{lane-in}
-
-at-one : {a b : ℕ} → At a ≡ At b → a ≡ b
-at-one p = cc
 
 -- ---- what a lane gives: the timestamp of a sequence that closes entries
 pub record Gives (l : Latest) (m : ℕ) : Type 0 where
