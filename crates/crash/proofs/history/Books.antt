@@ -36,7 +36,8 @@ use Rattle.record.specs.declared.Lane.{Lane}
 use Rattle.store.specs.Machine.{Machine}
 use Rattle.store.specs.Calls.{drained, changed, writesOn, appended, logged, committed, isStale, redoPairs}
 use Rattle.store.specs.Calls as calls
-use Rattle.crash.specs.History.{Newest, unset, closingAt, markAt, newestStamp, Commit, Page, History, pageAt, isBelow, replay, isSome, wordsBelow, present}
+use Rattle.crash.specs.History.{Newest, unset, closingAt, markAt, newestStamp, Commit, Page, History, pageAt}
+use Rattle.crash.specs.History.{isBelow, replay, isSome, wordsBelow, present}
 use Rattle.crash.specs.History.{floorOr, floorOnDrain, settled, stamped, released, heldBy, isAbove, commitAbove, writesLogged}
 use Rattle.crash.proofs.recovery.Data.{length-replay, replay-snoc, replay-all}
 use Rattle.crash.proofs.induction.Moves.{Known, Ready}

@@ -67,7 +67,8 @@ module _ (P : Page → Type 0) (blank : P blankPage) (drains : (p : Page) → P 
 
   idle-page : (d : Design) (z : Sizes) (w : World) (es : List Event) → staysIdle L es ≡ true → P (pageAt (w .history) L)
       → P (pageAt (worldAfter d z w es .history) L)
-  idle-page d z w es t i = after-keeps (λ h. P (pageAt h L)) (λ M. L ≢ M) page-keeping d z w es (idle-steps es t) (inl (λ start clock. opened-page P blank z start clock L)) i
+  idle-page d z w es t i =
+      after-keeps (λ h. P (pageAt h L)) (λ M. L ≢ M) page-keeping d z w es (idle-steps es t) (inl (λ start clock. opened-page P blank z start clock L)) i
 
 -- ---- a mark, and a drain
 blank-settled : Settled blankPage

@@ -176,7 +176,11 @@ above-keeping s =
       settles = λ M h i. (
         i .0,
         page-all (Above s) (above-blank s) (h .pages) M (onDrain (getD (h .pages) M blankPage))
-            (record { floor = i .1 M .drained; drained = rw (drained-twice (getD (h .pages) M blankPage .newest) (getD (h .pages) M blankPage .floor)) (i .1 M .drained) }) (i .1),
+            (record {
+              floor = i .1 M .drained;
+              drained = rw (drained-twice (getD (h .pages) M blankPage .newest) (getD (h .pages) M blankPage .floor)) (i .1 M .drained);
+            })
+            (i .1),
       );
       stamps = λ M u kind ks held txns h i.
           let l : s < h .clock + 2 = omega (arith, i .0) in (
