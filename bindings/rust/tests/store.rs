@@ -104,6 +104,12 @@ fn marks_drains_and_changes() {
     });
 }
 
+/// Power is cut, and recovery answers this.
+fn cut_and_recover(store: &mut Store, boundary: Option<u64>, undone: u64) {
+    cut_power(store);
+    assert_eq!(store.recover_read(usize::MAX), finished(boundary, undone));
+}
+
 /// A store of two words 0 whose lane 1 has set word 1 to 7 at 4, was marked at 6 and drained, and rests.
 fn with_lane_1_at_rest(test: impl FnOnce(&mut Store)) {
     with_store(SIZES, |store| {
@@ -124,8 +130,7 @@ fn a_marked_lane_holds_nothing_back() {
         mark(store, 0, 12);
         assert_eq!(store.drain(0), Ok(()));
         assert_eq!((floor(store, 0), floor(store, 1)), (None, None));
-        cut_power(store);
-        assert_eq!(store.recover_read(usize::MAX), finished(None, 0));
+        cut_and_recover(store, None, 0);
         assert_eq!(store.nvm[..3], [12, 2, 7]);
     });
 }
@@ -141,8 +146,7 @@ fn beside_a_lane_at_rest_a_lane_needs_its_own_drains_alone() {
         assert_eq!(store.drain(0), Ok(()));
         // every floor is above 10 now
         assert_eq!((floor(store, 0), floor(store, 1)), (Some(14), None));
-        cut_power(store);
-        assert_eq!(store.recover_read(usize::MAX), finished(Some(14), 1));
+        cut_and_recover(store, Some(14), 1);
         assert_eq!(store.nvm[..3], [14, 2, 7]);
     });
 }
@@ -154,8 +158,7 @@ fn a_mark_and_its_drain_settle_a_commit() {
         commit(store, 0, &SET_0_TO_2, 10);
         assert_eq!(store.drain(0), Ok(()));
         assert_eq!(floor(store, 0), Some(10));
-        cut_power(store);
-        assert_eq!(store.recover_read(usize::MAX), finished(Some(10), 1));
+        cut_and_recover(store, Some(10), 1);
         assert_eq!(store.nvm[1..3], [0, 7]);
     });
     with_lane_1_at_rest(|store| {
@@ -163,8 +166,7 @@ fn a_mark_and_its_drain_settle_a_commit() {
         mark(store, 0, 12);
         assert_eq!(floor(store, 0), Some(10));
         // Mark has drained the commit, but the mark itself is in the cache alone
-        cut_power(store);
-        assert_eq!(store.recover_read(usize::MAX), finished(Some(10), 1));
+        cut_and_recover(store, Some(10), 1);
         assert_eq!(store.nvm[1..3], [0, 7]);
     });
     with_lane_1_at_rest(|store| {
@@ -172,8 +174,7 @@ fn a_mark_and_its_drain_settle_a_commit() {
         mark(store, 0, 12);
         assert_eq!(store.drain(0), Ok(()));
         assert_eq!(floor(store, 0), None);
-        cut_power(store);
-        assert_eq!(store.recover_read(usize::MAX), finished(None, 0));
+        cut_and_recover(store, None, 0);
         assert_eq!(store.nvm[1..3], [2, 7]);
     });
 }
@@ -189,8 +190,7 @@ fn a_marked_lane_is_undone_down_to_the_boundary() {
         mark(store, 1, 10);
         assert_eq!(store.drain(1), Ok(()));
         assert_eq!((floor(store, 0), floor(store, 1)), (Some(4), None));
-        cut_power(store);
-        assert_eq!(store.recover_read(usize::MAX), finished(Some(4), 2));
+        cut_and_recover(store, Some(4), 2);
         assert_eq!(store.nvm[..3], [10, 0, 0]);
     });
 }
