@@ -8,8 +8,9 @@
  *                four last words that tell W, T, N and how many words stand before these four; or VANDZULGE_FORMER_WORDS(W, T, N) words each, without a trailer
  *   flags        one byte for each image word, the trailer's too; bit L: lane L has flushed this word
  *   record       VANDZULGE_RECORD_WORDS words that Format or a finished recovery makes and the calls keep: clock, last commit, then 40 words a lane:
- *                phase (0 idle), first slot, count, timestamp, next slot, wrap bit, floor (0 none), floor's value, 16 pairs of word number and value.
- *                A taken call writes them all: a phase or floor word that is set becomes 1, words that say nothing 0, in lanes not in use too
+ *                phase (0 idle), first slot, count, timestamp, next slot, wrap bit, floor (0 none), floor's value, 16 pairs of word number and value; the last word is
+ *                the lag limit. A taken call writes them all: a phase or floor word that is set becomes 1, words that say nothing 0, in lanes not in use too
+ *   max_lag      the lag limit, an even number from VANDZULGE_LAG_MIN to VANDZULGE_LAG_MAX, given to Format and to each recovery
  *   answer       VANDZULGE_ANSWER_WORDS words
  *   txn          a transaction: 4 words an instruction (code, a, b, k), 1 to 16 instructions; unused fields are 0, a and b are data word numbers
  *                1 SET a := k   2 COPY a := [b]   3 ADD a := [b] + k   5 SKIP the next k (1 to 15) if [b] is 0
@@ -41,7 +42,7 @@
  * mark, which closes no entries. The least that is given is the boundary: all sequences at or above it are undone, those of marked lanes too, and commits below it stay. Where no
  * lane gives one, nothing is undone and every commit stays.
  * In the record each lane has a floor or none: at no cut does the lane give less than its floor, and without one it gives nothing. So a commit is safe from then on, at every later
- * cut, once each lane that has a floor has it above the commit's timestamp. (This and what follows is proved of stores from Format on.)
+ * cut, once each lane that has a floor has it above the commit's timestamp. (This and what follows in this paragraph is proved of stores from Format on.)
  *   A drain of the lane, also the one that each of its steps begins with, makes the floor the newest timestamp in the lane's log, where there is one, and ends the floor where that
  *   is a mark. Where a lane has no floor, the next timestamp that Log or Mark appends sets it; a Mark's own is then the floor until it is drained.
  *   A drain alone does not make a commit safe: the floor of its lane is then the commit's own timestamp, and what is at the boundary is undone. A Mark and then a Drain of the lane
@@ -49,13 +50,27 @@
  *   A lane that is drained after a Mark, and of which no step was called in between or since, delays nobody: from that drain on the commits of the other lanes become safe by those
  *   lanes' own steps and drains alone. The next timestamp that is appended to its log gives it a floor again.
  *
- * Refusals, the lowest number wins, but 14 comes before 10:
+ * The lag limit, max_lag, is how far a cut can go back. Timestamps go up in steps of 2. When a Log is taken with timestamp s, no cut before the next start (Format, or a finished
+ * recovery) has a boundary below s - max_lag: every commit with a timestamp below that is kept. So a cut takes at most max_lag / 2 of the commits made before the last Log that took
+ * a timestamp. Those made since then come on top: they are of transactions that lanes held at that time, at most one a lane.
+ *   Log sees to it: it is refused with 15 where its timestamp, the clock plus 2, would be more than max_lag above the least floor, floors as after a drain of its own lane. Where no
+ *   lane has a floor the limit does not bind, and a cut loses nothing: after a start, or after Mark and Drain of every lane. It never stops a Log that writes nothing, nor Redo,
+ *   Validate, Mark or Drain.
+ *   What to do on 15: Drain the lane of that Log, so that the floors in the record are those that count. Then Mark and Drain the lane with the least floor, and call Log again; where
+ *   it is still 15, do so with the lane that has the least floor now. Each time a floor ends, so T times are enough. Mark drops a transaction that its lane holds: where it is to be
+ *   committed, Redo or Validate comes first. (Proved, from Format on, is the bound by s - max_lag; the two counts
+ *   follow from it and from the rules of the calls; that such a Mark is never refused with 9 itself is tested.)
+ *   A small limit means more marks; 2^32 practically never binds. The limit is in the record and not in the image: each recovery is given one, which may be another than before.
+ *
+ * Refusals, the lowest number wins, but 14 and 16 come before 10, in this order, and 15 before 9:
  *    1 a size out of range, or a slice of another length      6 Log on a lane that holds a transaction
  *    2 a record field out of range                            7 Redo or Validate on an idle lane
  *    3 lane not below T                                       8 the clock is spent
  *    4 word not in the image                                  9 the append would overwrite a sequence that recovery may need
  *    5 transaction not as above                              10 recovery finds an odd base word
  *   14 recovery without sizes: fewer than four words, a size in the trailer out of range, or a fourth word or a length of nvm that does not agree with these sizes
+ *   15 Log would take a timestamp more than the lag limit above the least floor
+ *   16 Format or recovery is given a lag limit that is odd, below 2 or above 2^32
  * What recovery may need, for 9: the sequences that are not below the least floor, floors as after the drain that Log or Mark begins with; none where no lane has a floor.
  *
  * Costs are given in passes: over the flags or the image (its whole length), over one lane's log (N slots). Calls with a record read and write it whole.
@@ -66,13 +81,15 @@
 #include <stddef.h>
 #include <stdint.h>
 
-#define VANDZULGE_RECORD_WORDS 322
+#define VANDZULGE_RECORD_WORDS 323
 #define VANDZULGE_ANSWER_WORDS 4
 #define VANDZULGE_TXN_WORDS_MAX 64
 #define VANDZULGE_WORDS_MAX 1024
 #define VANDZULGE_LANES_MAX 8
 #define VANDZULGE_SLOTS_MIN 34
 #define VANDZULGE_SLOTS_MAX 256
+#define VANDZULGE_LAG_MIN 2
+#define VANDZULGE_LAG_MAX ((uint64_t)1 << 32)
 #define VANDZULGE_FORMER_WORDS(words, lanes, slots) (1 + (words) + 2 * (lanes) * (slots))
 #define VANDZULGE_FORMER_WORDS_MAX 5121
 #define VANDZULGE_TRAILER_WORDS 4
@@ -84,8 +101,9 @@
 extern "C" {
 #endif
 
-/* Format: a new store of W start words, of the new length; the record's old words are not read. Refusal 1. Every word of cache, nvm and flags is written once. */
-uint64_t vandzulge_format(size_t words, size_t lanes, size_t slots, const uint64_t *start, size_t start_len,
+/* Format: a new store of W start words, of the new length, with this lag limit; the record's old words are not read. Refusals 1, 16.
+ * Every word of cache, nvm and flags is written once. */
+uint64_t vandzulge_format(size_t words, size_t lanes, size_t slots, uint64_t max_lag, const uint64_t *start, size_t start_len,
     uint64_t *cache, size_t cache_len, uint64_t *nvm, size_t nvm_len, uint8_t *flags, size_t flags_len, uint64_t *record, size_t record_len);
 
 /* Write-back: copies one image word, of the trailer too, from cache to nvm. Refusals 1, 4. One word. Not between a power cut and the end of recovery. */
@@ -99,7 +117,8 @@ uint64_t vandzulge_drain(size_t words, size_t lanes, size_t slots,
     uint64_t *record, size_t record_len, size_t lane);
 
 /* Log: runs the transaction, leaves no change, and appends an entry a write and a timestamp to the lane's log.
- * Answer: count, timestamp, 0, 0; or 0, 0, 0, 0 where it writes nothing, and the lane stays idle. Refusals 1 to 3, 5, 6, 8, 9. A drain, and a look at up to 33 slots of the lane's log. */
+ * Answer: count, timestamp, 0, 0; or 0, 0, 0, 0 where it writes nothing, and the lane stays idle. Refusals 1 to 3, 5, 6, 8, 15, 9, the first of them in this order.
+ * A drain, and a look at up to 33 slots of the lane's log. */
 uint64_t vandzulge_log(size_t words, size_t lanes, size_t slots,
     uint64_t *cache, size_t cache_len, uint64_t *nvm, size_t nvm_len, uint8_t *flags, size_t flags_len,
     uint64_t *record, size_t record_len, uint64_t *answer, size_t answer_len, size_t lane, const uint64_t *txn, size_t txn_len);
@@ -123,21 +142,21 @@ uint64_t vandzulge_mark(size_t words, size_t lanes, size_t slots,
     uint64_t *record, size_t record_len, uint64_t *answer, size_t answer_len, size_t lane);
 
 /* Recovery with sizes given, after a power cut, of an image of the former length: from nvm alone, with at most `limit` stores to it, the words at one boundary; the record's old
- * words are not read.
+ * words are not read, and a finished one has the lag limit given.
  * Answer: 0, 0, 0, 0 where stores remain (cut; the record is untouched and lost: recover again, or format); 1, 0, 0, torn where no lane gave a boundary, and this call undid
  * nothing (one that was cut before it may have); 2, boundary, undone, torn. undone: how many log entries were undone. torn: how many of the TN log slots were torn in nvm as this
  * call found it: they held something, but no whole entry or timestamp. A cut leaves a torn slot where one of its two words had not reached the memory, and so does a recovery cut
- * short between two words of a slot that it clears; by itself it is no sign of damage. A log word that is 0 already counts as stored. Refusals 1, 10. One pass over the logs, one
+ * short between two words of a slot that it clears; by itself it is no sign of damage. A log word that is 0 already counts as stored. Refusals 1, 16, 10. One pass over the logs, one
  * over the image, a store for each entry undone, and for each sequence undone, or timestamp that is not complete, at most 8 steps in a tree and a look at each lane:
  * docs/PERFORMANCE.md has the worst images. */
-uint64_t vandzulge_recover(size_t words, size_t lanes, size_t slots,
+uint64_t vandzulge_recover(size_t words, size_t lanes, size_t slots, uint64_t max_lag,
     uint64_t *cache, size_t cache_len, uint64_t *nvm, size_t nvm_len, uint8_t *flags, size_t flags_len,
     uint64_t *record, size_t record_len, uint64_t *answer, size_t answer_len, size_t limit);
 
 /* Recovery without sizes, of an image with a trailer: the same with the sizes that the last four words of nvm tell. Those are read and never stored to; where recovery finished,
  * cache equals nvm, the trailer too, and all flags are 0. The sizes for the calls that follow are nvm[nvm_len - 4], nvm[nvm_len - 3] and nvm[nvm_len - 2].
- * Refusals 1 (cache or flags of another length than nvm, record or answer of a wrong one), 14, 10, the first of them in this order. Answers and costs as above. */
-uint64_t vandzulge_recover_read(uint64_t *cache, size_t cache_len, uint64_t *nvm, size_t nvm_len, uint8_t *flags, size_t flags_len,
+ * Refusals 1 (cache or flags of another length than nvm, record or answer of a wrong one), 14, 16, 10, the first of them in this order. Answers and costs as above. */
+uint64_t vandzulge_recover_read(uint64_t max_lag, uint64_t *cache, size_t cache_len, uint64_t *nvm, size_t nvm_len, uint8_t *flags, size_t flags_len,
     uint64_t *record, size_t record_len, uint64_t *answer, size_t answer_len, size_t limit);
 
 #ifdef __cplusplus

@@ -14,13 +14,16 @@
 //! After a power cut a lane gives its newest timestamp, or nothing where that is a mark; the least that is given is the *boundary*, and commits at or above it are undone. A lane's
 //! *floor* in the record bounds from below what it gives; without one it gives nothing. So a commit is safe once each lane that has a floor has it above the commit's timestamp. A
 //! lane that was marked and then drained has none until its log is appended to again, and delays no other lane. `include/vandzulge.h` says more.
+//!
+//! The *lag limit*, given to Format and to each recovery, is how far a cut can go back: a Log is refused where its timestamp would be more than that above the least floor. So of the
+//! commits made before the last Log that took a timestamp a cut takes at most half the limit, timestamps being even, and of those since then at most one a lane.
 
 pub mod images;
 pub mod plain;
 pub mod raw;
 
 /// Words of a record.
-pub const RECORD_WORDS: usize = 322;
+pub const RECORD_WORDS: usize = 323;
 /// Words of an answer.
 pub const ANSWER_WORDS: usize = 4;
 pub const MAX_WORDS: usize = 1024;
@@ -29,6 +32,8 @@ pub const MIN_SLOTS: usize = 34;
 pub const MAX_SLOTS: usize = 256;
 /// Words of the longest transaction: 16 instructions of four.
 pub const MAX_TXN_WORDS: usize = 64;
+/// The greatest lag limit, which practically never binds; the least is 2.
+pub const GREATEST_LAG: u64 = 1 << 32;
 /// Words of the trailer, the last ones of an image: W, T, N, and how many words stand before these four.
 pub const TRAILER_WORDS: usize = 4;
 /// Words of the greatest image.
@@ -79,12 +84,16 @@ pub enum Refusal {
     OddBase,
     /// 14: recovery without sizes finds no trailer that agrees with the length and the ranges
     Trailer,
+    /// 15: Log would take a timestamp further above the least floor than the lag limit
+    LagPassed,
+    /// 16: Format or recovery is given a lag limit that is odd, below 2 or above [`GREATEST_LAG`]
+    LagRange,
     /// a number that the library never returns
     Unknown(u64),
 }
 
 impl Refusal {
-    const KNOWN: [Refusal; 11] = [
+    const KNOWN: [Refusal; 13] = [
         Refusal::Size,
         Refusal::Record,
         Refusal::Lane,
@@ -96,6 +105,8 @@ impl Refusal {
         Refusal::Overwrite,
         Refusal::OddBase,
         Refusal::Trailer,
+        Refusal::LagPassed,
+        Refusal::LagRange,
     ];
 
     /// The specification's number.
@@ -113,6 +124,8 @@ impl Refusal {
             Refusal::Overwrite => 9,
             Refusal::OddBase => 10,
             Refusal::Trailer => 14,
+            Refusal::LagPassed => 15,
+            Refusal::LagRange => 16,
         }
     }
 
@@ -184,10 +197,10 @@ fn taken(number: u64) -> Result<(), Refusal> {
 }
 
 impl Store<'_> {
-    /// Makes a new store of the given data words, in buffers of [`image_words`].
-    pub fn format(&mut self, start: &[u64]) -> Result<(), Refusal> {
+    /// Makes a new store of the given data words, in buffers of [`image_words`], with this lag limit.
+    pub fn format(&mut self, max_lag: u64, start: &[u64]) -> Result<(), Refusal> {
         let Sizes { words, lanes, slots } = self.sizes;
-        taken(raw::format(words, lanes, slots, start, self.cache, self.nvm, self.flags, self.record))
+        taken(raw::format(words, lanes, slots, max_lag, start, self.cache, self.nvm, self.flags, self.record))
     }
 
     /// Copies one cached word to its cell, also one of the trailer.
@@ -202,7 +215,8 @@ impl Store<'_> {
         taken(raw::drain(words, lanes, slots, self.cache, self.nvm, self.flags, self.record, lane))
     }
 
-    /// Runs a transaction without leaving a change, and logs its writes.
+    /// Runs a transaction without leaving a change, and logs its writes. Where it is refused with [`Refusal::LagPassed`], drain this lane, mark and drain the lane with the least floor,
+    /// and try again; each time a floor ends.
     pub fn log(&mut self, lane: usize, txn: &[u64]) -> Result<Log, Refusal> {
         let Sizes { words, lanes, slots } = self.sizes;
         let mut answer: Answer = [0; ANSWER_WORDS];
@@ -244,17 +258,18 @@ impl Store<'_> {
     }
 
     /// Makes a store of the former length whole from non-volatile memory alone, with at most `limit` stores to it; `usize::MAX` is no limit. The sizes must be those of the image.
-    pub fn recover(&mut self, limit: usize) -> Result<Recovery, Refusal> {
+    /// The lag limit is that of the record which a finished recovery makes, and need not be the one before the power cut.
+    pub fn recover(&mut self, max_lag: u64, limit: usize) -> Result<Recovery, Refusal> {
         let Sizes { words, lanes, slots } = self.sizes;
         let mut answer: Answer = [0; ANSWER_WORDS];
-        taken(raw::recover(words, lanes, slots, self.cache, self.nvm, self.flags, self.record, &mut answer, limit))?;
+        taken(raw::recover(words, lanes, slots, max_lag, self.cache, self.nvm, self.flags, self.record, &mut answer, limit))?;
         Ok(recovery(answer))
     }
 
     /// The same of a store with a trailer, from which the sizes are read. Unless it is refused, they become the store's, whatever those were before.
-    pub fn recover_read(&mut self, limit: usize) -> Result<Recovery, Refusal> {
+    pub fn recover_read(&mut self, max_lag: u64, limit: usize) -> Result<Recovery, Refusal> {
         let mut answer: Answer = [0; ANSWER_WORDS];
-        taken(raw::recover_read(self.cache, self.nvm, self.flags, self.record, &mut answer, limit))?;
+        taken(raw::recover_read(max_lag, self.cache, self.nvm, self.flags, self.record, &mut answer, limit))?;
         // the library found them in range, and recovery does not store to them
         if let Some(&[words, lanes, slots, _]) = self.nvm.last_chunk::<TRAILER_WORDS>() {
             self.sizes = Sizes { words: words as usize, lanes: lanes as usize, slots: slots as usize };

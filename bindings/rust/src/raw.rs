@@ -7,6 +7,7 @@ mod ffi {
             words: usize,
             lanes: usize,
             slots: usize,
+            max_lag: u64,
             start: *const u64,
             start_len: usize,
             cache: *mut u64,
@@ -116,6 +117,7 @@ mod ffi {
             words: usize,
             lanes: usize,
             slots: usize,
+            max_lag: u64,
             cache: *mut u64,
             cache_len: usize,
             nvm: *mut u64,
@@ -129,6 +131,7 @@ mod ffi {
             limit: usize,
         ) -> u64;
         pub fn vandzulge_recover_read(
+            max_lag: u64,
             cache: *mut u64,
             cache_len: usize,
             nvm: *mut u64,
@@ -144,14 +147,25 @@ mod ffi {
     }
 }
 
-/// Format: every word as in a new store with the given start words; `record` becomes its record. Buffers of the new length only.
-pub fn format(words: usize, lanes: usize, slots: usize, start: &[u64], cache: &mut [u64], nvm: &mut [u64], flags: &mut [u8], record: &mut [u64]) -> u64 {
+/// Format: every word as in a new store with the given start words; `record` becomes its record, with this lag limit. Buffers of the new length only.
+pub fn format(
+    words: usize,
+    lanes: usize,
+    slots: usize,
+    max_lag: u64,
+    start: &[u64],
+    cache: &mut [u64],
+    nvm: &mut [u64],
+    flags: &mut [u8],
+    record: &mut [u64],
+) -> u64 {
     // SAFETY: each pointer and length is that of a slice, and no slice that is written overlaps another.
     unsafe {
         ffi::vandzulge_format(
             words,
             lanes,
             slots,
+            max_lag,
             start.as_ptr(),
             start.len(),
             cache.as_mut_ptr(),
@@ -331,12 +345,13 @@ pub fn mark(
     }
 }
 
-/// Recovery of at most `limit` stores with the sizes given, of an image of the former length. Answer: all 0 where it was cut; 1, 0, 0, torn where no lane gave a boundary;
-/// 2, boundary, undone, torn.
+/// Recovery of at most `limit` stores with the sizes given, of an image of the former length. Where it finished, `record` is that of a start with this lag limit.
+/// Answer: all 0 where it was cut; 1, 0, 0, torn where no lane gave a boundary; 2, boundary, undone, torn.
 pub fn recover(
     words: usize,
     lanes: usize,
     slots: usize,
+    max_lag: u64,
     cache: &mut [u64],
     nvm: &mut [u64],
     flags: &mut [u8],
@@ -350,6 +365,7 @@ pub fn recover(
             words,
             lanes,
             slots,
+            max_lag,
             cache.as_mut_ptr(),
             cache.len(),
             nvm.as_mut_ptr(),
@@ -366,10 +382,11 @@ pub fn recover(
 }
 
 /// Recovery of at most `limit` stores without sizes, which it reads from the trailer of `nvm`. Answer as that of [`recover`].
-pub fn recover_read(cache: &mut [u64], nvm: &mut [u64], flags: &mut [u8], record: &mut [u64], answer: &mut [u64], limit: usize) -> u64 {
+pub fn recover_read(max_lag: u64, cache: &mut [u64], nvm: &mut [u64], flags: &mut [u8], record: &mut [u64], answer: &mut [u64], limit: usize) -> u64 {
     // SAFETY: each pointer and length is that of a slice, and no slice that is written overlaps another.
     unsafe {
         ffi::vandzulge_recover_read(
+            max_lag,
             cache.as_mut_ptr(),
             cache.len(),
             nvm.as_mut_ptr(),

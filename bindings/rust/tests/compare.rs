@@ -3,10 +3,10 @@
 
 mod common;
 
-use common::states::every_outcome;
+use common::states::{every_outcome, BAD_LAGS, LAG_WORD};
 use common::{trailers, Call, Random, World, LIBRARY, PLAIN};
 use vandzulge::images;
-use vandzulge::Sizes;
+use vandzulge::{Sizes, GREATEST_LAG};
 
 /// Makes the call on both, compares all, and keeps what they left. Its number.
 fn both(world: &mut World, call: &Call, place: &str) -> u64 {
@@ -14,7 +14,7 @@ fn both(world: &mut World, call: &Call, place: &str) -> u64 {
     let mut other = world.clone();
     let expected = world.call(&PLAIN, call);
     let number = other.call(&LIBRARY, call);
-    let told = || format!("{place}: {call:?}, W {}, T {}, N {}", before.words, before.lanes, before.slots);
+    let told = || format!("{place}: {call:?}, W {}, T {}, N {}, lag limit {}", before.words, before.lanes, before.slots, before.max_lag);
     assert_eq!(number, expected, "number: {}", told());
     assert_eq!(other.answer, world.answer, "answer: {}", told());
     assert_eq!(other.record, world.record, "record: {}", told());
@@ -237,4 +237,123 @@ fn the_call_decides_which_form_an_image_has() {
         }
     }
     assert!(lookalikes >= 2 * images::ALL.len(), "{lookalikes} images that look like both");
+}
+
+/// 16 stands behind 1 and 14, and before 10; whatever is in range is taken and stands in the record of the start.
+#[test]
+fn lag_limits_of_a_start() {
+    let sizes = RECOVERED[2];
+    let start = vec![1; sizes.words];
+    let taken = [2, 4, GREATEST_LAG - 2, GREATEST_LAG];
+    for max_lag in BAD_LAGS.into_iter().chain(taken) {
+        // what stands where the limit is no cause for refusal
+        let or = |number| if taken.contains(&max_lag) { number } else { 16 };
+        let number = |mut world: World, call: Call| {
+            world.max_lag = max_lag;
+            let number = both(&mut world, &call, "lag limit");
+            assert!(number != 0 || world.record[LAG_WORD] == max_lag, "{call:?}, {max_lag}");
+            number
+        };
+        let blank = World::new(sizes.words, sizes.lanes, sizes.slots);
+        assert_eq!(number(blank.clone(), Call::Format(start.clone())), or(0), "{max_lag}");
+        assert_eq!(number(blank, Call::Format(vec![])), 1, "{max_lag}");
+
+        let recover = || Call::Recover(usize::MAX);
+        let mut former = cut(sizes, images::former_image(sizes, images::Logs::MixedSequences));
+        assert_eq!(number(former.clone(), recover()), or(0), "{max_lag}");
+        former.nvm[0] = 1;
+        assert_eq!(number(former.clone(), recover()), or(10), "{max_lag}");
+        former.flags.push(0);
+        assert_eq!(number(former, recover()), 1, "{max_lag}");
+
+        let recover_read = || Call::RecoverRead(usize::MAX);
+        let mut new = cut(sizes, images::image(sizes, images::Logs::MixedSequences));
+        assert_eq!(number(new.clone(), recover_read()), or(0), "{max_lag}");
+        new.nvm[0] = 1;
+        assert_eq!(number(new.clone(), recover_read()), or(10), "{max_lag}");
+        *new.nvm.last_mut().unwrap() += 1;
+        assert_eq!(number(new.clone(), recover_read()), 14, "{max_lag}");
+        new.flags.push(0);
+        assert_eq!(number(new, recover_read()), 1, "{max_lag}");
+    }
+}
+
+/// A record whose lag limit is out of range: every call that reads the record refuses it, and those that make a new one do not look at it.
+#[test]
+fn lag_limits_of_a_damaged_record() {
+    let mut start = World::new(2, 2, 34);
+    assert_eq!(both(&mut start, &Call::Format(vec![1; 2]), "start"), 0);
+    assert_eq!(both(&mut start, &Call::Log(1, vec![1, 1, 0, 7]), "start"), 0);
+    let set = vec![1, 0, 0, 7];
+    for max_lag in BAD_LAGS {
+        let number = |call: Call| {
+            let mut world = start.clone();
+            world.record[LAG_WORD] = max_lag;
+            both(&mut world, &call, "damaged lag limit")
+        };
+        for call in [Call::Drain(0), Call::Log(0, set.clone()), Call::Redo(1), Call::Validate(1, set.clone()), Call::Mark(0), Call::Mark(2)] {
+            assert_eq!(number(call), 2, "{max_lag}");
+        }
+        for call in [Call::WriteBack(0), Call::Format(vec![1; 2]), Call::RecoverRead(usize::MAX)] {
+            assert_eq!(number(call), 0, "{max_lag}");
+        }
+    }
+}
+
+/// Lane 1 was marked at 2 and not drained, lane 0 went once around its log, with marks at 4 to 70. The next timestamp is 72; after its drain lane 0 has no floor, and lane 1's is 2.
+#[test]
+fn the_lag_limit_stands_between_the_clock_and_the_slots() {
+    let mut start = World::new(2, 2, 34);
+    assert_eq!(both(&mut start, &Call::Format(vec![0, 5]), "start"), 0);
+    for lane in [1].into_iter().chain([0; 34]) {
+        assert_eq!(both(&mut start, &Call::Mark(lane), "start"), 0);
+    }
+    let with = |max_lag: u64, clock: u64, call: Call| {
+        let mut world = start.clone();
+        (world.record[0], world.record[LAG_WORD]) = (clock, max_lag);
+        both(&mut world, &call, "lag limit")
+    };
+    let log = |lane: usize| Call::Log(lane, vec![1, 0, 0, 7]);
+    let nothing = || Call::Log(0, vec![5, 0, 0, 1, 1, 0, 0, 7]);
+    assert_eq!((with(68, 70, log(0)), with(70, 70, log(0))), (15, 9));
+    assert_eq!(with(2, u64::MAX - 1, log(0)), 8);
+    assert_eq!((with(2, 70, log(2)), with(2, 70, Call::Log(0, vec![]))), (3, 5));
+    // neither where nothing is written, nor for Mark; and lane 1's own drain leaves lane 0's floor, 70
+    assert_eq!((with(2, 70, nothing()), with(2, 70, Call::Mark(0)), with(2, 70, Call::Mark(1)), with(2, 70, Call::Drain(1))), (0, 9, 0, 0));
+    assert_eq!((with(2, 70, log(1)), with(2, 72, log(1))), (0, 15));
+    // a clock that was moved: far above the floor, and with a timestamp at the end of the range
+    assert_eq!((with(1 << 32, 1 << 32, log(0)), with(1 << 32, (1 << 32) + 2, log(0)), with(1 << 32, u64::MAX - 3, log(0))), (9, 15, 15));
+    // without a floor the limit does not bind
+    assert_eq!(both(&mut start, &Call::Drain(1), "drained"), 0);
+    start.record[LAG_WORD] = 2;
+    assert_eq!(both(&mut start, &log(0), "drained"), 0);
+}
+
+/// Lane 0 holds a transaction logged at 2, its floor, and lane 1 was marked three times. Only a Log meets the limit, and not that of a lane that holds a transaction.
+#[test]
+fn the_lag_limit_stops_no_commit() {
+    let mut start = World::new(2, 2, 34);
+    assert_eq!(both(&mut start, &Call::Format(vec![0, 5]), "start"), 0);
+    let set = vec![1, 0, 0, 7];
+    for call in [Call::Log(0, set.clone()), Call::Mark(1), Call::Mark(1), Call::Mark(1)] {
+        assert_eq!(both(&mut start, &call, "start"), 0);
+    }
+    start.record[LAG_WORD] = 6;
+    let number = |call: Call| both(&mut start.clone(), &call, "lag limit");
+    assert_eq!((number(Call::Log(1, set.clone())), number(Call::Log(0, set.clone()))), (15, 6));
+    assert_eq!((number(Call::Redo(0)), number(Call::Validate(0, set.clone())), number(Call::Mark(0)), number(Call::Drain(0))), (0, 0, 0, 0));
+    start.record[LAG_WORD] = 8;
+    assert_eq!(both(&mut start, &Call::Log(1, set), "at the limit"), 0);
+}
+
+/// A floor above the next timestamp, which only a damaged log gives: the difference is below zero, and not above the limit.
+#[test]
+fn a_floor_above_the_clock_does_not_bind() {
+    let mut world = World::new(2, 2, 34);
+    assert_eq!(both(&mut world, &Call::Format(vec![0, 0]), "start"), 0);
+    world.record[LAG_WORD] = 2;
+    // slots 10 and 11 of lane 0: an entry, and the timestamp 1,000 that closes it
+    world.cache[23..27].copy_from_slice(&[9, 1, 32_777, 1_001]);
+    assert_eq!(both(&mut world, &Call::Log(0, vec![1, 0, 0, 7]), "a floor of 1,000"), 0);
+    assert_eq!((world.record[0], world.record[8], world.record[9]), (2, 1, 1_000));
 }

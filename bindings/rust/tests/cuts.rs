@@ -1,19 +1,22 @@
 //! Power cuts after every call of pseudo-random runs, with write-backs in between: recovery leaves the commits below its boundary, no boundary is below the least floor, and a
-//! commit that is safe, as `include/vandzulge.h` says, or ever was, stays. Now one lane is at work, now another; the others rest, marked and drained or not.
+//! commit that is safe, as `include/vandzulge.h` says, or ever was, stays; and no boundary is further below a timestamp that Log took than the lag limit. Now one lane is at work,
+//! now another; the others rest, marked and drained or not.
 
 mod common;
 
+use common::states::{small_lag, LAG_WORD};
 use common::{Call, Random, World, LIBRARY};
 
 const WORDS: usize = 3;
 const LANES: usize = 3;
 const SLOTS: usize = 34;
 
-/// A store, and what a caller knows of it: the words at its start, the timestamp and transaction of each commit since, and of each lane the transaction handed to Log last and
-/// the timestamp of its last Mark.
+/// A store, and what a caller knows of it: the words at its start, the timestamp that Log took last, the timestamp and transaction of each commit since the start, and of each
+/// lane the transaction handed to Log last and the timestamp of its last Mark.
 struct Run {
     world: World,
     start: Vec<u64>,
+    last_log: Option<u64>,
     commits: Vec<(u64, Vec<u64>)>,
     held: [Vec<u64>; LANES],
     marks: [Option<u64>; LANES],
@@ -40,7 +43,7 @@ fn run_on(words: &mut [u64], txn: &[u64]) {
 
 impl Run {
     fn at_start(world: World, start: Vec<u64>) -> Run {
-        Run { world, start, commits: vec![], held: Default::default(), marks: [None; LANES], safe: 0 }
+        Run { world, start, last_log: None, commits: vec![], held: Default::default(), marks: [None; LANES], safe: 0 }
     }
 
     fn floor(&self, lane: usize) -> Option<u64> {
@@ -48,8 +51,27 @@ impl Run {
         (words[6] != 0).then_some(words[7])
     }
 
-    /// A call that suits the lane; it may be refused with 9.
-    fn step(&mut self, random: &mut Random, lane: usize) {
+    /// Makes a call and notes what it answered. Its number.
+    fn make(&mut self, call: Call) -> u64 {
+        let number = self.world.call(&LIBRARY, &call);
+        if number != 0 {
+            return number;
+        }
+        let [first, stamp] = [self.world.answer[0], self.world.answer[1]];
+        match call {
+            Call::Log(lane, txn) => {
+                self.held[lane] = txn;
+                self.last_log = Some(stamp);
+            }
+            Call::Redo(lane) | Call::Validate(lane, _) if first != 0 => self.commits.push((stamp, self.held[lane].clone())),
+            Call::Mark(lane) => self.marks[lane] = Some(stamp),
+            _ => {}
+        }
+        number
+    }
+
+    /// Makes a call that suits the lane; it may be refused with 9 or 15. Call and number.
+    fn step(&mut self, random: &mut Random, lane: usize) -> (Call, u64) {
         let logged = self.world.record[2 + 40 * lane] != 0;
         let call = match random.below(8) {
             0 | 1 => Call::Drain(lane),
@@ -58,16 +80,22 @@ impl Run {
             _ if logged => Call::Validate(lane, self.held[lane].clone()),
             _ => Call::Log(lane, txn(random)),
         };
-        if self.world.call(&LIBRARY, &call) != 0 {
-            return;
+        let number = self.make(call.clone());
+        (call, number)
+    }
+
+    /// What `include/vandzulge.h` says to do where a Log is refused with 15. The Log's number then, which is not 15.
+    fn make_room(&mut self, lane: usize, log: &Call) -> u64 {
+        assert_eq!(self.make(Call::Drain(lane)), 0);
+        for _ in 0..LANES {
+            let least = (0..LANES).filter(|&lane| self.floor(lane).is_some()).min_by_key(|&lane| self.floor(lane)).expect("a floor");
+            assert_eq!((self.make(Call::Mark(least)), self.make(Call::Drain(least))), (0, 0));
+            match self.make(log.clone()) {
+                15 => {}
+                number => return number,
+            }
         }
-        let [first, stamp] = [self.world.answer[0], self.world.answer[1]];
-        match call {
-            Call::Log(_, txn) => self.held[lane] = txn,
-            Call::Redo(_) | Call::Validate(..) if first != 0 => self.commits.push((stamp, self.held[lane].clone())),
-            Call::Mark(_) => self.marks[lane] = Some(stamp),
-            _ => {}
-        }
+        panic!("15 after {LANES} marks");
     }
 
     fn write_back(&mut self, random: &mut Random) {
@@ -132,4 +160,50 @@ fn no_cut_loses_a_safe_commit() {
     }
     println!("lost at a cut: {lost}; safe, beside a lane at rest: {safe_beside_rest}");
     assert!(lost > 1_000 && safe_beside_rest > 1_000);
+}
+
+/// After a Log that took a timestamp, as long as no start comes after it: at most limit / 2 of the commits before it are lost, and at most one a lane of those since then.
+#[test]
+fn no_cut_goes_further_back_than_the_lag_limit() {
+    let (mut refused, mut marked_and_taken, mut bounded, mut at_the_limit, mut lost) = (0, 0, 0, 0, 0);
+    for seed in 1..=60 {
+        let random = &mut Random::new(1_000 + seed);
+        let world = World { max_lag: small_lag(random), ..World::new(WORDS, LANES, SLOTS) };
+        let mut run = Run::at_start(world, vec![0; WORDS]);
+        assert_eq!(run.make(Call::Format(vec![0; WORDS])), 0);
+        let mut lane = 0;
+        for step in 0..300 {
+            if random.one_in(8) {
+                lane = random.index(LANES);
+            }
+            if let (log, 15) = run.step(random, lane) {
+                refused += 1;
+                if random.one_in(2) {
+                    marked_and_taken += (run.make_room(lane, &log) == 0) as u64;
+                }
+            }
+            run.write_back(random);
+            let max_lag = run.world.record[LAG_WORD];
+            // a recovery may be given another limit
+            run.world.max_lag = small_lag(random);
+            let (cut, boundary) = run.cut();
+            assert_eq!(cut.record[LAG_WORD], run.world.max_lag);
+            if let (Some(stamp), Some(boundary)) = (run.last_log, boundary) {
+                let place = format!("seed {seed}, step {step}, lag limit {max_lag}, Log at {stamp}, boundary {boundary}");
+                assert!(stamp <= boundary + max_lag, "{place}");
+                bounded += 1;
+                at_the_limit += (stamp == boundary + max_lag) as u64;
+                let (before, since): (Vec<u64>, Vec<u64>) =
+                    run.commits.iter().map(|commit| commit.0).filter(|&commit| commit >= boundary).partition(|&commit| commit < stamp);
+                assert!(before.len() as u64 <= max_lag / 2 && since.len() <= LANES, "lost {before:?} and {since:?}: {place}");
+                lost += before.len() + since.len();
+            }
+            if random.one_in(60) {
+                let words = cut.nvm[1..=WORDS].to_vec();
+                run = Run::at_start(cut, words);
+            }
+        }
+    }
+    println!("Logs refused with 15: {refused}, taken after marks: {marked_and_taken}; cuts with a boundary: {bounded}, at the limit: {at_the_limit}; commits lost: {lost}");
+    assert!(refused > 500 && marked_and_taken > 300 && bounded > 5_000 && at_the_limit > 100 && lost > 1_000);
 }

@@ -4,7 +4,7 @@ mod common;
 
 use common::{Call, Calls, World, LIBRARY, PLAIN};
 use std::fmt::{Display, Write};
-use vandzulge::{ANSWER_WORDS, RECORD_WORDS};
+use vandzulge::{ANSWER_WORDS, GREATEST_LAG, RECORD_WORDS};
 
 const MAX_INPUT_WORDS: usize = 131_072;
 /// Words of each buffer.
@@ -42,6 +42,8 @@ struct Replay<'a> {
     sizes: [usize; 3],
     /// whether calls get images of the former length
     former: bool,
+    /// the lag limit that Format and the recoveries are given
+    max_lag: u64,
     cache: Vec<u64>,
     nvm: Vec<u64>,
     flags: Vec<u8>,
@@ -76,6 +78,7 @@ impl Replay<'_> {
             words,
             lanes,
             slots,
+            max_lag: self.max_lag,
             cache: self.cache[..cached].to_vec(),
             nvm: self.nvm[..cells].to_vec(),
             flags: self.flags[..flags].to_vec(),
@@ -212,6 +215,7 @@ impl Replay<'_> {
                 let [cells, cached, flags] = sizes(input)?.map(|length| length.min(LENT_WORDS));
                 recovery_line(out, self.call_on(Call::RecoverRead(limit), cells, cached, flags));
             }
+            17 => self.max_lag = input.word()?,
             _ => return None,
         }
         Some(true)
@@ -258,6 +262,7 @@ fn traces(calls: &Calls, mut input: Input, out: &mut String) -> Option<()> {
             calls,
             sizes: sizes(&mut input)?,
             former: false,
+            max_lag: GREATEST_LAG,
             cache: vec![0; LENT_WORDS],
             nvm: vec![0; LENT_WORDS],
             flags: vec![0; LENT_WORDS],

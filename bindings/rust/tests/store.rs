@@ -1,6 +1,8 @@
 //! The safe wrappers: every call and every answer by way of `Store`, with the two-lane scenario of the specification.
 
-use vandzulge::{former_words, image_words, Log, Mark, Recovery, Redo, Refusal, Sizes, Store, Validate, MAX_FORMER_WORDS, MAX_IMAGE_WORDS, RECORD_WORDS};
+use vandzulge::{
+    former_words, image_words, Log, Mark, Recovery, Redo, Refusal, Sizes, Store, Validate, GREATEST_LAG, MAX_FORMER_WORDS, MAX_IMAGE_WORDS, RECORD_WORDS,
+};
 
 /// Runs the test on a new store of the given sizes, not formatted.
 fn with_store(sizes: Sizes, test: impl FnOnce(&mut Store)) {
@@ -54,7 +56,7 @@ const PASS_OVER_POKE: [u64; 12] = [5, 0, 1, 1, 4, 0, 0, 7, 1, 0, 0, 9];
 #[test]
 fn two_lanes_and_a_power_cut() {
     with_store(SIZES, |store| {
-        assert_eq!(store.format(&[0, 0]), Ok(()));
+        assert_eq!(store.format(GREATEST_LAG, &[0, 0]), Ok(()));
         assert_eq!(store.log(1, &COPY_0_TO_1), Ok(Log::Logged { count: 1, stamp: 2 }));
         assert_eq!(store.log(0, &SET_0_TO_2), Ok(Log::Logged { count: 1, stamp: 4 }));
         assert_eq!(store.redo(0), Ok(Redo::Committed { stamp: 6 }));
@@ -66,33 +68,33 @@ fn two_lanes_and_a_power_cut() {
         }
         assert_eq!(store.nvm[1..3], [2, 2]);
         cut_power(store);
-        assert_eq!(store.recover_read(1), Ok(Recovery::Cut));
-        assert_eq!(store.recover_read(usize::MAX), Ok(Recovery::Finished { boundary: Some(6), undone: 3, torn: 0 }));
+        assert_eq!(store.recover_read(GREATEST_LAG, 1), Ok(Recovery::Cut));
+        assert_eq!(store.recover_read(GREATEST_LAG, usize::MAX), Ok(Recovery::Finished { boundary: Some(6), undone: 3, torn: 0 }));
         assert_eq!((store.cache[1..3].to_vec(), store.nvm[1..3].to_vec()), (vec![0, 0], vec![0, 0]));
         assert_eq!((store.record[0], store.record[1]), (10, 10));
-        assert_eq!(store.recover_read(usize::MAX), Ok(Recovery::Finished { boundary: None, undone: 0, torn: 0 }));
+        assert_eq!(store.recover_read(GREATEST_LAG, usize::MAX), Ok(Recovery::Finished { boundary: None, undone: 0, torn: 0 }));
     });
 }
 
 #[test]
 fn torn_slots_are_counted_in_the_memory_that_a_call_finds() {
     with_store(SIZES, |store| {
-        assert_eq!(store.format(&[0, 0]), Ok(()));
+        assert_eq!(store.format(GREATEST_LAG, &[0, 0]), Ok(()));
         assert_eq!(store.log(0, &SET_0_TO_2), Ok(Log::Logged { count: 1, stamp: 2 }));
         // of the entry in slot 0 only the address word reaches the memory, of the timestamp in slot 1 only the value word
         assert_eq!((store.write_back(3), store.write_back(6)), (Ok(()), Ok(())));
         // the cache has two whole slots: none of them counts. Clearing word 3, after the base word, leaves slot 0 empty and slot 1 torn
-        assert_eq!(store.recover_read(2), Ok(Recovery::Cut));
+        assert_eq!(store.recover_read(GREATEST_LAG, 2), Ok(Recovery::Cut));
         assert_eq!((store.nvm[3], store.nvm[6]), (0, 3));
-        assert_eq!(store.recover_read(usize::MAX), Ok(Recovery::Finished { boundary: None, undone: 0, torn: 1 }));
-        assert_eq!(store.recover_read(usize::MAX), Ok(Recovery::Finished { boundary: None, undone: 0, torn: 0 }));
+        assert_eq!(store.recover_read(GREATEST_LAG, usize::MAX), Ok(Recovery::Finished { boundary: None, undone: 0, torn: 1 }));
+        assert_eq!(store.recover_read(GREATEST_LAG, usize::MAX), Ok(Recovery::Finished { boundary: None, undone: 0, torn: 0 }));
     });
 }
 
 #[test]
 fn marks_drains_and_changes() {
     with_store(SIZES, |store| {
-        assert_eq!(store.format(&[0, 5]), Ok(()));
+        assert_eq!(store.format(GREATEST_LAG, &[0, 5]), Ok(()));
         assert_eq!(store.log(0, &PASS_OVER), Ok(Log::NoWrites));
         assert_eq!(store.mark(0), Ok(Mark { stamp: 2, dropped: false }));
         assert_eq!(store.log(0, &SET_0_TO_2), Ok(Log::Logged { count: 1, stamp: 4 }));
@@ -107,13 +109,13 @@ fn marks_drains_and_changes() {
 /// Power is cut, and recovery answers this.
 fn cut_and_recover(store: &mut Store, boundary: Option<u64>, undone: u64) {
     cut_power(store);
-    assert_eq!(store.recover_read(usize::MAX), finished(boundary, undone));
+    assert_eq!(store.recover_read(GREATEST_LAG, usize::MAX), finished(boundary, undone));
 }
 
 /// A store of two words 0 whose lane 1 has set word 1 to 7 at 4, was marked at 6 and drained, and rests.
 fn with_lane_1_at_rest(test: impl FnOnce(&mut Store)) {
     with_store(SIZES, |store| {
-        assert_eq!(store.format(&[0, 0]), Ok(()));
+        assert_eq!(store.format(GREATEST_LAG, &[0, 0]), Ok(()));
         commit(store, 1, &SET_1_TO_7, 4);
         mark(store, 1, 6);
         assert_eq!(store.drain(1), Ok(()));
@@ -183,7 +185,7 @@ fn a_mark_and_its_drain_settle_a_commit() {
 #[test]
 fn a_marked_lane_is_undone_down_to_the_boundary() {
     with_store(SIZES, |store| {
-        assert_eq!(store.format(&[0, 0]), Ok(()));
+        assert_eq!(store.format(GREATEST_LAG, &[0, 0]), Ok(()));
         commit(store, 0, &SET_0_TO_2, 4);
         assert_eq!(store.drain(0), Ok(()));
         commit(store, 1, &SET_1_TO_7, 8);
@@ -199,7 +201,7 @@ fn a_marked_lane_is_undone_down_to_the_boundary() {
 #[test]
 fn a_floor_ends_when_a_mark_is_drained() {
     with_store(SIZES, |store| {
-        assert_eq!(store.format(&[0, 0]), Ok(()));
+        assert_eq!(store.format(GREATEST_LAG, &[0, 0]), Ok(()));
         assert_eq!(floor(store, 1), None);
         // a mark as the first timestamp of a log
         mark(store, 1, 2);
@@ -235,7 +237,7 @@ fn a_floor_ends_when_a_mark_is_drained() {
 #[test]
 fn a_marked_lane_keeps_no_slots() {
     with_store(SIZES, |store| {
-        assert_eq!(store.format(&[0, 0]), Ok(()));
+        assert_eq!(store.format(GREATEST_LAG, &[0, 0]), Ok(()));
         mark(store, 1, 2);
         for _ in 0..SIZES.slots {
             assert!(store.mark(0).is_ok());
@@ -249,7 +251,7 @@ fn a_marked_lane_keeps_no_slots() {
     });
     with_store(SIZES, |store| {
         let sixteen = SET_0_TO_2.repeat(16);
-        assert_eq!(store.format(&[0, 0]), Ok(()));
+        assert_eq!(store.format(GREATEST_LAG, &[0, 0]), Ok(()));
         assert_eq!(store.log(0, &sixteen), Ok(Log::Logged { count: 16, stamp: 2 }));
         assert_eq!(store.redo(0), Ok(Redo::Committed { stamp: 4 }));
         mark(store, 0, 6);
@@ -267,12 +269,12 @@ fn of_equal_timestamps_the_higher_slot_decides() {
     let (entry, closing, marked) = ([11, 9], [32_777, 3], [32_769, 3]);
     for (slots, given, undone, word) in [([entry, closing, marked], None, 0, 0), ([marked, entry, closing], Some(2), 1, 9)] {
         with_store(SIZES, |store| {
-            assert_eq!(store.format(&[0, 0]), Ok(()));
+            assert_eq!(store.format(GREATEST_LAG, &[0, 0]), Ok(()));
             store.nvm[3..9].copy_from_slice(slots.as_flattened());
             store.cache[3..9].copy_from_slice(slots.as_flattened());
             assert_eq!(store.drain(0), Ok(()));
             assert_eq!(floor(store, 0), given);
-            assert_eq!(store.recover_read(usize::MAX), finished(given, undone));
+            assert_eq!(store.recover_read(GREATEST_LAG, usize::MAX), finished(given, undone));
             assert_eq!(store.nvm[..3], [2, word, 0]);
         });
     }
@@ -281,7 +283,7 @@ fn of_equal_timestamps_the_higher_slot_decides() {
 /// A store whose word 0 is 3, with lane 0 as a Log of that POKE left it under the former rule: it wrote word 3 modulo 2, so a Log of a SET of word 1 leaves the same.
 fn with_poke_held(test: impl FnOnce(&mut Store)) {
     with_store(SIZES, |store| {
-        assert_eq!(store.format(&[3, 0]), Ok(()));
+        assert_eq!(store.format(GREATEST_LAG, &[3, 0]), Ok(()));
         assert_eq!(store.log(0, &[1, 1, 0, 7]), Ok(Log::Logged { count: 1, stamp: 2 }));
         test(store);
     });
@@ -304,6 +306,106 @@ fn a_new_poke_is_refused_and_a_logged_one_ends_by_redo_or_mark() {
     });
 }
 
+/// The lag limit of the record.
+fn lag_limit(store: &Store) -> u64 {
+    store.record[RECORD_WORDS - 1]
+}
+
+/// Two lanes and the lag limit 4. Lane 1 commits at 4 and rests, with that floor; a Log of lane 0 may then take 6 or 8, and not 10, until lane 1 is marked and drained.
+fn with_lane_1_idle(test: impl FnOnce(&mut Store)) {
+    with_store(SIZES, |store| {
+        assert_eq!(store.format(4, &[0, 0]), Ok(()));
+        commit(store, 1, &SET_0_TO_2, 4);
+        assert_eq!(store.drain(1), Ok(()));
+        commit(store, 0, &SET_0_TO_5, 8);
+        assert_eq!((floor(store, 0), floor(store, 1)), (Some(6), Some(4)));
+        test(store);
+    });
+}
+
+/// The commits at 4 and 8 can both be lost. With a Log at 10 the one at 4 would be 6 below it.
+#[test]
+fn the_lag_limit_refuses_a_log() {
+    with_lane_1_idle(|store| {
+        let record = store.record.to_vec();
+        assert_eq!(store.log(0, &SET_1_TO_7), Err(Refusal::LagPassed));
+        assert_eq!(*store.record, record[..]);
+        // word 1 is 0: what is passed over takes no timestamp
+        assert_eq!(store.log(0, &[5, 0, 1, 1, 1, 1, 0, 9]), Ok(Log::NoWrites));
+        cut_and_recover(store, Some(4), 2);
+        assert_eq!(store.nvm[1..3], [0, 0]);
+    });
+}
+
+/// Lane 1's commit is safe when its mark at 10 is drained. Then lane 0's floor is the least, 8 after its drain, and a Log at 12 is within the limit.
+#[test]
+fn a_mark_and_a_drain_of_the_idle_lane_let_it_go_on() {
+    with_lane_1_idle(|store| {
+        assert_eq!(store.log(0, &SET_1_TO_7), Err(Refusal::LagPassed));
+        mark(store, 1, 10);
+        // lane 1's floor is still 4
+        assert_eq!(store.log(0, &SET_1_TO_7), Err(Refusal::LagPassed));
+        assert_eq!(store.drain(1), Ok(()));
+        assert_eq!(store.log(0, &SET_1_TO_7), Ok(Log::Logged { count: 1, stamp: 12 }));
+        assert_eq!((floor(store, 0), floor(store, 1)), (Some(8), None));
+        assert_eq!(store.redo(0), Ok(Redo::Committed { stamp: 14 }));
+        cut_and_recover(store, Some(12), 1);
+        assert_eq!(store.nvm[..3], [12, 5, 0]);
+    });
+}
+
+/// Where no lane has a floor the limit does not bind: at the first Log after a start, and where all lanes were marked and drained.
+#[test]
+fn without_a_floor_there_is_no_limit() {
+    with_store(SIZES, |store| {
+        assert_eq!(store.format(2, &[0, 0]), Ok(()));
+        for stamp in [4, 10, 16] {
+            commit(store, 0, &SET_0_TO_2, stamp);
+            mark(store, 0, stamp + 2);
+            assert_eq!(store.drain(0), Ok(()));
+        }
+        // each mark of lane 1 sets a floor, which the drain before the next one ends
+        for stamp in [20, 22, 24] {
+            mark(store, 1, stamp);
+            assert_eq!(floor(store, 1), Some(stamp));
+        }
+        // 2 above lane 1's floor
+        assert_eq!(store.log(0, &SET_0_TO_5), Ok(Log::Logged { count: 1, stamp: 26 }));
+        cut_power(store);
+        assert_eq!(store.recover_read(2, usize::MAX), finished(None, 0));
+        // in the memory are lane 1's marks up to 22; the base is 22
+        assert_eq!(store.log(1, &SET_1_TO_7), Ok(Log::Logged { count: 1, stamp: 24 }));
+    });
+}
+
+/// The limit is not in the image: each start is given one, and it may be another.
+#[test]
+fn each_start_is_given_a_lag_limit() {
+    with_store(SIZES, |store| {
+        for limit in [0, 1, 3, GREATEST_LAG + 1, GREATEST_LAG + 2, u64::MAX] {
+            assert_eq!(store.format(limit, &[0, 0]), Err(Refusal::LagRange));
+            assert_eq!(store.format(limit, &[0]), Err(Refusal::Size));
+        }
+        assert_eq!(store.format(6, &[0, 0]), Ok(()));
+        assert_eq!(lag_limit(store), 6);
+        commit(store, 0, &SET_0_TO_2, 4);
+        assert_eq!(lag_limit(store), 6);
+        assert_eq!(store.recover_read(3, usize::MAX), Err(Refusal::LagRange));
+        // where stores remain, the record is as it was
+        assert_eq!(store.recover_read(8, 0), Ok(Recovery::Cut));
+        assert_eq!(lag_limit(store), 6);
+        assert_eq!(store.recover_read(8, usize::MAX), finished(Some(2), 1));
+        assert_eq!(lag_limit(store), 8);
+        store.record[RECORD_WORDS - 1] = 7;
+        assert_eq!(store.mark(0), Err(Refusal::Record));
+    });
+    with_length(SIZES, former_words(SIZES), |store| {
+        assert_eq!(store.recover(GREATEST_LAG + 2, usize::MAX), Err(Refusal::LagRange));
+        assert_eq!(store.recover(2, usize::MAX), finished(None, 0));
+        assert_eq!(lag_limit(store), 2);
+    });
+}
+
 #[test]
 fn both_lengths() {
     assert_eq!((former_words(SIZES), image_words(SIZES)), (139, 143));
@@ -314,7 +416,7 @@ fn both_lengths() {
 #[test]
 fn the_sizes_are_read_from_the_image() {
     with_store(SIZES, |store| {
-        assert_eq!(store.format(&[8, 9]), Ok(()));
+        assert_eq!(store.format(GREATEST_LAG, &[8, 9]), Ok(()));
         assert_eq!((&store.cache[139..], &store.nvm[139..]), (&[2, 2, 34, 139][..], &[2, 2, 34, 139][..]));
         for word in 139..143 {
             assert_eq!(store.write_back(word), Ok(()));
@@ -323,7 +425,7 @@ fn the_sizes_are_read_from_the_image() {
         assert_eq!(store.redo(0), Ok(Redo::Committed { stamp: 4 }));
         cut_power(store);
         store.sizes = Sizes { words: 1, lanes: 1, slots: 1 };
-        assert_eq!(store.recover_read(usize::MAX), Ok(Recovery::Finished { boundary: Some(2), undone: 1, torn: 0 }));
+        assert_eq!(store.recover_read(GREATEST_LAG, usize::MAX), Ok(Recovery::Finished { boundary: Some(2), undone: 1, torn: 0 }));
         assert_eq!(store.sizes, SIZES);
         assert_eq!(store.nvm[139..], [2, 2, 34, 139]);
         assert!(*store.cache == *store.nvm && store.flags.iter().all(|&flag| flag == 0));
@@ -340,7 +442,7 @@ fn an_image_of_the_former_length_is_taken_over() {
         store.nvm[1] = 9;
         store.nvm[3..7].copy_from_slice(&[11, 7, 32_777, 3]);
         store.cache.fill(77);
-        assert_eq!(store.recover(usize::MAX), Ok(Recovery::Finished { boundary: Some(2), undone: 1, torn: 0 }));
+        assert_eq!(store.recover(GREATEST_LAG, usize::MAX), Ok(Recovery::Finished { boundary: Some(2), undone: 1, torn: 0 }));
         assert_eq!((store.nvm[1], store.cache[1]), (7, 7));
         assert_eq!(store.log(1, &COPY_0_TO_1), Ok(Log::Logged { count: 1, stamp: 4 }));
         assert_eq!(store.redo(1), Ok(Redo::Committed { stamp: 6 }));
@@ -350,23 +452,23 @@ fn an_image_of_the_former_length_is_taken_over() {
         assert_eq!(store.write_back(139), Err(Refusal::Word));
         // the next start: both lanes are marked and drained, and the commit at 6 stays
         store.cache.fill(77);
-        assert_eq!(store.recover(usize::MAX), Ok(Recovery::Finished { boundary: None, undone: 0, torn: 0 }));
+        assert_eq!(store.recover(GREATEST_LAG, usize::MAX), Ok(Recovery::Finished { boundary: None, undone: 0, torn: 0 }));
         data.extend_from_slice(&store.nvm[1..=SIZES.words]);
         assert_eq!(data, [7, 7]);
     });
     with_store(SIZES, |store| {
-        assert_eq!(store.format(&data), Ok(()));
-        assert_eq!(store.recover_read(usize::MAX), Ok(Recovery::Finished { boundary: None, undone: 0, torn: 0 }));
+        assert_eq!(store.format(GREATEST_LAG, &data), Ok(()));
+        assert_eq!(store.recover_read(GREATEST_LAG, usize::MAX), Ok(Recovery::Finished { boundary: None, undone: 0, torn: 0 }));
         assert_eq!(store.nvm[1..3], [7, 7]);
     });
 }
 
 #[test]
 fn refusals_have_their_numbers() {
-    with_store(Sizes { slots: 33, ..SIZES }, |store| assert_eq!(store.format(&[0, 0]), Err(Refusal::Size)));
+    with_store(Sizes { slots: 33, ..SIZES }, |store| assert_eq!(store.format(GREATEST_LAG, &[0, 0]), Err(Refusal::Size)));
     with_store(SIZES, |store| {
-        assert_eq!(store.format(&[0]), Err(Refusal::Size));
-        assert_eq!(store.format(&[0, 0]), Ok(()));
+        assert_eq!(store.format(GREATEST_LAG, &[0]), Err(Refusal::Size));
+        assert_eq!(store.format(GREATEST_LAG, &[0, 0]), Ok(()));
         assert_eq!(store.drain(2), Err(Refusal::Lane));
         assert_eq!(store.write_back(image_words(SIZES)), Err(Refusal::Word));
         assert_eq!(store.log(0, &[]), Err(Refusal::Txn));
@@ -383,16 +485,16 @@ fn refusals_have_their_numbers() {
         store.record[0] = 1;
         assert_eq!(store.redo(0), Err(Refusal::Record));
         store.nvm[0] = 3;
-        assert_eq!(store.recover_read(usize::MAX), Err(Refusal::OddBase));
+        assert_eq!(store.recover_read(GREATEST_LAG, usize::MAX), Err(Refusal::OddBase));
         store.nvm[image_words(SIZES) - 1] += 1;
-        assert_eq!(store.recover_read(usize::MAX), Err(Refusal::Trailer));
-        assert_eq!(store.recover(usize::MAX), Err(Refusal::Size));
+        assert_eq!(store.recover_read(GREATEST_LAG, usize::MAX), Err(Refusal::Trailer));
+        assert_eq!(store.recover(GREATEST_LAG, usize::MAX), Err(Refusal::Size));
     });
     with_length(SIZES, former_words(SIZES), |store| {
-        assert_eq!(store.format(&[0, 0]), Err(Refusal::Size));
-        assert_eq!(store.recover_read(usize::MAX), Err(Refusal::Trailer));
+        assert_eq!(store.format(GREATEST_LAG, &[0, 0]), Err(Refusal::Size));
+        assert_eq!(store.recover_read(GREATEST_LAG, usize::MAX), Err(Refusal::Trailer));
         store.nvm[0] = 3;
-        assert_eq!(store.recover(usize::MAX), Err(Refusal::OddBase));
+        assert_eq!(store.recover(GREATEST_LAG, usize::MAX), Err(Refusal::OddBase));
     });
     let numbers = [
         Refusal::Size,
@@ -406,7 +508,9 @@ fn refusals_have_their_numbers() {
         Refusal::Overwrite,
         Refusal::OddBase,
         Refusal::Trailer,
+        Refusal::LagPassed,
+        Refusal::LagRange,
     ]
     .map(Refusal::number);
-    assert_eq!(numbers, [1, 2, 3, 4, 5, 6, 7, 8, 9, 10, 14]);
+    assert_eq!(numbers, [1, 2, 3, 4, 5, 6, 7, 8, 9, 10, 14, 15, 16]);
 }

@@ -156,7 +156,7 @@ fn a_cut_inside_a_word_would_spend_the_clock() {
 /// The control: the library is linked with the functions above, and calls that clear or copy a part of `nvm` with them are noticed.
 #[test]
 fn what_is_handed_over_is_noticed() {
-    fn clears(w: usize, _: usize, _: usize, _: &mut [u64], nvm: &mut [u64], _: &mut [u8], _: &mut [u64], _: &mut [u64], _: usize) -> u64 {
+    fn clears(w: usize, _: usize, _: usize, _: u64, _: &mut [u64], nvm: &mut [u64], _: &mut [u8], _: &mut [u64], _: &mut [u64], _: usize) -> u64 {
         let logs = &mut nvm[1 + w..];
         // SAFETY: a slice's words, and 0 is one
         unsafe { logs.as_mut_ptr().write_bytes(0, logs.len()) };
@@ -166,7 +166,7 @@ fn what_is_handed_over_is_noticed() {
         nvm.copy_from_slice(cache);
         0
     }
-    fn reads(cache: &mut [u64], nvm: &mut [u64], _: &mut [u8], _: &mut [u64], _: &mut [u64], _: usize) -> u64 {
+    fn reads(_: u64, cache: &mut [u64], nvm: &mut [u64], _: &mut [u8], _: &mut [u64], _: &mut [u64], _: usize) -> u64 {
         cache.copy_from_slice(nvm);
         0
     }

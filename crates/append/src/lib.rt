@@ -50,9 +50,10 @@ fn none() -> Writes
     }
 }
 
-// Refusals 8 and 9 of a call that appends `count` slots: the clock is spent, or a slot of a sequence at or above the
-// lower bound would be overwritten, floors as after the lane's drain, which finds this latest sequence. It looks at the
-// slots that the append writes and 16 more.
+// Refusals 8, 15 and 9 of a call that appends `count` slots: the clock is spent; the new timestamp is more than the lag
+// limit above the lower bound, where the limit binds the call; a slot of a sequence at or above the lower bound would
+// be overwritten. Floors are as after the lane's drain, which finds this latest sequence. It looks at the slots that
+// the append writes and 16 more.
 fn append_refusal(
     sizes: Sizes,
     state: Record,
@@ -60,9 +61,10 @@ fn append_refusal(
     cache: &[u64],
     lane: usize,
     count: usize,
+    binds: bool,
 ) -> u64
     requires { ⌜ Searchable sizes state latest (now cache) lane count ⌝ }
-    ensures { λ r. ⌜ r ≡ roomRefusal sizes state (now (cache .entry)) lane count ⌝ }
+    ensures { λ r. ⌜ r ≡ roomRefusal sizes state (now (cache .entry)) lane count binds ⌝ }
 {
     // all that is read by index is read from this one copy of the record
     let drained = record::drained(state, lane, latest);
@@ -70,6 +72,9 @@ fn append_refusal(
     let at = drained.lanes[lane];
     if record::spent(state) {
         return 8;
+    }
+    if binds && record::lag_passed(state.lag, state.clock + 2, bound) {
+        return 15;
     }
     let log = image::log_part(sizes, cache, lane);
     if log::search::would_hit(
@@ -148,7 +153,7 @@ fn plan_log(
         };
     }
     Plan {
-        number: append_refusal(sizes, state, latest, cache, lane, writes.count + 1),
+        number: append_refusal(sizes, state, latest, cache, lane, writes.count + 1, true),
         writes,
         latest,
     }
@@ -298,7 +303,7 @@ fn plan_mark(
     }
     let latest = store::latest_in(sizes, cache, lane);
     Plan {
-        number: append_refusal(sizes, state, latest, cache, lane, 1),
+        number: append_refusal(sizes, state, latest, cache, lane, 1, false),
         writes: none(),
         latest,
     }

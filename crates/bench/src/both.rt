@@ -18,6 +18,7 @@ use second::words::CACHE_LENGTH;
 use second::words::CODE;
 use second::words::FLAGS;
 use second::words::FLAGS_LENGTH;
+use second::words::LAG;
 use second::words::NUMBER;
 use second::words::NVM;
 use second::words::NVM_LENGTH;
@@ -99,6 +100,10 @@ fn number(arena: &Arena) -> usize {
     get(arena, STATE, NUMBER) as usize
 }
 
+fn lag(arena: &Arena) -> u64 {
+    get(arena, STATE, LAG)
+}
+
 // ---- the number that the store says beforehand a call will be refused with, or 0
 fn lane_refusal(arena: &Arena, cache: &[u64], nvm: &[u64], flags: &[u8]) -> u64 {
     let sizes = convert::sizes(arena);
@@ -126,9 +131,9 @@ fn refusal(arena: &Arena, cache: &[u64], nvm: &[u64], flags: &[u8], words: &[u64
     match get(arena, STATE, CODE) {
         second::LOG | second::VALIDATE => txn_refusal(arena, cache, nvm, flags, words),
         second::WRITE_BACK => store::write_back_refusal(sizes, cache, nvm, flags, number(arena)),
-        second::RECOVER => recovery::recover_refusal(sizes, cache, nvm, flags),
-        second::RECOVER_READ => recovery::recover_read_refusal(cache, nvm, flags),
-        second::FORMAT => store::format_refusal(sizes, words, cache, nvm, flags),
+        second::RECOVER => recovery::recover_refusal(sizes, lag(arena), cache, nvm, flags),
+        second::RECOVER_READ => recovery::recover_read_refusal(lag(arena), cache, nvm, flags),
+        second::FORMAT => store::format_refusal(sizes, lag(arena), words, cache, nvm, flags),
         _ => lane_refusal(arena, cache, nvm, flags),
     }
 }
@@ -163,6 +168,17 @@ fn with_txn(
     commit::validate(sizes, state, cache, nvm, flags, lane, txn)
 }
 
+fn format(
+    arena: &Arena,
+    cache: &mut [u64],
+    nvm: &mut [u64],
+    flags: &mut [u8],
+    words: &[u64],
+) -> Outcome {
+    let sizes = convert::sizes(arena);
+    store::format(sizes, lag(arena), words, cache, nvm, flags)
+}
+
 // It takes no record, so the record stays.
 fn write_back(arena: &Arena, cache: &[u64], nvm: &mut [u64], flags: &[u8]) -> Outcome {
     let state = convert::record(arena);
@@ -180,19 +196,20 @@ fn step(
     match get(arena, STATE, CODE) {
         second::LOG | second::VALIDATE => with_txn(arena, cache, nvm, flags, words),
         second::WRITE_BACK => write_back(arena, cache, nvm, flags),
-        second::FORMAT => store::format(convert::sizes(arena), words, cache, nvm, flags),
+        second::FORMAT => format(arena, cache, nvm, flags, words),
         _ => on_lane(arena, cache, nvm, flags),
     }
 }
 
 fn recover(arena: &mut Arena, cache: &mut [u64], nvm: &mut [u64], flags: &mut [u8]) {
-    let restart = recovery::recover(convert::sizes(arena), cache, nvm, flags, number(arena));
+    let sizes = convert::sizes(arena);
+    let restart = recovery::recover(sizes, lag(arena), cache, nvm, flags, number(arena));
     put_restart(arena, restart);
 }
 
 // It is given no sizes.
 fn recover_read(arena: &mut Arena, cache: &mut [u64], nvm: &mut [u64], flags: &mut [u8]) {
-    let restart = recovery::recover_read(cache, nvm, flags, number(arena));
+    let restart = recovery::recover_read(lag(arena), cache, nvm, flags, number(arena));
     put_restart(arena, restart);
 }
 

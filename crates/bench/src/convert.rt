@@ -81,6 +81,7 @@ pub(crate) fn record(arena: &Arena) -> Record {
         clock: get(arena, RECORD, fields::CLOCK),
         last: get(arena, RECORD, fields::LAST),
         lanes,
+        lag: get(arena, RECORD, fields::LAG),
     }
 }
 
@@ -146,7 +147,7 @@ pub(crate) fn put_record(arena: &mut Arena, state: Record) {
         fields::TIME_ROW,
         state.clock,
         state.last,
-        0,
+        state.lag,
         0,
     );
     for l in 0..MAX_LANES {

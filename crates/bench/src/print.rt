@@ -102,8 +102,8 @@ pub fn called(arena: &Arena) {
     call(get(arena, STATE, CODE));
 }
 
-fn floor(arena: &Arena, lane: u64) {
-    let floor = get(arena, STORED, lane << 6 | fields::FLOOR);
+// A floor, or none.
+pub fn floor(floor: u64) {
     if floor == fields::NONE {
         text(b" none");
     } else {
@@ -111,12 +111,16 @@ fn floor(arena: &Arena, lane: u64) {
     }
 }
 
+fn floor_of(arena: &Arena, lane: u64) {
+    floor(get(arena, STORED, lane << 6 | fields::FLOOR));
+}
+
 // An answer, and the floors that lanes 0 and 1 have then.
 pub fn floors(arena: &Arena) {
     said(arena);
     text(b", floors");
-    floor(arena, 0);
-    floor(arena, 1);
+    floor_of(arena, 0);
+    floor_of(arena, 1);
     text(b"\n");
 }
 
@@ -219,6 +223,8 @@ fn refusals(arena: &Arena) {
         refusal(arena, n);
     }
     refusal(arena, 14);
+    refusal(arena, 15);
+    refusal(arena, 16);
     text(b"\n");
 }
 

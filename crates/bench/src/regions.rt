@@ -25,8 +25,8 @@ pub const STORED_NVM: u64 = FREE + 6;
 
 pub(crate) const STORED_FLAGS: u64 = FREE + 7;
 
-// The words of TALLY.
-pub const TALLIED: u64 = 32;
+// The words of TALLY: the last one counts refusal 16.
+pub const TALLIED: u64 = 33;
 
 // ---- numbers in STATE
 pub const SEED: u64 = 0;

@@ -6,6 +6,7 @@ use crate::regions::TALLY;
 use second::fields;
 use second::restart;
 use second::words::Arena;
+use second::words::LAG;
 use second::words::NVM_LENGTH;
 use second::words::RECORD;
 use second::words::STATE;
@@ -76,6 +77,11 @@ pub fn set_lengths(arena: &mut Arena, cache: u64, nvm: u64, flags: u64) {
     set_row(arena, STATE, 3, cache, nvm, flags, 0);
 }
 
+// The lag limit that Format and recoveries are given from now on.
+pub fn set_lag(arena: &mut Arena, lag: u64) {
+    put(arena, STATE, LAG, lag);
+}
+
 // Buffers as long as an image with its trailer.
 pub fn fit(arena: &mut Arena) {
     let all = restart::length(arena);
@@ -108,7 +114,8 @@ pub fn recovery(arena: &Arena) -> u64
 // A call, with buffers of the lengths that are set: `number` is the lane, the word or the limit, and the first `used`
 // words of TXN are the transaction or the start words. A refusal or a cut leaves the record as it was.
 pub fn call(arena: &mut Arena, code: u64, number: u64, used: u64) {
-    set_row(arena, STATE, 1, code, number, used, 0);
+    let lag = get(arena, STATE, LAG);
+    set_row(arena, STATE, 1, code, number, used, lag);
     copy(arena, RECORD, SAVED, 0, fields::LENGTH);
     let same = both::run(arena);
     count(arena, same);

@@ -13,6 +13,7 @@ use second::words::Arena;
 use second::words::CACHE;
 use second::words::FLAGS;
 use second::words::LANES;
+use second::words::MAX_LAG;
 use second::words::MAX_LANES;
 use second::words::MAX_SLOTS;
 use second::words::MAX_STAMP;
@@ -276,12 +277,27 @@ fn clock(arena: &mut Arena) -> u64 {
     }
 }
 
-// All eight lanes, those that are not in use too.
-fn fill_record(arena: &mut Arena) {
-    clear(arena, RECORD, fields::LENGTH);
+// A lag limit: mostly a small one, and now and then a number that is out of range.
+fn about_lag(arena: &mut Arena) -> u64 {
+    match below(arena, 64) {
+        0 => lists::wrong_lag(arena),
+        1..=4 => minus(MAX_LAG, below(arena, 3) << 1),
+        _ => lists::small_lag(arena, 64),
+    }
+}
+
+fn fill_time(arena: &mut Arena) {
     let clock = clock(arena);
     let last = about_stamp(arena);
     fields::set_time(arena, clock, last);
+    let lag = about_lag(arena);
+    fields::set_lag(arena, lag);
+}
+
+// All eight lanes, those that are not in use too.
+fn fill_record(arena: &mut Arena) {
+    clear(arena, RECORD, fields::LENGTH);
+    fill_time(arena);
     for lane in 0..MAX_LANES {
         fill_lane(arena, lane);
     }
@@ -344,6 +360,8 @@ fn any_number(arena: &mut Arena, code: u64) -> u64 {
 fn any_call(arena: &mut Arena) {
     let code = plus(1, below(arena, 9));
     about_lengths(arena, code);
+    let lag = about_lag(arena);
+    session::set_lag(arena, lag);
     let number = any_number(arena, code);
     let mut used = lists::make_txn(arena);
     if code == second::FORMAT {

@@ -1,6 +1,6 @@
 // Pseudo-random lists of calls, from a Format on: transactions, some of them damaged, commits, marks, drains,
 // write-backs, power failures and recoveries. Now and then an image loses its trailer, and is one of the former length
-// from then on.
+// from then on. Half of the lag limits are small.
 use bench::generator::below;
 use bench::generator::once_in;
 use bench::generator::value;
@@ -12,7 +12,9 @@ use bench::regions::STORED_NVM;
 use bench::session;
 use second::restart;
 use second::words::Arena;
+use second::words::LAG;
 use second::words::LANES;
+use second::words::MAX_LAG;
 use second::words::MAX_LANES;
 use second::words::MAX_SLOTS;
 use second::words::MAX_WORDS;
@@ -125,6 +127,16 @@ fn log(arena: &mut Arena, lane: u64) {
     put(arena, KEPT, lane, seed);
     let used = make_txn(arena);
     session::call(arena, second::LOG, lane, used);
+    catch_up(arena);
+}
+
+// Where the lag limit refused a Log, now and then some lane is marked and drained: it may be the one that lags behind.
+fn catch_up(arena: &mut Arena) {
+    if session::refusal(arena) == 15 && once_in(arena, 3) {
+        let lane = below(arena, get(arena, STATE, LANES));
+        session::call(arena, second::MARK, lane, 0);
+        session::call(arena, second::DRAIN, lane, 0);
+    }
 }
 
 // The seed of the lane's transaction, now and then of another one; 1 where there is none yet.
@@ -148,6 +160,30 @@ fn validate(arena: &mut Arena, lane: u64) {
     session::call(arena, second::VALIDATE, lane, used);
 }
 
+// A small lag limit, or the greatest, for the starts from now on.
+fn pick_lag(arena: &mut Arena) {
+    let mut lag = MAX_LAG;
+    if once_in(arena, 2) {
+        lag = small_lag(arena, 20);
+    }
+    session::set_lag(arena, lag);
+}
+
+// One of the n least lag limits.
+pub(crate) fn small_lag(arena: &mut Arena, n: u64) -> u64 {
+    plus(1, below(arena, n)) << 1
+}
+
+// A number that is no lag limit: 0, odd, just too great, far too great.
+pub(crate) fn wrong_lag(arena: &mut Arena) -> u64 {
+    match below(arena, 4) {
+        0 => 0,
+        1 => plus(1, below(arena, 40) << 1),
+        2 => plus(MAX_LAG + 1, below(arena, 4)),
+        _ => u64::MAX - below(arena, 3),
+    }
+}
+
 // Format, with any start words, of an image with a trailer.
 fn format(arena: &mut Arena) {
     for i in 0..MAX_WORDS {
@@ -157,6 +193,11 @@ fn format(arena: &mut Arena) {
     session::fit(arena);
     let words = get(arena, STATE, WORDS);
     session::call(arena, second::FORMAT, 0, words);
+}
+
+fn new_store(arena: &mut Arena) {
+    pick_lag(arena);
+    format(arena);
 }
 
 // Recovery without a failure before it; if it is cut, that is one.
@@ -178,14 +219,38 @@ fn recover_wrongly(arena: &mut Arena) {
     session::expect(arena, session::kind(arena) == second::REFUSED);
 }
 
+// A Format, or the recovery that the image is for, with a limit out of range.
+fn start_wrongly(arena: &mut Arena) {
+    let lag = get(arena, STATE, LAG);
+    let wrong = wrong_lag(arena);
+    session::set_lag(arena, wrong);
+    let mut code = second::FORMAT;
+    if once_in(arena, 2) {
+        code = session::recovery(arena);
+    }
+    let words = get(arena, STATE, WORDS);
+    session::call(arena, code, u64::MAX, words);
+    session::expect(arena, session::kind(arena) == second::REFUSED);
+    session::set_lag(arena, lag);
+}
+
+// Power fails, and now and then recovery is given another lag limit than before.
+fn cut(arena: &mut Arena, lane: u64) {
+    if once_in(arena, 4) {
+        pick_lag(arena);
+    }
+    power::cut(arena, lane);
+}
+
 // A start in the middle of a list, by a failure, by recovery, or by Format; or the trailer is lost.
 fn start(arena: &mut Arena, lane: u64) {
-    match below(arena, 9) {
-        0 => format(arena),
+    match below(arena, 10) {
+        0 => new_store(arena),
         1 => recover(arena),
         2 => recover_wrongly(arena),
         3 => session::fit_former(arena),
-        _ => power::cut(arena, lane),
+        4 => start_wrongly(arena),
+        _ => cut(arena, lane),
     }
 }
 
@@ -236,7 +301,7 @@ fn event(arena: &mut Arena, calm: u64) {
 // A list of 1,000 events.
 fn list(arena: &mut Arena, calm: u64) {
     clear(arena, KEPT, 9);
-    format(arena);
+    new_store(arena);
     for _ in 0..1000u64 {
         event(arena, calm);
     }

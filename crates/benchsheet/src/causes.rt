@@ -7,13 +7,14 @@ use second::words::Arena;
 use second::words::CACHE;
 use second::words::CACHE_LENGTH;
 use second::words::MAX_STAMP;
+use second::words::MIN_LAG;
 use second::words::RECORD;
 use second::words::STATE;
 use second::words::TXN;
 use second::words::minus;
 use second::words::put;
 
-// A set of causes is a number. Its bits are the causes in the order in which they win: 1, 14, and 2 to 10.
+// A set of causes is a number. Its bits are the causes in the order in which they win: 1, 14, 16, 2 to 8, 15, 9, 10.
 fn has(set: u64, cause: u64) -> bool {
     set & cause != 0
 }
@@ -22,26 +23,30 @@ const LENGTHS: u64 = 1;
 
 const TRAILERS: u64 = 2;
 
-const RECORDS: u64 = 4;
+const BAD_LAG: u64 = 4;
 
-const NO_LANE: u64 = 8;
+const RECORDS: u64 = 8;
 
-const NO_WORD: u64 = 16;
+const NO_LANE: u64 = 16;
 
-const BAD_TXN: u64 = 32;
+const NO_WORD: u64 = 32;
 
-const HOLDS: u64 = 64;
+const BAD_TXN: u64 = 64;
 
-const IDLE: u64 = 128;
+const HOLDS: u64 = 128;
 
-const SPENT: u64 = 256;
+const IDLE: u64 = 256;
 
-const OVERWRITES: u64 = 512;
+const SPENT: u64 = 512;
 
-const ODD: u64 = 1024;
+const LAGS: u64 = 1024;
 
-// The sets of eleven causes.
-const SETS: u64 = 2048;
+const OVERWRITES: u64 = 2048;
+
+const ODD: u64 = 4096;
+
+// The sets of thirteen causes.
+const SETS: u64 = 8192;
 
 // Each set with each of the nine calls.
 pub(crate) const CASES: u64 = 9 * SETS;
@@ -49,24 +54,24 @@ pub(crate) const CASES: u64 = 9 * SETS;
 // The causes that a call knows. SPECIFICATION, "Calls".
 fn known(code: u64) -> u64 {
     match code {
-        // 1 2 3 5 6 8 9
-        second::LOG => 877,
+        // 1 2 3 5 6 8 15 9
+        second::LOG => 3801,
         // 1 2 3 7 8
-        second::REDO => 397,
+        second::REDO => 793,
         // 1 2 3 5 7 8
-        second::VALIDATE => 429,
+        second::VALIDATE => 857,
         // 1 2 3 8 9
-        second::MARK => 781,
+        second::MARK => 2585,
         // 1 2 3
-        second::DRAIN => 13,
+        second::DRAIN => 25,
         // 1 4
-        second::WRITE_BACK => 17,
-        // 1 10
-        second::RECOVER => 1025,
-        // 1 14 10
-        second::RECOVER_READ => 1027,
-        // 1
-        _ => 1,
+        second::WRITE_BACK => 33,
+        // 1 16 10
+        second::RECOVER => 4101,
+        // 1 14 16 10
+        second::RECOVER_READ => 4103,
+        // 1 16
+        _ => 5,
     }
 }
 
@@ -75,14 +80,18 @@ fn number_of(bit: u64) -> u64 {
     match bit {
         0 => 1,
         1 => 14,
-        _ => bit,
+        2 => 16,
+        10 => 15,
+        11 => 9,
+        12 => 10,
+        _ => minus(bit, 1),
     }
 }
 
 // The number that wins of a set, or 0.
 fn first(set: u64) -> u64 {
     let mut rest = set;
-    for bit in 0..11 {
+    for bit in 0..13 {
         if rest % 2 == 1 {
             return number_of(bit);
         }
@@ -105,11 +114,14 @@ fn number_for(code: u64, set: u64) -> u64 {
     0
 }
 
-// Puts the causes 1, 2 and 5 into lengths, record and transaction.
+// Puts the causes 1, 16, 2 and 5 into lengths, lag limit, record and transaction.
 fn spoil_arguments(arena: &mut Arena, set: u64) {
     if has(set, LENGTHS) {
         let length = session::length(arena);
         put(arena, STATE, CACHE_LENGTH, minus(length, 1));
+    }
+    if has(set, BAD_LAG) {
+        session::set_lag(arena, 0);
     }
     if has(set, RECORDS) {
         set_field(arena, 1, fields::PRESENT, 2);
@@ -119,14 +131,18 @@ fn spoil_arguments(arena: &mut Arena, set: u64) {
     }
 }
 
-// Puts the causes 14, 8, 9 and 10 into record and image. For 14 the trailer's last word is one too great; for 9 the
-// lane's log has a sequence, an entry of word 0 and timestamp 6, in the two slots that come next.
+// Puts the causes 14, 8, 15, 9 and 10 into record and image. For 14 the trailer's last word is one too great; for 15
+// the limit is 2, while timestamp 10 comes next and the lane's newest is 2, or 6 with 9; for 9 the lane's log has a
+// sequence, an entry of word 0 and timestamp 6, in the two slots that come next.
 fn spoil_state(arena: &mut Arena, set: u64, lane: u64) {
     if has(set, TRAILERS) {
         put(arena, CACHE, edges::LENGTH - 1, edges::FORMER + 1);
     }
     if has(set, SPENT) {
         put(arena, RECORD, fields::CLOCK, MAX_STAMP);
+    }
+    if has(set, LAGS) {
+        fields::set_lag(arena, MIN_LAG);
     }
     if has(set, OVERWRITES) {
         edges::put_slot(arena, lane, 2, 9, 1);

@@ -10,6 +10,7 @@ use second::restart;
 use second::words::Arena;
 use second::words::CACHE;
 use second::words::FLAGS;
+use second::words::MAX_LAG;
 use second::words::MAX_LANES;
 use second::words::MAX_SLOTS;
 use second::words::MAX_STAMP;
@@ -37,7 +38,7 @@ pub(crate) const FORMER: u64 = 139;
 // The calls.
 const CALLS: u64 = 9;
 
-// An empty store of these sizes, and a transaction that sets word 0 to 3.
+// An empty store of these sizes with the greatest lag limit, and a transaction that sets word 0 to 3.
 fn start_with(arena: &mut Arena, words: u64, lanes: u64, slots: u64) {
     session::set_sizes(arena, words, lanes, slots);
     session::fit(arena);
@@ -45,7 +46,8 @@ fn start_with(arena: &mut Arena, words: u64, lanes: u64, slots: u64) {
     clear(arena, FLAGS, ROOM);
     clear(arena, TXN, START);
     restart::put_trailer(arena, CACHE);
-    fields::set_start(arena, 0);
+    session::set_lag(arena, MAX_LAG);
+    fields::set_start(arena, MAX_LAG, 0);
     set_row(arena, TXN, 0, 1, 0, 0, 3);
 }
 
@@ -321,10 +323,13 @@ pub(crate) fn txns(arena: &mut Arena, i: u64) {
 }
 
 // ---- the clock
-const LATE: u64 = MAX_STAMP - 2;
+pub(crate) const LATE: u64 = MAX_STAMP - 2;
 
+// The lane has no floor, so that no lag limit binds: its sequence is not above the base timestamp.
 fn clock_case(arena: &mut Arena, code: u64, clock: u64, number: u64) {
     start_for(arena, code, 0);
+    put(arena, CACHE, 0, 2);
+    fields::set_field(arena, 0, fields::FLOOR, fields::NONE);
     put(arena, RECORD, fields::CLOCK, clock);
     probe_at(arena, code, 0, number, b", clock ", clock);
 }

@@ -21,7 +21,7 @@ fn call(arena: &mut Arena, code: u64, lane: u64) {
     session::call(arena, code, lane, 4);
 }
 
-fn step(arena: &mut Arena, code: u64, lane: u64) {
+pub(crate) fn step(arena: &mut Arena, code: u64, lane: u64) {
     call(arena, code, lane);
     print::called(arena);
     print::counted(b", lane ", lane);
@@ -29,9 +29,9 @@ fn step(arena: &mut Arena, code: u64, lane: u64) {
     print::floors(arena);
 }
 
-fn commit(arena: &mut Arena) {
-    step(arena, second::LOG, 0);
-    step(arena, second::REDO, 0);
+pub(crate) fn commit(arena: &mut Arena, lane: u64) {
+    step(arena, second::LOG, lane);
+    step(arena, second::REDO, lane);
 }
 
 // Seventeen commits of lane 0, of two slots each: its log is full.
@@ -45,8 +45,7 @@ fn fill(arena: &mut Arena) {
 // Lane 1 commits, and is idle while lane 0 fills its log. Non-volatile memory is kept as it is before the mark.
 fn hold_back(arena: &mut Arena) {
     scenario::format(arena);
-    step(arena, second::LOG, 1);
-    step(arena, second::REDO, 1);
+    commit(arena, 1);
     step(arena, second::DRAIN, 1);
     fill(arena);
     step(arena, second::LOG, 0);
@@ -59,11 +58,11 @@ fn let_go(arena: &mut Arena) {
     step(arena, second::MARK, 1);
     step(arena, second::LOG, 0);
     step(arena, second::DRAIN, 1);
-    commit(arena);
-    commit(arena);
+    commit(arena, 0);
+    commit(arena, 0);
 }
 
-fn recover(arena: &mut Arena) {
+pub(crate) fn recover(arena: &mut Arena) {
     scenario::recover(arena, u64::MAX);
     print::text(b"recovery: ");
     print::left(arena);
@@ -75,7 +74,7 @@ pub(crate) fn list(arena: &mut Arena) {
     let_go(arena);
     scenario::write_all_back(arena);
     recover(arena);
-    commit(arena);
+    commit(arena, 0);
     step(arena, second::MARK, 0);
     step(arena, second::DRAIN, 0);
     recover(arena);

@@ -1,13 +1,14 @@
 // The bench sheet's half that is run on fixed lists of calls: both sides of the ends of each range, trailers and the
 // lengths that each call takes, the withdrawn POKE, sets of causes of a refusal, the two-lane scenario with recovery
-// cut after each store, marked lanes. The control, which spoils what the store left, is here too. Prints what it ran,
-// what the store answered, and how many calls differed from the second implementation.
+// cut after each store, marked lanes, the lag limit. The control, which spoils what the store left, is here too. Prints
+// what it ran, what the store answered, and how many calls differed from the second implementation.
 mod boundaries;
 mod causes;
 mod control;
 mod edges;
 mod floors;
 mod idle;
+mod lag;
 mod lengths;
 mod logs;
 mod overwriting;
@@ -83,6 +84,18 @@ const IDLE: u64 = 28;
 
 const IDLE_CUTS: u64 = 29;
 
+const LAGS_GIVEN: u64 = 30;
+
+const LAGS_RECORDED: u64 = 31;
+
+const AT_LIMIT: u64 = 32;
+
+const AT_LIMIT_DRAINED: u64 = 33;
+
+const PAST_LIMIT: u64 = 34;
+
+const LAGGING: u64 = 35;
+
 // Case i of an edge.
 fn edge(arena: &mut Arena, group: u64, i: u64) {
     match group {
@@ -125,6 +138,18 @@ fn mark(arena: &mut Arena, group: u64, i: u64) {
     }
 }
 
+// Case i of the lag limit.
+fn lagging(arena: &mut Arena, group: u64, i: u64) {
+    match group {
+        LAGS_GIVEN => lag::given(arena, i),
+        LAGS_RECORDED => lag::recorded(arena, i),
+        AT_LIMIT => lag::at_limit(arena, i),
+        AT_LIMIT_DRAINED => lag::drained(arena, i),
+        PAST_LIMIT => lag::past_limit(arena, i),
+        _ => lag::list(arena),
+    }
+}
+
 // Case i of any other group.
 fn case(arena: &mut Arena, group: u64, i: u64) {
     match group {
@@ -147,8 +172,10 @@ fn cases(arena: &mut Arena, group: u64, count: u64) {
             trailer(arena, group, i);
         } else if group <= FORMER_CUTS {
             case(arena, group, i);
-        } else {
+        } else if group <= IDLE_CUTS {
             mark(arena, group, i);
+        } else {
+            lagging(arena, group, i);
         }
     }
 }
@@ -248,6 +275,28 @@ fn idle_lane(arena: &mut Arena) {
     );
 }
 
+fn lag_limit(arena: &mut Arena) {
+    run(arena, LAGS_GIVEN, lag::GIVEN, b"lag limits given");
+    run(
+        arena,
+        LAGS_RECORDED,
+        lag::RECORDED,
+        b"lag limits of the record",
+    );
+    run(arena, AT_LIMIT, 17, b"Logs at the lag limit");
+    run(
+        arena,
+        AT_LIMIT_DRAINED,
+        14,
+        b"Logs at the lag limit, as after the drain",
+    );
+}
+
+fn more_lag_limit(arena: &mut Arena) {
+    run(arena, PAST_LIMIT, 7, b"other calls past the lag limit");
+    run(arena, LAGGING, 1, b"a lane that lags behind");
+}
+
 fn main() {
     let mut arena = [0u64; ALL];
     first_edges(&mut arena);
@@ -259,4 +308,6 @@ fn main() {
     two_lanes(&mut arena);
     marks(&mut arena);
     idle_lane(&mut arena);
+    lag_limit(&mut arena);
+    more_lag_limit(&mut arena);
 }

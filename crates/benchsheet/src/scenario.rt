@@ -10,6 +10,7 @@ use bench::regions::STORED;
 use bench::regions::STORED_NVM;
 use bench::session;
 use second::words::Arena;
+use second::words::MAX_LAG;
 use second::words::NVM;
 use second::words::STATE;
 use second::words::TXN;
@@ -50,7 +51,12 @@ fn step(arena: &mut Arena, i: u64) {
 
 // A new store, of two words of 0.
 pub(crate) fn format(arena: &mut Arena) {
+    format_with(arena, MAX_LAG);
+}
+
+pub(crate) fn format_with(arena: &mut Arena, lag: u64) {
     edges::start(arena);
+    session::set_lag(arena, lag);
     set_row(arena, TXN, 0, 0, 0, 0, 0);
     session::call(arena, second::FORMAT, 0, 2);
 }

@@ -1,4 +1,4 @@
--- The record as words: clock, last commit, and for each of 8 lanes a head and 16 pairs. SPECIFICATION, "The record as words". Assumes nothing.
+-- The record as words: clock, last commit, for each of 8 lanes a head and 16 pairs, and the lag limit. SPECIFICATION, "The record as words". Assumes nothing.
 use Prim.Native.Nat.{ℕ, zero, suc, _+_, _*_}
 use mathlib.Core.Bool.{Bool, true, false, cond}
 use mathlib.Core.List.{List, [], _∷_, _++_}
@@ -15,7 +15,7 @@ use Rattle.record.specs.declared.Phase.the-variants.{Idle, Holds}
 use Rattle.record.specs.declared.Lane.{Lane}
 use Rattle.record.specs.declared.Record.{Record}
 
--- ---- how many words: of a lane before its pairs, of its pairs, of a lane, of a record (322)
+-- ---- how many words: of a lane before its pairs, of its pairs, of a lane, of a record (323)
 abbrev pub headLength : ℕ
 headLength = 8
 
@@ -26,7 +26,7 @@ abbrev pub laneLength : ℕ
 laneLength = headLength + pairsLength
 
 abbrev pub recordLength : ℕ
-recordLength = 2 + maxLanes * laneLength
+recordLength = 2 + maxLanes * laneLength + 1
 
 -- ---- from words: each list begins at the field's own first word
 -- n elements in a row, of `size` words each
@@ -55,7 +55,13 @@ laneOf ws =
     }
 
 unfoldable pub recordOf : List ℕ → Record
-recordOf ws = record { clock = getD ws 0 0; last = getD ws 1 0; lanes = rowOf laneLength laneOf maxLanes (drop 2 ws) }
+recordOf ws =
+    record {
+      clock = getD ws 0 0;
+      last = getD ws 1 0;
+      lanes = rowOf laneLength laneOf maxLanes (drop 2 ws);
+      lag = getD ws (2 + maxLanes * laneLength) 0;
+    }
 
 -- ---- to words
 -- the words of elements in a row
@@ -96,4 +102,4 @@ unfoldable pub laneWords : Lane → List ℕ
 laneWords l = headWords l ++ rowWords pairWords (l .redo)
 
 unfoldable pub wordsOf : Record → List ℕ
-wordsOf r = r .clock ∷ r .last ∷ rowWords laneWords (r .lanes)
+wordsOf r = r .clock ∷ r .last ∷ (rowWords laneWords (r .lanes) ++ (r .lag ∷ []))

@@ -1,5 +1,6 @@
-// The record as words: clock, last commit, and for each lane phase, first slot, count, timestamp, next slot, wrap bit,
-// whether there is a floor, floor, and 16 pairs. A field of a lane is read in `lane_from` and written in `head`.
+// The record as words: clock, last commit, for each lane phase, first slot, count, timestamp, next slot, wrap bit,
+// whether there is a floor, floor, and 16 pairs, then the lag limit. A field of a lane is read in `lane_from` and
+// written in `head`.
 use image::MAX_LANES;
 use log::Timestamp;
 use record::Lane;
@@ -22,8 +23,11 @@ const HEAD_WORDS: usize = 8;
 // How many words a lane has.
 const LANE_WORDS: usize = HEAD_WORDS + 2 * MAX_WRITES;
 
+// Where the words of the record after its lanes stand.
+const LANES_END: usize = 2 + MAX_LANES * LANE_WORDS;
+
 // How many words the record has.
-pub const RECORD_WORDS: usize = 2 + MAX_LANES * LANE_WORDS;
+pub const RECORD_WORDS: usize = LANES_END + 1;
 
 fn phase_from(words: &[u64]) -> Phase
     requires { ⌜ laneLength ≤ length (now words) ⌝ }
@@ -160,6 +164,7 @@ pub fn record_from(words: &[u64]) -> Record
         clock: words[0],
         last: words[1],
         lanes,
+        lag: words[LANES_END],
     }
 }
 
@@ -175,4 +180,5 @@ pub fn record_to(state: Record, words: &mut [u64])
         let at = 2 + LANE_WORDS * l;
         put_lane(lane, &mut words[at..at + LANE_WORDS]);
     }
+    words[LANES_END] = state.lag;
 }

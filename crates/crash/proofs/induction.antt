@@ -9,3 +9,4 @@ pub mod Pages
 pub mod Kept
 pub mod Idle
 pub mod Safe
+pub mod Lag

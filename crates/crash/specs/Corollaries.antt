@@ -1,21 +1,22 @@
--- What users are promised beside the crash theorem; it follows from that: when a commit can no longer be lost, and that a lane which is marked and drained
--- and then stays idle delays nobody. SPECIFICATION, "Corollaries". Assumes nothing.
-use Prim.Native.Nat.{ℕ, _+_, _≤_}
+-- What users are promised beside the crash theorem; it follows from that: when a commit can no longer be lost, that a lane which is marked and drained
+-- and then stays idle delays nobody, and how much work a power cut can take at most. SPECIFICATION, "Corollaries". Assumes nothing.
+use Prim.Native.Nat.{ℕ, _+_, _-_, _≤_}
 use mathlib.Core.Bool.{Bool, true, false, not, _&&_, _||_}
 use mathlib.Core.List.{List, [], _∷_}
 use mathlib.Core.Path.{_≡_}
 use lib.Dec.{eqb}
 use lib.ListN.{set}
+use Rattle.txn.specs.Txn.{Rule}
 use Rattle.image.specs.Image.{dataOf}
 use Rattle.image.specs.declared.Sizes.{Sizes}
 use Rattle.log.specs.declared.Timestamp.{Timestamp}
-use Rattle.log.specs.declared.Timestamp.the-variants.{At}
+use Rattle.log.specs.declared.Timestamp.the-variants.{None, At}
 use Rattle.store.specs.Machine.{Machine, said}
 use Rattle.store.specs.Calls.{formatRefusal}
-use Rattle.recovery.specs.Recovery.{told}
+use Rattle.recovery.specs.Recovery.{boundary, told}
 use Rattle.recovery.specs.declared.Recovered.{Recovered}
 use Rattle.recovery.specs.declared.Recovered.the-variants.{Refused, Cut, Finished}
-use Rattle.crash.specs.Events.{Call, logBy, redo, validateBy, mark, drain, laneOf, Junk, System, live, down, Design, happens}
+use Rattle.crash.specs.Events.{Call, logBy, redo, validateBy, mark, drain, laneOf, Junk, System, live, down, Design, foundOr, happens}
 use Rattle.crash.specs.Events.{Event, format, writeBack, call, recover, fails, failsInDrain, failsAfterDrain, failsInRecovery}
 use Rattle.crash.specs.Events.{Reply, answered, recovered, failed, ignored}
 use Rattle.crash.specs.History.{History, blankPage, isBelow, wordsBelow, leastFloorOf, fed}
@@ -64,10 +65,10 @@ Kept z h kept y ignored = Unit {0}
 -- ---- a commit that can no longer be lost
 -- does an event start anew: is it a Format that is taken, or a recovery that finishes
 unfoldable pub isFormat : Event → Bool
-isFormat (format start) = true
+isFormat (format lag start) = true
 isFormat (writeBack i) = false
 isFormat (call c) = false
-isFormat (recover limit j) = false
+isFormat (recover lag limit j) = false
 isFormat (fails j) = false
 isFormat (failsInDrain c is j) = false
 isFormat (failsAfterDrain c j) = false
@@ -88,12 +89,12 @@ goesOn d z w (e ∷ es) = not (startsAnew e (happens d z (w .system) e .reply)) 
 -- finishes keeps every commit up to s
 unfoldable pub SafeTheorem : Design → Type 0
 SafeTheorem d =
-    (z : Sizes) (start : List ℕ) (m : Machine) (h : History) → formatRefusal z start m ≡ 0
+    (z : Sizes) (lag : ℕ) (start : List ℕ) (m : Machine) (h : History) → formatRefusal z lag start m ≡ 0
     → (es fs : List Event) (s : ℕ) →
-    let a = worldAfter d z (record { system = live m; history = h }) (format start ∷ es) in
+    let a = worldAfter d z (record { system = live m; history = h }) (format lag start ∷ es) in
     let b = worldAfter d z a fs in
     s ≤ a .history .clock → isBelow (leastFloorOf (a .history .pages)) s ≡ true → goesOn d z a fs ≡ true
-    → (limit : ℕ) (j : Junk) → let r = happens d z (b .system) (recover limit j) in
+    → (lag₁ limit : ℕ) (j : Junk) → let r = happens d z (b .system) (recover lag₁ limit j) in
     Kept z (b .history) (At (s + 1)) (r .system) (r .reply)
 
 -- ---- a lane that stays idle: no step of it is called; it may be drained, and anything may happen to the rest of the store
@@ -105,10 +106,10 @@ isDrain (mark L) = false
 isDrain (drain L) = true
 
 unfoldable pub isIdle : ℕ → Event → Bool
-isIdle L (format start) = true
+isIdle L (format lag start) = true
 isIdle L (writeBack i) = true
 isIdle L (call c) = isDrain c || not (eqb (laneOf c) L)
-isIdle L (recover limit j) = true
+isIdle L (recover lag limit j) = true
 isIdle L (fails j) = true
 isIdle L (failsInDrain c is j) = true
 isIdle L (failsAfterDrain c j) = true
@@ -126,12 +127,44 @@ othersFloor L h = leastFloorOf (set h.pages L blankPage)
 -- power was cut, keeps every commit below the least floor of the other lanes, and every commit where these have none
 unfoldable pub IdleTheorem : Design → Type 0
 IdleTheorem d =
-    (z : Sizes) (start : List ℕ) (m : Machine) (h : History) → formatRefusal z start m ≡ 0
+    (z : Sizes) (lag : ℕ) (start : List ℕ) (m : Machine) (h : History) → formatRefusal z lag start m ≡ 0
     → (L : ℕ) (es fs gs : List Event) →
-    let a = worldAfter d z (record { system = live m; history = h }) (format start ∷ es) in
+    let a = worldAfter d z (record { system = live m; history = h }) (format lag start ∷ es) in
     let b = worldAfter d z (nextWorld d z a (call (mark L))) fs in
     let c = worldAfter d z (nextWorld d z b (call (drain L))) gs in
     isDone (happens d z (a .system) (call (mark L)) .reply) ≡ true → staysIdle L fs ≡ true
     → isDone (happens d z (b .system) (call (drain L)) .reply) ≡ true → staysIdle L gs ≡ true
-    → (limit : ℕ) (j : Junk) → let r = happens d z (c .system) (recover limit j) in
+    → (lag₁ limit : ℕ) (j : Junk) → let r = happens d z (c .system) (recover lag₁ limit j) in
     Kept z (c .history) (othersFloor L (c .history)) (r .system) (r .reply)
+
+-- ---- a limit on lost work
+-- the timestamp that a call answers: a list of one, or of none
+unfoldable pub stampsIn : Reply → List ℕ
+stampsIn (answered a) = said a .stamp
+stampsIn (recovered r) = []
+stampsIn (failed d) = []
+stampsIn ignored = []
+
+-- the cells that the last power cut left, or that one would leave now: recovery undoes from their boundary on
+unfoldable pub cutCells : System → List ℕ
+cutCells (live m) = m .nvm
+cutCells (down nvm j found) = foundOr nvm found
+
+-- timestamp s is at most the lag limit above a boundary, if there is one
+pub data Within (lag s : ℕ) : (boundary : Timestamp) → Type 0 where
+  unbounded : Within lag s None
+  within : {b : ℕ} → s ≤ b + lag → Within lag s (At b)
+
+-- a Log has answered timestamp s: whatever happens until the next start and wherever power is cut, the boundary of the cut is at most the lag limit below s,
+-- and a recovery that then finishes keeps every commit that is further below
+unfoldable pub LagTheorem : Design → Type 0
+LagTheorem d =
+    (z : Sizes) (lag : ℕ) (start : List ℕ) (m : Machine) (h : History) → formatRefusal z lag start m ≡ 0
+    → (es fs : List Event) (q : Rule) (L : ℕ) (f : List ℕ) (s : ℕ) →
+    let a = worldAfter d z (record { system = live m; history = h }) (format lag start ∷ es) in
+    let b = nextWorld d z a (call (logBy q L f)) in
+    let c = worldAfter d z b fs in
+    stampsIn (happens d z (a .system) (call (logBy q L f)) .reply) ≡ s ∷ [] → goesOn d z b fs ≡ true
+    → Within (a .history .lag) s (boundary z (cutCells (c .system)))
+    × ((lag₁ limit : ℕ) (j : Junk) → let r = happens d z (c .system) (recover lag₁ limit j) in
+    Kept z (c .history) (At (s - a .history .lag)) (r .system) (r .reply))

@@ -10,7 +10,7 @@ use Rattle.txn.specs.Txn.{Rule, current}
 use Rattle.image.specs.Image.{formerLength, sizesAtEnd}
 use Rattle.image.specs.Flush.{flushed, writtenBack, drainedNvm}
 use Rattle.image.specs.declared.Sizes.{Sizes}
-use Rattle.record.specs.Record.{startRecord}
+use Rattle.record.specs.Record.{blankRecord}
 use Rattle.store.specs.Machine.{Machine, Step, said}
 use Rattle.store.specs.Calls.{formatStep, writeBackStep, drainStep, logStepBy, redoStep, validateStepBy, markStep}
 use Rattle.store.specs.declared.Answer.{Answer}
@@ -40,11 +40,11 @@ pub record Junk : Type 0 where
   pub flags : List ℕ
 
 pub data Event : Type 0 where
-  format : (start : List ℕ) → Event
+  format : (lag : ℕ) (start : List ℕ) → Event
   writeBack : (word : ℕ) → Event
   call : Call → Event
-  -- a recovery with a limit, by the call that fits the image; the junk is what is left where it answers Cut
-  recover : (limit : ℕ) → Junk → Event
+  -- a recovery with a lag limit and a limit of stores, by the call that fits the image; the junk is what is left where it answers Cut
+  recover : (lag limit : ℕ) → Junk → Event
   -- power fails between two calls
   fails : Junk → Event
   -- power fails inside a call's drain: of these words, those that its lane has flushed have been stored
@@ -98,11 +98,11 @@ callStep z (drain L) m = drainStep z L m
 -- a store, as the theorem sees it: its calls, its recoveries with sizes given and without, and the cells after so many stores of a recovery by these
 -- sizes that power cuts short
 pub record Design : Type 0 where
-  pub format : Sizes → (start : List ℕ) → Machine → Step
+  pub format : Sizes → (lag : ℕ) → (start : List ℕ) → Machine → Step
   pub writeBack : Sizes → (word : ℕ) → Machine → Step
   pub call : Sizes → Call → Machine → Step
-  pub recover : Sizes → (limit : ℕ) → Machine → Restarted
-  pub recoverRead : (limit : ℕ) → Machine → Restarted
+  pub recover : Sizes → (lag limit : ℕ) → Machine → Restarted
+  pub recoverRead : (lag limit : ℕ) → Machine → Restarted
   pub cutShort : Sizes → (stores : ℕ) → (nvm : List ℕ) → List ℕ
 
 -- this one: the definitions that the contracts of its code cite, Log's and Validate's at the current rule; of the former rule there is no code any more
@@ -125,8 +125,8 @@ isTaken d z c m = not (said (d .call z c m .answer) .refused)
 unfoldable pub isFormer : Sizes → (nvm : List ℕ) → Bool
 isFormer z nvm = eqb (length nvm) (formerLength z)
 
-unfoldable pub recoveryOf : Design → Sizes → (limit : ℕ) → Machine → Restarted
-recoveryOf d z limit m = cond (isFormer z m.nvm) (d .recover z limit m) (d .recoverRead limit m)
+unfoldable pub recoveryOf : Design → Sizes → (lag limit : ℕ) → Machine → Restarted
+recoveryOf d z lag limit m = cond (isFormer z m.nvm) (d .recover z lag limit m) (d .recoverRead lag limit m)
 
 unfoldable pub cutShortOf : Design → Sizes → (stores : ℕ) → (nvm : List ℕ) → List ℕ
 cutShortOf d z n nvm = d .cutShort (cond (isFormer z nvm) z (sizesAtEnd nvm)) n nvm
@@ -147,7 +147,7 @@ partlyDrained L (i ∷ is) flags cache nvm = partlyDrained L is flags cache (con
 
 -- the machine that Format and recovery are handed where there is no record: they take none
 unfoldable pub bare : (nvm : List ℕ) → Junk → Machine
-bare nvm j = record { state = startRecord 0; cache = j.cache; nvm = nvm; flags = j.flags }
+bare nvm j = record { state = blankRecord; cache = j.cache; nvm = nvm; flags = j.flags }
 
 unfoldable pub foundOr : List ℕ → Option (List ℕ) → List ℕ
 foundOr nvm none = nvm
@@ -176,21 +176,21 @@ unfoldable pub notOffered : System → Happened
 notOffered y = record { reply = ignored; system = y; found = [] }
 
 unfoldable pub happens : Design → Sizes → System → Event → Happened
-happens d z (live m) (format start) = afterFormat (live m) (d .format z start m)
+happens d z (live m) (format lag start) = afterFormat (live m) (d .format z lag start m)
 happens d z (live m) (writeBack i) = afterStep (d .writeBack z i m)
 happens d z (live m) (call c) = afterStep (d .call z c m)
-happens d z (live m) (recover limit j) = afterRecovery (live m) (fit (m .nvm) j) (m .nvm) (recoveryOf d z limit m)
+happens d z (live m) (recover lag limit j) = afterRecovery (live m) (fit (m .nvm) j) (m .nvm) (recoveryOf d z lag limit m)
 happens d z (live m) (fails j) = afterFailure false (m .nvm) (fit (m .nvm) j) none
 happens d z (live m) (failsInDrain c is j) =
     afterFailure false (cond (isTaken d z c m) (partlyDrained (laneOf c) is (m .flags) (m .cache) (m .nvm)) (m .nvm)) (fit (m .nvm) j) none
 happens d z (live m) (failsAfterDrain c j) =
     afterFailure (isTaken d z c m) (cond (isTaken d z c m) (drainedNvm (laneOf c) (m .flags) (m .cache) (m .nvm)) (m .nvm)) (fit (m .nvm) j) none
 happens d z (live m) (failsInRecovery n j) = afterFailure false (cutShortOf d z n (m .nvm)) (fit (m .nvm) j) (some (m .nvm))
-happens d z (down nvm j found) (format start) = afterFormat (down nvm j found) (d .format z start (bare nvm j))
+happens d z (down nvm j found) (format lag start) = afterFormat (down nvm j found) (d .format z lag start (bare nvm j))
 happens d z (down nvm j found) (writeBack i) = notOffered (down nvm j found)
 happens d z (down nvm j found) (call c) = notOffered (down nvm j found)
-happens d z (down nvm j found) (recover limit k) =
-    afterRecovery (down nvm j found) (fit nvm k) (foundOr nvm found) (recoveryOf d z limit (bare nvm j))
+happens d z (down nvm j found) (recover lag limit k) =
+    afterRecovery (down nvm j found) (fit nvm k) (foundOr nvm found) (recoveryOf d z lag limit (bare nvm j))
 happens d z (down nvm j found) (fails k) = afterFailure false nvm (fit nvm k) found
 happens d z (down nvm j found) (failsInDrain c is k) = notOffered (down nvm j found)
 happens d z (down nvm j found) (failsAfterDrain c k) = notOffered (down nvm j found)

@@ -11,7 +11,7 @@ use Rattle.txn.specs.declared.Write.{Write}
 use Rattle.image.specs.declared.Sizes.{Sizes}
 use Rattle.log.specs.declared.Timestamp.{Timestamp}
 use Rattle.log.specs.declared.Timestamp.the-variants.{None, At}
-use Rattle.record.specs.Record.{lesser}
+use Rattle.record.specs.Record.{lesser, lagPassed}
 use Rattle.store.specs.Machine.{Cause, Said, said}
 use Rattle.store.specs.Calls.{badLane, badTxn}
 use Rattle.store.specs.declared.Answer.{Answer}
@@ -45,6 +45,8 @@ pub record History : Type 0 where
   -- since the start, by rising timestamp
   pub commits : List Commit
   pub pages : List Page
+  -- the lag limit that the start was given
+  pub lag : ℕ
 
 abbrev pub blankPage : Page
 blankPage = record { held = none; newest = unset; floor = None }
@@ -52,9 +54,9 @@ blankPage = record { held = none; newest = unset; floor = None }
 unfoldable pub pageAt : History → ℕ → Page
 pageAt h L = getD h.pages L blankPage
 
--- a start with these words and this clock
-unfoldable pub opened : Sizes → List ℕ → ℕ → History
-opened z start clock = record { start = start; clock = clock; commits = []; pages = replicate z.lanes blankPage }
+-- a start with this lag limit, these words and this clock
+unfoldable pub opened : Sizes → (lag : ℕ) → List ℕ → ℕ → History
+opened z lag start clock = record { start = start; clock = clock; commits = []; pages = replicate z.lanes blankPage; lag = lag }
 
 -- ---- the words
 unfoldable pub isBelow : Timestamp → ℕ → Bool
@@ -89,6 +91,7 @@ settled L h =
       clock = h.clock;
       commits = h.commits;
       pages = set h.pages L (record { held = p.held; newest = p.newest; floor = floorOnDrain p.newest p.floor });
+      lag = h.lag;
     }
 
 -- a new timestamp of lane L, which closes entries or is a mark's, with what the lane then holds and what is committed
@@ -100,13 +103,20 @@ stamped L kind held txns h =
       clock = s;
       commits = h.commits ++ map (λ f. record { stamp = s; txn = f }) txns;
       pages = set h.pages L (record { held = held; newest = kind s; floor = floorOr (pageAt h L .floor) (At s) });
+      lag = h.lag;
     }
 
 -- lane L holds nothing any more
 unfoldable pub released : ℕ → History → History
 released L h =
     let p = pageAt h L in
-    record { start = h.start; clock = h.clock; commits = h.commits; pages = set h.pages L (record { held = none; newest = p.newest; floor = p.floor }) }
+    record {
+      start = h.start;
+      clock = h.clock;
+      commits = h.commits;
+      pages = set h.pages L (record { held = none; newest = p.newest; floor = p.floor });
+      lag = h.lag;
+    }
 
 unfoldable pub isSome : Option (List ℕ) → Bool
 isSome none = false
@@ -129,34 +139,44 @@ taken (validateBy r L f) t h = cond t.changed (released L (settled L h)) (stampe
 taken (mark L) t h = stamped L markAt none [] (settled L h)
 taken (drain L) t h = settled L h
 
--- a finished recovery that started from these cut cells
-unfoldable pub restarted : Sizes → List ℕ → History → History
-restarted z found h = opened z (wordsBelow z (boundary z found) h) (newBase z found)
+-- a finished recovery that was given this lag limit and started from these cut cells
+unfoldable pub restarted : Sizes → (lag : ℕ) → List ℕ → History → History
+restarted z lag found h = opened z lag (wordsBelow z (boundary z found) h) (newBase z found)
 
 unfoldable pub afterCall : Call → Answer → History → History
 afterCall c a h = cond (said a .refused) h (taken c (said a) h)
 
 -- a recovery that was refused or cut short does nothing
-unfoldable pub afterRecovered : Sizes → List ℕ → Recovered → History → History
-afterRecovered z found r h = cond (told r .refused || told r .cut) h (restarted z found h)
+unfoldable pub afterRecovered : Sizes → (lag : ℕ) → List ℕ → Recovered → History → History
+afterRecovered z lag found r h = cond (told r .refused || told r .cut) h (restarted z lag found h)
 
 -- by the reply; a reply that the event cannot have does nothing
 unfoldable pub fedAnswer : Sizes → Event → Answer → History → History
-fedAnswer z (format start) a h = cond (said a .refused) h (opened z start 0)
+fedAnswer z (format lag start) a h = cond (said a .refused) h (opened z lag start 0)
 fedAnswer z (writeBack i) a h = h
 fedAnswer z (call c) a h = afterCall c a h
-fedAnswer z (recover limit j) a h = h
+fedAnswer z (recover lag limit j) a h = h
 fedAnswer z (fails j) a h = h
 fedAnswer z (failsInDrain c is j) a h = h
 fedAnswer z (failsAfterDrain c j) a h = h
 fedAnswer z (failsInRecovery n j) a h = h
 
+unfoldable pub fedRecovery : Sizes → Event → (found : List ℕ) → Recovered → History → History
+fedRecovery z (format lag start) found r h = h
+fedRecovery z (writeBack i) found r h = h
+fedRecovery z (call c) found r h = h
+fedRecovery z (recover lag limit j) found r h = afterRecovered z lag found r h
+fedRecovery z (fails j) found r h = h
+fedRecovery z (failsInDrain c is j) found r h = h
+fedRecovery z (failsAfterDrain c j) found r h = h
+fedRecovery z (failsInRecovery n j) found r h = h
+
 -- a whole drain in a call that power cut short counts as a Drain
 unfoldable pub fedFailure : Event → Bool → History → History
-fedFailure (format start) d h = h
+fedFailure (format lag start) d h = h
 fedFailure (writeBack i) d h = h
 fedFailure (call c) d h = h
-fedFailure (recover limit j) d h = h
+fedFailure (recover lag limit j) d h = h
 fedFailure (fails j) d h = h
 fedFailure (failsInDrain c is j) d h = h
 fedFailure (failsAfterDrain c j) d h = cond d (settled (laneOf c) h) h
@@ -164,7 +184,7 @@ fedFailure (failsInRecovery n j) d h = h
 
 unfoldable pub fed : Sizes → Event → Reply → (found : List ℕ) → History → History
 fed z e (answered a) found h = fedAnswer z e a h
-fed z e (recovered r) found h = afterRecovered z found r h
+fed z e (recovered r) found h = fedRecovery z e found r h
 fed z e (failed d) found h = fedFailure e d h
 fed z e ignored found h = h
 
@@ -205,7 +225,7 @@ unfoldable pub commitAbove : Timestamp → List Commit → Bool
 commitAbove b [] = false
 commitAbove b (c ∷ cs) = isAbove b (c .stamp) || commitAbove b cs
 
--- ---- causes 6, 7 and 8; 3 and 5 are the calls' own, which look at the arguments alone
+-- ---- causes 6, 7, 8 and 15; 3 and 5 are the calls' own, which look at the arguments alone
 unfoldable pub holdsOne : ℕ → History → Bool
 holdsOne L h = isSome (pageAt h L .held)
 
@@ -215,6 +235,10 @@ notHeld L h = record { number = 7; holds = not (holdsOne L h) }
 unfoldable pub clockSpent : History → Bool
 clockSpent h = leb (2 ^ 64 - 2) h.clock
 
+-- would lane L's next timestamp be more than the lag limit above the least floor, floors as after the lane's drain
+unfoldable pub wouldLag : ℕ → History → Bool
+wouldLag L h = lagPassed h.lag (h.clock + 2) (leastFloorOf (settled L h .pages))
+
 -- a call's causes for refusal, in order; 1 and 2 never hold, and 9 is not the history's to tell, since it has no logs
 unfoldable pub causesBy : Sizes → Call → History → List Cause
 causesBy z (logBy r L f) h =
@@ -222,6 +246,7 @@ causesBy z (logBy r L f) h =
     ∷ badTxn r z f
     ∷ record { number = 6; holds = holdsOne L h }
     ∷ record { number = 8; holds = leb 1 (length (writesNow z f h)) && clockSpent h }
+    ∷ record { number = 15; holds = leb 1 (length (writesNow z f h)) && wouldLag L h }
     ∷ []
 causesBy z (redo L) h = badLane z L ∷ notHeld L h ∷ record { number = 8; holds = clockSpent h } ∷ []
 causesBy z (validateBy r L f) h = badLane z L ∷ badTxn r z f ∷ notHeld L h ∷ record { number = 8; holds = clockSpent h } ∷ []

@@ -11,7 +11,7 @@ use Rattle.image.specs.declared.Sizes.{Sizes}
 use Rattle.log.specs.Log.{completeIn, hits}
 use Rattle.log.specs.declared.Timestamp.{Timestamp}
 use Rattle.log.specs.declared.Timestamp.the-variants.{None, At}
-use Rattle.record.specs.Record.{laneAt, isLogged}
+use Rattle.record.specs.Record.{laneAt, isLogged, lagOk}
 use Rattle.store.specs.Machine.{Machine, firstCause}
 use Rattle.store.specs.Calls.{formatRefusal}
 use Rattle.store.specs.declared.Answer.{Answer}
@@ -28,8 +28,9 @@ use Rattle.crash.specs.History.{History, unset, opened, fed, pageAt, pre
 pub record Live (z : Sizes) (h : History) (m : Machine) : Type 0 where
   -- the cached data words are the start words with the commits run whole, in the order of their timestamps
   pub words : dataOf z (m .cache) ≡ present z h
-  -- the record's clock is the history's
+  -- the record's clock is the history's, and so is its lag limit
   pub clock : m .state .clock ≡ h .clock
+  pub lag : m .state .lag ≡ h .lag
   -- and so is each lane's floor, and whether it holds a transaction
   pub floors : (L : ℕ) → L < z .lanes → laneAt (m .state) L .floor ≡ pageAt h L .floor
   pub held : (L : ℕ) → L < z .lanes → isLogged (laneAt (m .state) L .phase) ≡ isSome (pageAt h L .held)
@@ -80,19 +81,24 @@ abbrev pub CallReply : Sizes → History → System → Call → Answer → Type
 CallReply z h (live m) c a = Answers z h m c a
 CallReply z h (down nvm j found) c a = ⊥
 
--- a Format of an image without a trailer or with too few or many start words is refused, and a write-back of no word of the image
-abbrev pub formatAnswer : Sizes → (end start : List ℕ) → Answer
-formatAnswer z end start = cond (eqb (length end) 4 && eqb (length start) (z .words)) answer.Done (answer.Refused 1)
+-- a Format of an image without a trailer or with too few or many start words is refused with 1, else one with a lag limit out of range with 16; and a
+-- write-back of no word of the image with 4
+abbrev pub formatAnswer : Sizes → (end : List ℕ) → (lag : ℕ) → (start : List ℕ) → Answer
+formatAnswer z end lag start =
+    cond (eqb (length end) 4 && eqb (length start) (z .words)) (cond (lagOk lag) answer.Done (answer.Refused 16)) (answer.Refused 1)
 
 abbrev pub writeBackAnswer : Sizes → (end : List ℕ) → ℕ → Answer
 writeBackAnswer z end i = cond (leb (formerLength z + length end) i) (answer.Refused 4) answer.Done
 
 -- ---- recovery
--- the answer of a recovery with this limit that finds these cells: cut exactly where stores remain past the limit, else their boundary,
--- how many entries they have to undo, and how many of their slots are torn. Never a refusal: recovery by the call that fits is taken
-unfoldable pub recoveryAnswer : Sizes → (limit : ℕ) → (cells : List ℕ) → Recovered
-recoveryAnswer z limit cells =
-    cond (allMade z limit cells) (Finished (record { boundary = boundary z cells; undone = length (undoStores z cells); torn = tornIn z cells })) Cut
+-- the answer of a recovery with these limits that finds these cells: refused where the lag limit is out of range, cut exactly where stores remain past the
+-- limit of stores, else their boundary, how many entries they have to undo, and how many of their slots are torn. No other refusal: recovery is by the
+-- call that fits
+unfoldable pub recoveryAnswer : Sizes → (lag limit : ℕ) → (cells : List ℕ) → Recovered
+recoveryAnswer z lag limit cells =
+    cond (lagOk lag)
+    (cond (allMade z limit cells) (Finished (record { boundary = boundary z cells; undone = length (undoStores z cells); torn = tornIn z cells })) Cut)
+    (Refused 16)
 
 -- a boundary is at least the least floor, and there is one only if some lane has a floor
 pub data NotBelow : (floor boundary : Timestamp) → Type 0 where
@@ -111,30 +117,30 @@ pub record Recovers (z : Sizes) (h : History) (found : List ℕ) (m : Machine) :
 
 -- only a store with a record has finished
 abbrev pub Finishes : Sizes → History → (found : List ℕ) → System → Recovered → Type 0
-Finishes z h found y (Refused n) = ⊥
+Finishes z h found y (Refused n) = Unit {0}
 Finishes z h found y Cut = Unit {0}
 Finishes z h found (live m) (Finished a) = Recovers z h found m
 Finishes z h found (down nvm j f) (Finished a) = ⊥
 
 -- the cells are those that this call found; the cut cells are those that the first recovery since the start found
-pub record RecoveryReply (z : Sizes) (h : History) (limit : ℕ) (cells found : List ℕ) (y : System) (r : Recovered) : Type 0 where
-  pub gives : r ≡ recoveryAnswer z limit cells
+pub record RecoveryReply (z : Sizes) (h : History) (lag limit : ℕ) (cells found : List ℕ) (y : System) (r : Recovered) : Type 0 where
+  pub gives : r ≡ recoveryAnswer z lag limit cells
   pub leaves : Finishes z h found y r
 
 -- ---- one event: what is replied, of the history and the store before it
 abbrev pub Replied : Sizes → (end : List ℕ) → History → Event → (was : System) → (found : List ℕ) → (is : System) → Reply → Type 0
-Replied z end h (format start) was found is (answered a) = a ≡ formatAnswer z end start
+Replied z end h (format lag start) was found is (answered a) = a ≡ formatAnswer z end lag start
 Replied z end h (writeBack i) was found is (answered a) = a ≡ writeBackAnswer z end i
 Replied z end h (call c) was found is (answered a) = CallReply z h was c a
-Replied z end h (recover limit j) was found is (answered a) = ⊥
+Replied z end h (recover lag limit j) was found is (answered a) = ⊥
 Replied z end h (fails j) was found is (answered a) = ⊥
 Replied z end h (failsInDrain c ws j) was found is (answered a) = ⊥
 Replied z end h (failsAfterDrain c j) was found is (answered a) = ⊥
 Replied z end h (failsInRecovery n j) was found is (answered a) = ⊥
-Replied z end h (format start) was found is (recovered r) = ⊥
+Replied z end h (format lag start) was found is (recovered r) = ⊥
 Replied z end h (writeBack i) was found is (recovered r) = ⊥
 Replied z end h (call c) was found is (recovered r) = ⊥
-Replied z end h (recover limit j) was found is (recovered r) = RecoveryReply z h limit (nvmOf was) found is r
+Replied z end h (recover lag limit j) was found is (recovered r) = RecoveryReply z h lag limit (nvmOf was) found is r
 Replied z end h (fails j) was found is (recovered r) = ⊥
 Replied z end h (failsInDrain c ws j) was found is (recovered r) = ⊥
 Replied z end h (failsAfterDrain c j) was found is (recovered r) = ⊥
@@ -152,29 +158,29 @@ Holds d z end y h [] = Unit {0}
 Holds d z end y h (e ∷ es) =
     Agrees d z end h e y × Holds d z end (happens d z y e .system) (fed z e (happens d z y e .reply) (happens d z y e .found) h) es
 
--- the theorem about a store: for all sizes, buffers and start words that Format is not to refuse, and all lists of events that begin with it;
+-- the theorem about a store: for all sizes, lag limits, buffers and start words that Format is not to refuse, and all lists of events that begin with it;
 -- the history before it does not matter. It holds of ours (`CrashTheorem.crash-theorem`), and not of wrong ones (`proofs/worked/WrongStores`)
 unfoldable pub CrashTheorem : Design → Type 0
 CrashTheorem d =
-    (z : Sizes) (start : List ℕ) (m : Machine) (h : History) → formatRefusal z start m ≡ 0
-    → (es : List Event) → Holds d z (trailer z) (live m) h (format start ∷ es)
+    (z : Sizes) (lag : ℕ) (start : List ℕ) (m : Machine) (h : History) → formatRefusal z lag start m ≡ 0
+    → (es : List Event) → Holds d z (trailer z) (live m) h (format lag start ∷ es)
 
--- the same of a store that was there before images had a trailer: for all sizes, all cells of the former length with an even base, whatever they hold,
--- and all lists of events after a recovery of them, with the sizes given, that is let finish. The words that it leaves are the start words
+-- the same of a store that was there before images had a trailer: for all sizes and lag limits, all cells of the former length with an even base, whatever
+-- they hold, and all lists of events after a recovery of them, with the sizes given, that is let finish. The words that it leaves are the start words
 unfoldable pub FormerTheorem : Design → Type 0
 FormerTheorem d =
-    (z : Sizes) (limit : ℕ) (m : Machine) → recoverRefusal z m ≡ 0 → allMade z limit (m .nvm) ≡ true
-    → (es : List Event) → let r = d .recover z limit m in
-    (r .answer ≡ recoveryAnswer z limit (m .nvm))
-    × InStep z [] (opened z (dataOf z (r .machine .nvm)) (newBase z (m .nvm))) (live (r .machine))
-    × Holds d z [] (live (r .machine)) (opened z (dataOf z (r .machine .nvm)) (newBase z (m .nvm))) es
+    (z : Sizes) (lag limit : ℕ) (m : Machine) → recoverRefusal z lag m ≡ 0 → allMade z limit (m .nvm) ≡ true
+    → (es : List Event) → let r = d .recover z lag limit m in
+    (r .answer ≡ recoveryAnswer z lag limit (m .nvm))
+    × InStep z [] (opened z lag (dataOf z (r .machine .nvm)) (newBase z (m .nvm))) (live (r .machine))
+    × Holds d z [] (live (r .machine)) (opened z lag (dataOf z (r .machine .nvm)) (newBase z (m .nvm))) es
 
 -- ---- who stores to the trailer: Format and write-back
 unfoldable pub mayStore : Event → Bool
-mayStore (format start) = true
+mayStore (format lag start) = true
 mayStore (writeBack i) = true
 mayStore (call c) = false
-mayStore (recover limit j) = false
+mayStore (recover lag limit j) = false
 mayStore (fails j) = false
 mayStore (failsInDrain c ws j) = false
 mayStore (failsAfterDrain c j) = false

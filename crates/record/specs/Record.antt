@@ -1,5 +1,5 @@
--- The record: its start, its range check, its updates, the lower bound. SPECIFICATION, "Record". Assumes nothing.
-use Prim.Native.Nat.{ℕ, zero, suc, _-_, _%_, _^_, min}
+-- The record: its start, its range check, floors, the lower bound, the lag limit, updates. SPECIFICATION, "Record". Assumes nothing.
+use Prim.Native.Nat.{ℕ, zero, suc, _+_, _-_, _%_, _^_, min}
 use mathlib.Core.Bool.{Bool, true, false, _&&_}
 use mathlib.Core.List.{List, [], _∷_}
 use lib.Dec.{leb, ltb, eqb}
@@ -29,9 +29,13 @@ noPair = record { word = 0; value = 0 }
 unfoldable pub startLane : Lane
 startLane = record { phase = Idle; next = 0; wrap = 1; floor = None; redo = replicate maxWrites noPair }
 
--- the record at a start: clock and last commit are the base timestamp
-unfoldable pub startRecord : ℕ → Record
-startRecord base = record { clock = base; last = base; lanes = replicate maxLanes startLane }
+-- the record at a start, with this lag limit: clock and last commit are the base timestamp
+unfoldable pub startRecord : (lag base : ℕ) → Record
+startRecord lag base = record { clock = base; last = base; lanes = replicate maxLanes startLane; lag = lag }
+
+-- stands where a call takes or gives no record
+abbrev pub blankRecord : Record
+blankRecord = startRecord 2 0
 
 -- ---- lanes
 -- what stands past the end of the lanes
@@ -79,9 +83,17 @@ unfoldable pub lanesOk : Sizes → (clock : ℕ) → List Lane → Bool
 lanesOk z clock [] = true
 lanesOk z clock (l ∷ ls) = laneOk z clock l && lanesOk z clock ls
 
+-- the greatest lag limit
+abbrev pub maxLag : ℕ
+maxLag = 2 ^ 32
+
+-- a lag limit is even, and 2 to the greatest; else it is refusal 16 where a start is given it, and 2 in a record
+unfoldable pub lagOk : ℕ → Bool
+lagOk n = eqb (n % 2) 0 && (leb 2 n && leb n maxLag)
+
 -- the lanes that are not in use may hold anything
 unfoldable pub recordOk : Sizes → Record → Bool
-recordOk z r = eqb (r.clock % 2) 0 && (stampOk r.clock r.last && lanesOk z r.clock (take z.lanes r.lanes))
+recordOk z r = eqb (r.clock % 2) 0 && (stampOk r.clock r.last && (lagOk r.lag && lanesOk z r.clock (take z.lanes r.lanes)))
 
 -- the clock can give no new timestamp
 unfoldable pub spent : Record → Bool
@@ -101,6 +113,11 @@ leastFloor (l ∷ ls) = lesser l.floor (leastFloor ls)
 unfoldable pub boundOf : Sizes → Record → Timestamp
 boundOf z r = leastFloor (take z.lanes r.lanes)
 
+-- is timestamp s more than the lag limit above the lower bound; never where there is none
+unfoldable pub lagPassed : (lag s : ℕ) → Timestamp → Bool
+lagPassed lag s None = false
+lagPassed lag s (At f) = ltb (f + lag) s
+
 -- a lane's floor after a drain: what its latest sequence gives, if it has one; so a drained mark ends it
 unfoldable pub floorAfterDrain : Latest → Timestamp → Timestamp
 floorAfterDrain Nothing floor = floor
@@ -113,13 +130,13 @@ floorAfterAppend s (At f) = At f
 
 -- ---- updates
 unfoldable pub withLane : Record → ℕ → Lane → Record
-withLane r L l = record { clock = r.clock; last = r.last; lanes = set r.lanes L l }
+withLane r L l = record { clock = r.clock; last = r.last; lanes = set r.lanes L l; lag = r.lag }
 
 unfoldable pub withClock : Record → ℕ → Record
-withClock r clock = record { clock = clock; last = r.last; lanes = r.lanes }
+withClock r clock = record { clock = clock; last = r.last; lanes = r.lanes; lag = r.lag }
 
 unfoldable pub withLast : Record → ℕ → Record
-withLast r last = record { clock = r.clock; last = last; lanes = r.lanes }
+withLast r last = record { clock = r.clock; last = last; lanes = r.lanes; lag = r.lag }
 
 -- a lane after a drain that found this latest sequence
 unfoldable pub drainedLane : Latest → Lane → Lane

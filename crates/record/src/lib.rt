@@ -11,9 +11,9 @@ ghost use Prim.Native.Nat.{_≤_, _<_};
 ghost use lib.ListN.{take};
 ghost use Rattle.txn.specs.Txn.{maxWrites};
 ghost use Rattle.image.specs.Image.{maxLanes};
-ghost use Rattle.record.specs.Record.{startLane, startRecord, laneAt, cursorOf, isLogged, loggedIn};
-ghost use Rattle.record.specs.Record.{stampOk, floorOk, pairsOk, phaseOk, laneOk, recordOk, spent};
-ghost use Rattle.record.specs.Record.{lesser, boundOf, floorAfterDrain, floorAfterAppend};
+ghost use Rattle.record.specs.Record.{startLane, startRecord, blankRecord, laneAt, cursorOf, isLogged, loggedIn};
+ghost use Rattle.record.specs.Record.{stampOk, floorOk, pairsOk, phaseOk, laneOk, lagOk, recordOk, spent};
+ghost use Rattle.record.specs.Record.{lesser, boundOf, lagPassed, floorAfterDrain, floorAfterAppend};
 ghost use Rattle.record.specs.Record.{withLane, withClock, drainedLane, appendedLane, idleLane, pairsOf};
 
 // A word number and its new value.
@@ -46,13 +46,15 @@ pub struct Lane {
     pub redo: [Pair; MAX_WRITES],
 }
 
-// 2,576 bytes, and a function that takes a record and indexes its lanes copies it: so the calls' inner functions take a
+// 2,584 bytes, and a function that takes a record and indexes its lanes copies it: so the calls' inner functions take a
 // lane or numbers where these do, and a call changes its record once, at its end.
 pub struct Record {
     pub clock: u64,
     // the timestamp of the last commit
     pub last: u64,
     pub lanes: [Lane; MAX_LANES],
+    // the lag limit: how far Log may take the clock above the least floor
+    pub lag: u64,
 }
 
 // A lane at a start: idle without floor, at slot 0 with wrap bit 1.
@@ -69,14 +71,22 @@ pub fn start_lane() -> Lane
 }
 
 // The record at a start, which is Format or a finished recovery.
-pub fn start_record(base: u64) -> Record
-    ensures { λ r. ⌜ r ≡ startRecord base ⌝ }
+pub fn start_record(lag: u64, base: u64) -> Record
+    ensures { λ r. ⌜ r ≡ startRecord lag base ⌝ }
 {
     Record {
         clock: base,
         last: base,
         lanes: [start_lane(); MAX_LANES],
+        lag,
     }
+}
+
+// Stands beside an answer where there is no record.
+pub fn blank_record() -> Record
+    ensures { λ r. ⌜ r ≡ blankRecord ⌝ }
+{
+    start_record(2, 0)
 }
 
 // Where a lane's log goes on.
@@ -185,6 +195,19 @@ fn lane_ok(sizes: Sizes, clock: u64, lane: Lane) -> bool
     phase_ok(sizes, clock, redo, phase)
 }
 
+// 2^32, the greatest lag limit.
+pub const MAX_LAG: u64 = 4294967296;
+
+// Is this a lag limit: even, and 2 to 2^32?
+pub fn lag_ok(lag: u64) -> bool
+    ensures { λ r. ⌜ r ≡ lagOk lag ⌝ }
+{
+    if lag % 2 != 0 {
+        return false;
+    }
+    2 <= lag && lag <= MAX_LAG
+}
+
 // The range check, false where refusal 2 is due. The lanes that are not in use, and the pairs from the count on, may
 // hold anything.
 pub fn record_ok(sizes: Sizes, state: Record) -> bool
@@ -196,6 +219,9 @@ pub fn record_ok(sizes: Sizes, state: Record) -> bool
         return false;
     }
     if !stamp_ok(clock, state.last) {
+        return false;
+    }
+    if !lag_ok(state.lag) {
         return false;
     }
     let lanes = sizes.lanes;
@@ -243,6 +269,17 @@ pub fn bound_of(sizes: Sizes, state: Record) -> Timestamp
         bound = lesser(bound, floor);
     }
     bound
+}
+
+// Is a timestamp more than the lag limit above the lower bound? A bound above the timestamp, as damage can make it, is
+// not in its way.
+pub fn lag_passed(lag: u64, stamp: u64, bound: Timestamp) -> bool
+    ensures { λ r. ⌜ r ≡ lagPassed lag stamp bound ⌝ }
+{
+    match bound {
+        Timestamp::None => false,
+        Timestamp::At(floor) => floor < stamp && lag < stamp - floor,
+    }
 }
 
 // A lane's floor after a drain that found this latest sequence: a drained mark ends it.

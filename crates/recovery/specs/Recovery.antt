@@ -15,7 +15,7 @@ use Rattle.log.specs.declared.Timestamp.{Timestamp}
 use Rattle.log.specs.declared.Timestamp.the-variants.{None, At}
 use Rattle.record.specs.Record.{lesser}
 use Rattle.store.specs.Machine.{Machine, Cause, firstCause}
-use Rattle.store.specs.Calls.{started}
+use Rattle.store.specs.Calls.{badLag, started}
 use Rattle.recovery.specs.declared.Recovered.{Recovered}
 use Rattle.recovery.specs.declared.Recovered.the-variants.{Refused, Cut, Finished}
 
@@ -132,16 +132,16 @@ pub record Restarted : Type 0 where
   pub answer : Recovered
   pub machine : Machine
 
--- a call that is refused alters nothing; one cut short has made its stores, and has no record; a finished one is a start.
--- Boundary and counts are of the cells that this call found
-unfoldable pub recoveredBy : Sizes → (limit : ℕ) → (number : ℕ) → Machine → Restarted
-recoveredBy z limit number m =
+-- a call that is refused alters nothing; one cut short has made its stores, and has no record; a finished one is a start, with the lag limit that it
+-- was given. Boundary and counts are of the cells that this call found. `limit` is that of stores
+unfoldable pub recoveredBy : Sizes → (lag limit : ℕ) → (number : ℕ) → Machine → Restarted
+recoveredBy z lag limit number m =
     let nvm = recoveredNvm z limit m.nvm in
     cond (eqb number 0)
     (cond (allMade z limit m.nvm)
     (record {
       answer = Finished (record { boundary = boundary z m.nvm; undone = length (undoStores z m.nvm); torn = tornIn z m.nvm });
-      machine = started (baseOf nvm) nvm;
+      machine = started lag (baseOf nvm) nvm;
     })
     (record { answer = Cut; machine = record { state = m.state; cache = m.cache; nvm = nvm; flags = m.flags } }))
     (record { answer = Refused number; machine = m })
@@ -150,25 +150,26 @@ unfoldable pub oddBase : Machine → Cause
 oddBase m = record { number = 10; holds = eqb (baseOf m.nvm % 2) 1 }
 
 -- recovery with sizes given, of an image of the former length
-unfoldable pub recoverRefusal : Sizes → Machine → ℕ
-recoverRefusal z m =
-    firstCause (record { number = 1; holds = not (formerOk z (length m.cache) (length m.nvm) (length m.flags)) } ∷ oddBase m ∷ [])
+unfoldable pub recoverRefusal : Sizes → (lag : ℕ) → Machine → ℕ
+recoverRefusal z lag m =
+    firstCause (record { number = 1; holds = not (formerOk z (length m.cache) (length m.nvm) (length m.flags)) } ∷ badLag lag ∷ oddBase m ∷ [])
 
-unfoldable pub recoverStep : Sizes → (limit : ℕ) → Machine → Restarted
-recoverStep z limit m = recoveredBy z limit (recoverRefusal z m) m
+unfoldable pub recoverStep : Sizes → (lag limit : ℕ) → Machine → Restarted
+recoverStep z lag limit m = recoveredBy z lag limit (recoverRefusal z lag m) m
 
 -- recovery without sizes, which reads them from the end of the cells
-unfoldable pub recoverReadRefusal : Machine → ℕ
-recoverReadRefusal m =
+unfoldable pub recoverReadRefusal : (lag : ℕ) → Machine → ℕ
+recoverReadRefusal lag m =
     let n = length m.nvm in
     firstCause
     (record { number = 1; holds = not (allAre n (length m.cache) n (length m.flags)) }
     ∷ record { number = 14; holds = not (trailerOk m.nvm) }
+    ∷ badLag lag
     ∷ oddBase m
     ∷ [])
 
-unfoldable pub recoverReadStep : (limit : ℕ) → Machine → Restarted
-recoverReadStep limit m = recoveredBy (sizesAtEnd m.nvm) limit (recoverReadRefusal m) m
+unfoldable pub recoverReadStep : (lag limit : ℕ) → Machine → Restarted
+recoverReadStep lag limit m = recoveredBy (sizesAtEnd m.nvm) lag limit (recoverReadRefusal lag m) m
 
 -- ---- their answers in the specification's words
 pub record Told : Type 0 where

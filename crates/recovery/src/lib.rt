@@ -3,7 +3,7 @@
 ghost use mathlib.Core.Path.{_≡_};
 ghost use lib.ListN.{length, replicate};
 ghost use Rattle.image.specs.inner.Facts.{IsImage};
-ghost use Rattle.record.specs.Record.{startRecord};
+ghost use Rattle.record.specs.Record.{blankRecord};
 ghost use Rattle.store.specs.Interface.{blankOf};
 ghost use Rattle.recovery.specs.Recovery.{boundary as boundaryOf, undoStores, tornIn};
 ghost use Rattle.recovery.specs.Recovery.{recoveryStores, recoveredNvm};
@@ -58,11 +58,15 @@ struct Due {
 }
 
 // The number of the refusal of recovery with sizes given, or 0.
-pub fn recover_refusal(sizes: Sizes, cache: &[u64], nvm: &[u64], flags: &[u8]) -> u64
-    ensures { λ r. ⌜ r ≡ recoverRefusal sizes (blankOf (now (cache .entry)) (now (nvm .entry)) (now (flags .entry))) ⌝ }
+pub fn recover_refusal(sizes: Sizes, lag: u64, cache: &[u64], nvm: &[u64], flags: &[u8]) -> u64
+    ensures { λ r. ⌜ r ≡ recoverRefusal sizes lag
+        (blankOf (now (cache .entry)) (now (nvm .entry)) (now (flags .entry))) ⌝ }
 {
     if !image::former_ok(sizes, cache.len(), nvm.len(), flags.len()) {
         return 1;
+    }
+    if !record::lag_ok(lag) {
+        return 16;
     }
     if nvm[0] % 2 == 1 {
         return 10;
@@ -71,14 +75,18 @@ pub fn recover_refusal(sizes: Sizes, cache: &[u64], nvm: &[u64], flags: &[u8]) -
 }
 
 // The number of the refusal of recovery without sizes, or 0.
-pub fn recover_read_refusal(cache: &[u64], nvm: &[u64], flags: &[u8]) -> u64
-    ensures { λ r. ⌜ r ≡ recoverReadRefusal (blankOf (now (cache .entry)) (now (nvm .entry)) (now (flags .entry))) ⌝ }
+pub fn recover_read_refusal(lag: u64, cache: &[u64], nvm: &[u64], flags: &[u8]) -> u64
+    ensures { λ r. ⌜ r ≡ recoverReadRefusal lag
+        (blankOf (now (cache .entry)) (now (nvm .entry)) (now (flags .entry))) ⌝ }
 {
     if !image::all_are(nvm.len(), cache.len(), nvm.len(), flags.len()) {
         return 1;
     }
     if !image::trailer_ok(nvm) {
         return 14;
+    }
+    if !record::lag_ok(lag) {
+        return 16;
     }
     if nvm[0] % 2 == 1 {
         return 10;
@@ -150,17 +158,18 @@ fn refill(cache: &mut [u64], nvm: &[u64], flags: &mut [u8])
 
 // A refusal: nothing is altered, and the record is a blank one.
 fn refused(number: u64) -> Restart
-    ensures { λ r. ⌜ r ≡ record { answer = Recovered.Refused number; state = startRecord 0 } ⌝ }
+    ensures { λ r. ⌜ r ≡ record { answer = Recovered.Refused number; state = blankRecord } ⌝ }
 {
     Restart {
         answer: Recovered::Refused(number),
-        state: record::start_record(0),
+        state: record::blank_record(),
     }
 }
 
 // Recovery by these sizes, once it is not refused.
 fn recover_by(
     sizes: Sizes,
+    lag: u64,
     cache: &mut [u64],
     nvm: &mut [u64],
     flags: &mut [u8],
@@ -170,13 +179,13 @@ fn recover_by(
     requires { ⌜ length (now cache) ≡ length (now nvm) ⌝ }
     requires { ⌜ length (now flags) ≡ length (now nvm) ⌝ }
     ensures { λ r. ⌜ restartedOf r (now (cache .exit)) (now (nvm .exit)) (now (flags .exit))
-        ≡ recoveredBy sizes limit 0 (blankOf (now (cache .entry)) (now (nvm .entry)) (now (flags .entry))) ⌝ }
+        ≡ recoveredBy sizes lag limit 0 (blankOf (now (cache .entry)) (now (nvm .entry)) (now (flags .entry))) ⌝ }
 {
     let due = recover_nvm(sizes, nvm, limit);
     if limit < due.all {
         return Restart {
             answer: Recovered::Cut,
-            state: record::start_record(0),
+            state: record::blank_record(),
         };
     }
     let boundary = due.boundary;
@@ -187,12 +196,12 @@ fn recover_by(
             undone: due.undone,
             torn: due.torn,
         }),
-        state: record::start_record(nvm[0]),
+        state: record::start_record(lag, nvm[0]),
     }
 }
 
 // Recovers an image of the former length from non-volatile memory alone, making at most `limit` stores to it; cache and
-// flags are not read.
+// flags are not read. The record that it returns has the lag limit that it is given.
 // One pass over all slots counts the torn ones and makes an array of timestamps with a winner tree for each lane (up to
 // 20 KB of stack). Each lane's are tried from the greatest down, up to its latest sequence; then all from the boundary
 // on are taken from the greatest down. Each one tried or taken costs the reading of its sequence, a step for each level
@@ -201,30 +210,37 @@ fn recover_by(
 // the image is passed over once.
 pub fn recover(
     sizes: Sizes,
+    lag: u64,
     cache: &mut [u64],
     nvm: &mut [u64],
     flags: &mut [u8],
     limit: usize,
 ) -> Restart
     ensures { λ r. ⌜ restartedOf r (now (cache .exit)) (now (nvm .exit)) (now (flags .exit))
-        ≡ recoverStep sizes limit (blankOf (now (cache .entry)) (now (nvm .entry)) (now (flags .entry))) ⌝ }
+        ≡ recoverStep sizes lag limit (blankOf (now (cache .entry)) (now (nvm .entry)) (now (flags .entry))) ⌝ }
 {
-    let number = recover_refusal(sizes, cache, nvm, flags);
+    let number = recover_refusal(sizes, lag, cache, nvm, flags);
     if number != 0 {
         return refused(number);
     }
-    recover_by(sizes, cache, nvm, flags, limit)
+    recover_by(sizes, lag, cache, nvm, flags, limit)
 }
 
 // The same of an image whose last four words tell its sizes; they are read, and never stored to.
-pub fn recover_read(cache: &mut [u64], nvm: &mut [u64], flags: &mut [u8], limit: usize) -> Restart
+pub fn recover_read(
+    lag: u64,
+    cache: &mut [u64],
+    nvm: &mut [u64],
+    flags: &mut [u8],
+    limit: usize,
+) -> Restart
     ensures { λ r. ⌜ restartedOf r (now (cache .exit)) (now (nvm .exit)) (now (flags .exit))
-        ≡ recoverReadStep limit (blankOf (now (cache .entry)) (now (nvm .entry)) (now (flags .entry))) ⌝ }
+        ≡ recoverReadStep lag limit (blankOf (now (cache .entry)) (now (nvm .entry)) (now (flags .entry))) ⌝ }
 {
-    let number = recover_read_refusal(cache, nvm, flags);
+    let number = recover_read_refusal(lag, cache, nvm, flags);
     if number != 0 {
         return refused(number);
     }
     let sizes = image::sizes_at_end(nvm);
-    recover_by(sizes, cache, nvm, flags, limit)
+    recover_by(sizes, lag, cache, nvm, flags, limit)
 }

@@ -156,7 +156,7 @@ fn counted(op: &[u64], fixed: usize, most: usize) -> Extent
 fn operands(op: &[u64], sizes: Sizes) -> Extent {
     match word(op, 0) {
         0 | 9 | 14 => Extent::Words(0),
-        2 | 4 | 5 | 6 | 7 | 15 => Extent::Words(1),
+        2 | 4 | 5 | 6 | 7 | 15 | 17 => Extent::Words(1),
         10 | 12 => Extent::Words(3),
         16 => Extent::Words(4),
         11 => Extent::Words(codec::RECORD_WORDS),

@@ -6,6 +6,7 @@ mod print;
 use codec::RECORD_WORDS;
 use image::MAX_IMAGE;
 use image::Sizes;
+use record::MAX_LAG;
 use record::Record;
 use recovery::Recovered;
 use recovery::Restart;
@@ -31,6 +32,8 @@ struct Run {
     sizes: Sizes,
     // are images without a trailer
     former: bool,
+    // the lag limit that Format and the recoveries are given
+    lag: u64,
     state: Record,
 }
 
@@ -88,13 +91,14 @@ fn lent(code: u64, words: &[u64], sizes: Sizes, former: bool) -> Lengths
 // Format, which takes no record; a refused one leaves the record as it was.
 fn format(
     sizes: Sizes,
+    lag: u64,
     state: Record,
     cache: &mut [u64],
     nvm: &mut [u64],
     flags: &mut [u8],
     start: &[u64],
 ) -> Outcome {
-    let outcome = store::format(sizes, start, cache, nvm, flags);
+    let outcome = store::format(sizes, lag, start, cache, nvm, flags);
     let answer = outcome.answer;
     match answer {
         Answer::Refused(_) => Outcome { answer, state },
@@ -107,6 +111,7 @@ fn call(
     code: u64,
     words: &[u64],
     sizes: Sizes,
+    lag: u64,
     state: Record,
     cache: &mut [u64],
     nvm: &mut [u64],
@@ -125,7 +130,7 @@ fn call(
             state,
         },
         // 8: no other code comes here
-        _ => format(sizes, state, cache, nvm, flags, words),
+        _ => format(sizes, lag, state, cache, nvm, flags, words),
     }
 }
 
@@ -145,24 +150,26 @@ fn restarted(restart: Restart, state: Record) -> Record {
 fn recover(
     limit: usize,
     sizes: Sizes,
+    lag: u64,
     state: Record,
     cache: &mut [u64],
     nvm: &mut [u64],
     flags: &mut [u8],
 ) -> Record {
-    let restart = recovery::recover(sizes, cache, nvm, flags, limit);
+    let restart = recovery::recover(sizes, lag, cache, nvm, flags, limit);
     restarted(restart, state)
 }
 
 // Recovers without.
 fn recover_read(
     limit: usize,
+    lag: u64,
     state: Record,
     cache: &mut [u64],
     nvm: &mut [u64],
     flags: &mut [u8],
 ) -> Record {
-    let restart = recovery::recover_read(cache, nvm, flags, limit);
+    let restart = recovery::recover_read(lag, cache, nvm, flags, limit);
     restarted(restart, state)
 }
 
@@ -193,7 +200,15 @@ fn perform(
             ..run
         },
         7 => Run {
-            state: recover(input::number(words, 0), run.sizes, state, cache, nvm, flags),
+            state: recover(
+                input::number(words, 0),
+                run.sizes,
+                run.lag,
+                state,
+                cache,
+                nvm,
+                flags,
+            ),
             ..run
         },
         9 => {
@@ -225,11 +240,15 @@ fn perform(
             ..run
         },
         16 => Run {
-            state: recover_read(input::number(words, 0), state, cache, nvm, flags),
+            state: recover_read(input::number(words, 0), run.lag, state, cache, nvm, flags),
+            ..run
+        },
+        17 => Run {
+            lag: input::word(words, 0),
             ..run
         },
         _ => {
-            let outcome = call(code, words, run.sizes, state, cache, nvm, flags);
+            let outcome = call(code, words, run.sizes, run.lag, state, cache, nvm, flags);
             let answer = outcome.answer;
             let after = outcome.state;
             print::answer_line(code, answer);
@@ -314,6 +333,7 @@ fn run_trace(input: &[u64], at: usize) -> Run
             status: Status::Malformed,
             sizes,
             former: false,
+            lag: MAX_LAG,
             state,
         };
     }
@@ -322,6 +342,7 @@ fn run_trace(input: &[u64], at: usize) -> Run
         status: Status::Going,
         sizes,
         former: false,
+        lag: MAX_LAG,
         state,
     };
     run_ops(input, run, &mut cache, &mut nvm, &mut flags)

@@ -10,6 +10,7 @@ use Rattle.image.specs.Image.{maxWords, maxFormer, maxImage, sizesOk, formerLen
 use Rattle.image.specs.declared.Sizes.{Sizes}
 use Rattle.log.specs.declared.Timestamp.{Timestamp}
 use Rattle.log.specs.declared.Timestamp.the-variants.{None, At}
+use Rattle.record.specs.Record.{maxLag}
 use Rattle.store.specs.Interface.{blankOf}
 use Rattle.store.specs.Machine.{Machine}
 use Rattle.recovery.specs.Recovery.{Restarted, recoverStep, recoverReadStep, told}
@@ -124,10 +125,10 @@ blank n = replicate n 0
 unfoldable pub nvmOnly : (image : List ℕ) → Machine
 nvmOnly image = blankOf (blank (length image)) image (blank (length image))
 
--- recovery of the image of an input, with the sizes given or without
+-- recovery of the image of an input, with the sizes given or without; the record is not printed, so that its lag limit does not matter
 unfoldable pub recoveredFrom : SizesAt → (input : List ℕ) → Restarted
-recoveredFrom Start input = recoverStep (sizesIn Start input) noLimit (nvmOnly (imageIn Start input))
-recoveredFrom End input = recoverReadStep noLimit (nvmOnly (imageIn End input))
+recoveredFrom Start input = recoverStep (sizesIn Start input) maxLag noLimit (nvmOnly (imageIn Start input))
+recoveredFrom End input = recoverReadStep maxLag noLimit (nvmOnly (imageIn End input))
 
 -- what is printed of a finished recovery that left this in non-volatile memory: the boundary, then the data words
 unfoldable pub finishedText : Sizes → (nvm : List ℕ) → Timestamp → List ℕ

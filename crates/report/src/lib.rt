@@ -64,7 +64,8 @@ fn put_answer(output: &mut [u8], sizes: Sizes, nvm: &[u64], answer: Recovered) -
     }
 }
 
-// Recovers the image after W, T and N in these buffers, and prints what came of it.
+// Recovers the image after W, T and N in these buffers, and prints what came of it. The record is not printed, so that
+// its lag limit does not matter.
 fn recover_given(
     input: &[u8],
     cache: &mut [u64],
@@ -80,7 +81,7 @@ fn recover_given(
 {
     let sizes = reading::sizes_in(input);
     reading::decode(input, 3, nvm);
-    let restart = recovery::recover(sizes, cache, nvm, flags, NO_LIMIT);
+    let restart = recovery::recover(sizes, record::MAX_LAG, cache, nvm, flags, NO_LIMIT);
     let answer = restart.answer;
     put_answer(output, sizes, nvm, answer)
 }
@@ -104,7 +105,7 @@ fn recover_told(
         return printing::put_refused(output, 14);
     }
     let sizes = image::sizes_at_end(nvm);
-    let restart = recovery::recover_read(cache, nvm, flags, NO_LIMIT);
+    let restart = recovery::recover_read(record::MAX_LAG, cache, nvm, flags, NO_LIMIT);
     let answer = restart.answer;
     put_answer(output, sizes, nvm, answer)
 }

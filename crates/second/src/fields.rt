@@ -1,9 +1,11 @@
-// The record of the second implementation, in words: 64 for each of eight lanes, then clock and last commit, and from
-// word 1,024 on the pairs. Its range check, and the floors. SPECIFICATION, "Record".
+// The record of the second implementation, in words: 64 for each of eight lanes, then clock, last commit and lag limit,
+// and from word 1,024 on the pairs. Its range check, and the floors. SPECIFICATION, "Record".
 use crate::words::Arena;
 use crate::words::LANES;
+use crate::words::MAX_LAG;
 use crate::words::MAX_LANES;
 use crate::words::MAX_WRITES;
+use crate::words::MIN_LAG;
 use crate::words::RECORD;
 use crate::words::SLOTS;
 use crate::words::STATE;
@@ -12,6 +14,7 @@ use crate::words::cell;
 use crate::words::clear;
 use crate::words::get;
 use crate::words::least;
+use crate::words::minus;
 use crate::words::plus;
 use crate::words::put;
 use crate::words::set_row;
@@ -37,7 +40,9 @@ pub const CLOCK: u64 = 512;
 
 pub const LAST: u64 = 513;
 
-// The row of these two, where the record is read as a table.
+pub const LAG: u64 = 514;
+
+// The row of these three, where the record is read as a table.
 pub const TIME_ROW: u64 = CLOCK / 4;
 
 // The first word of the pairs.
@@ -83,15 +88,22 @@ pub fn set_log(arena: &mut Arena, lane: u64, next: u64, wrap: u64, floor: u64) {
     set_row(arena, RECORD, lane << 4 | 1, next, wrap, floor, 0);
 }
 
+// The lag limit stays.
 pub fn set_time(arena: &mut Arena, clock: u64, last: u64) {
-    set_row(arena, RECORD, TIME_ROW, clock, last, 0, 0);
+    put(arena, RECORD, CLOCK, clock);
+    put(arena, RECORD, LAST, last);
 }
 
-// The record of a start: everything 0 but the wrap bits, the floors, and clock and last commit, which are the base
-// timestamp.
-pub fn set_start(arena: &mut Arena, base: u64) {
+pub fn set_lag(arena: &mut Arena, lag: u64) {
+    put(arena, RECORD, LAG, lag);
+}
+
+// The record of a start: everything 0 but the wrap bits, the floors, clock and last commit, which are the base
+// timestamp, and the lag limit.
+pub fn set_start(arena: &mut Arena, lag: u64, base: u64) {
     clear(arena, RECORD, LENGTH);
     set_time(arena, base, base);
+    set_lag(arena, lag);
     start_lanes(arena);
 }
 
@@ -148,10 +160,16 @@ fn bad_lanes(arena: &Arena) -> u64 {
     bad
 }
 
+// An even number from 2 to 2^32.
+pub(crate) fn lag_ok(lag: u64) -> bool {
+    MIN_LAG <= lag && lag <= MAX_LAG && lag % 2 == 0
+}
+
 pub(crate) fn in_range(arena: &Arena) -> bool {
     get(arena, RECORD, CLOCK) % 2 == 0
         && in_time(arena, get(arena, RECORD, LAST))
         && bad_lanes(arena) == 0
+        && lag_ok(get(arena, RECORD, LAG))
 }
 
 // The least floor, where this lane's is the one given; none is above all.
@@ -163,4 +181,12 @@ pub(crate) fn least_floor(arena: &Arena, lane: u64, own: u64) -> u64 {
         }
     }
     bound
+}
+
+// Is the clock's next timestamp more than the lag limit above the bound? The timestamp is 2 above the clock and the
+// limit 2 at least: both are taken less 2, so that no sum can wrap. A bound above the clock, as damage or no floor at
+// all makes it, does not bind.
+pub(crate) fn lags(arena: &Arena, bound: u64) -> bool {
+    let clock = get(arena, RECORD, CLOCK);
+    bound <= clock && minus(get(arena, RECORD, LAG), 2) < minus(clock, bound)
 }

@@ -15,12 +15,14 @@ use crate::words::DECODED;
 use crate::words::FLAGS;
 use crate::words::FLAGS_LENGTH;
 use crate::words::FOUND;
+use crate::words::LAG;
 use crate::words::LANES;
 use crate::words::MAX_LANES;
 use crate::words::MAX_SLOTS;
 use crate::words::MAX_STAMP;
 use crate::words::MAX_WORDS;
 use crate::words::MAX_WRITES;
+use crate::words::MIN_LAG;
 use crate::words::MIN_SLOTS;
 use crate::words::NUMBER;
 use crate::words::NVM;
@@ -235,9 +237,8 @@ fn is_owned(arena: &Arena, slot: u64, bound: u64) -> bool {
     owner != 0 && bound <= owner
 }
 
-// Refusal 9, of an append of `count` slots, where the lane's n sequences are in the table.
-fn overwrites(arena: &Arena, lane: u64, n: u64, count: u64) -> bool {
-    let bound = fields::least_floor(arena, lane, floor_after(arena, lane, n));
+// Refusal 9, of an append of `count` slots, where the lane's sequences are in the table.
+fn overwrites(arena: &Arena, lane: u64, bound: u64, count: u64) -> bool {
     let next = field(arena, lane, fields::NEXT);
     for k in 0..count {
         if is_owned(arena, reading::ahead(arena, next, k), bound) {
@@ -303,10 +304,20 @@ fn phase_refusal(code: u64, held: bool, well_formed: bool) -> u64 {
     winner(number, 5, takes_txn(code) && !well_formed)
 }
 
-// Causes 8 and 9.
+// Causes 8, 15 and 9, where the lane's n sequences are in the table. Of the calls that append, 15 is Log's alone.
 fn append_refusal(arena: &Arena, lane: u64, code: u64, n: u64, writes: u64) -> u64 {
     let append = appends(code, writes);
-    let number = winner(0, 9, append && overwrites(arena, lane, n, plus(writes, 1)));
+    let bound = fields::least_floor(arena, lane, floor_after(arena, lane, n));
+    let number = winner(
+        0,
+        9,
+        append && overwrites(arena, lane, bound, plus(writes, 1)),
+    );
+    let number = winner(
+        number,
+        15,
+        append && code == LOG && fields::lags(arena, bound),
+    );
     winner(number, 8, (append || commits(code)) && spent(arena))
 }
 
@@ -475,7 +486,7 @@ fn do_step(arena: &mut Arena, code: u64, lane: u64, count: u64) {
     }
 }
 
-// A call on a lane unless cause 8 or 9 holds. Its transaction is well formed, where it has one.
+// A call on a lane unless cause 8, 15 or 9 holds. Its transaction is well formed, where it has one.
 fn appending(arena: &mut Arena, code: u64, lane: u64) {
     let n = reading::read(arena, CACHE, lane, plus(lane, 1));
     let mut count = 0;
@@ -519,7 +530,20 @@ fn write_back(arena: &mut Arena, word: u64) {
     }
 }
 
+// Refusal 16: the lag limit that the call is given.
+pub(crate) fn given_ok(arena: &Arena) -> bool {
+    fields::lag_ok(get(arena, STATE, LAG))
+}
+
 fn format(arena: &mut Arena) {
+    if given_ok(arena) {
+        format_whole(arena);
+    } else {
+        refuse(arena, 16);
+    }
+}
+
+fn format_whole(arena: &mut Arena) {
     let length = restart::length(arena);
     let words = get(arena, STATE, WORDS);
     clear(arena, CACHE, length);
@@ -527,6 +551,7 @@ fn format(arena: &mut Arena) {
     copy(arena, TXN, CACHE, 1, words);
     restart::put_trailer(arena, CACHE);
     copy(arena, CACHE, NVM, 0, length);
+    restart::set_start(arena, 0);
     answer(arena, DONE, 0, 0);
 }
 
@@ -554,11 +579,12 @@ fn starts(code: u64) -> bool {
     code == FORMAT || code == RECOVER || code == RECOVER_READ
 }
 
-// The call that STATE says. Format and recovery beside a refusal leave the record of an empty start.
+// The call that STATE says. Format and recovery beside a refusal leave the record of an empty start, with the least lag
+// limit.
 pub fn call(arena: &mut Arena) {
     let code = get(arena, STATE, CODE);
     if starts(code) {
-        fields::set_start(arena, 0);
+        fields::set_start(arena, MIN_LAG, 0);
     }
     if code == RECOVER_READ {
         restart::recover_read(arena);

@@ -7,6 +7,7 @@ use crate::words::CACHE;
 use crate::words::DECODED;
 use crate::words::FLAGS;
 use crate::words::FOUND;
+use crate::words::LAG;
 use crate::words::LANES;
 use crate::words::MAX_LANES;
 use crate::words::MAX_SLOTS;
@@ -179,11 +180,17 @@ fn refill(arena: &mut Arena) {
     clear(arena, FLAGS, all);
 }
 
+// A start, with the lag limit that the call is given.
+pub(crate) fn set_start(arena: &mut Arena, base: u64) {
+    let lag = get(arena, STATE, LAG);
+    fields::set_start(arena, lag, base);
+}
+
 // After the last store: the start of a new list of calls.
 fn finish(arena: &mut Arena, boundary: u64, undone: u64, torn: u64) {
     refill(arena);
     let base = get(arena, NVM, 0);
-    fields::set_start(arena, base);
+    set_start(arena, base);
     if boundary == fields::NONE {
         super::answer(arena, super::UNBOUNDED, undone, 0);
     } else {
@@ -226,14 +233,15 @@ fn recover_unless(arena: &mut Arena, number: u64) {
     }
 }
 
-// Cause 10, or 0.
-fn base_refusal(arena: &Arena) -> u64 {
-    super::winner(0, 10, get(arena, NVM, 0) % 2 == 1)
+// Causes 16 and 10.
+fn start_refusal(arena: &Arena) -> u64 {
+    let number = super::winner(0, 10, get(arena, NVM, 0) % 2 == 1);
+    super::winner(number, 16, !super::given_ok(arena))
 }
 
 // Recovery by the sizes that STATE says.
 pub(crate) fn recover(arena: &mut Arena) {
-    let number = base_refusal(arena);
+    let number = start_refusal(arena);
     recover_unless(arena, number);
 }
 
@@ -255,7 +263,7 @@ fn trailer_ok(arena: &Arena) -> bool {
 }
 
 fn read_refusal(arena: &Arena) -> u64 {
-    let number = super::winner(base_refusal(arena), 14, !trailer_ok(arena));
+    let number = super::winner(start_refusal(arena), 14, !trailer_ok(arena));
     super::winner(number, 1, !super::alike(arena))
 }
 

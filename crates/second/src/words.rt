@@ -38,6 +38,11 @@ pub const MAX_WRITES: u64 = 16;
 // The greatest timestamp: timestamps are even.
 pub const MAX_STAMP: u64 = u64::MAX - 1;
 
+// The least and the greatest lag limit: they are even.
+pub const MIN_LAG: u64 = 2;
+
+pub const MAX_LAG: u64 = 4294967296;
+
 // ---- regions of the second implementation. Those from FREE on are its user's.
 // Numbers of the call that is next.
 pub const STATE: u64 = 0;
@@ -73,12 +78,14 @@ pub(crate) const VALUES: u64 = 12;
 pub const FREE: u64 = 13;
 
 // ---- the numbers in STATE, in rows. Row 0 and those from FREE_ROW on are the user's.
-// The call, its lane, word or limit, and how many words of TXN it is given.
+// The call, its lane, word or limit of stores, how many words of TXN it is given, and the lag limit that it is given.
 pub const CODE: u64 = 4;
 
 pub const NUMBER: u64 = 5;
 
 pub const USED: u64 = 6;
+
+pub const LAG: u64 = 7;
 
 // W, T and N.
 pub const WORDS: u64 = 8;

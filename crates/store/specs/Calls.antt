@@ -14,8 +14,8 @@ use Rattle.image.specs.Stores.{Store, stored, places}
 use Rattle.image.specs.declared.Sizes.{Sizes}
 use Rattle.log.specs.Log.{slotAt, completeIn, latestIn, hits}
 use Rattle.log.specs.Append.{advance, appendStores, circular, restampStore}
-use Rattle.record.specs.Record.{startRecord, laneAt, cursorOf, isLogged, loggedIn, recordOk, spent, boundOf, withLane, withClock, withLast, drainedLane}
-use Rattle.record.specs.Record.{appendedLane, idleLane, pairsOf}
+use Rattle.record.specs.Record.{startRecord, laneAt, cursorOf, isLogged, loggedIn, lagOk, recordOk, spent, boundOf, lagPassed, withLane, withClock, withLast}
+use Rattle.record.specs.Record.{drainedLane, appendedLane, idleLane, pairsOf}
 use Rattle.record.specs.declared.Pair.{Pair}
 use Rattle.record.specs.declared.Phase.{Phase}
 use Rattle.record.specs.declared.Phase.the-variants.{Idle, Holds}
@@ -42,6 +42,10 @@ notLogged L m = record { number = 7; holds = not (isLogged (laneAt m.state L .ph
 unfoldable pub clockSpent : Machine → Cause
 clockSpent m = record { number = 8; holds = spent m.state }
 
+-- the lag limit that a start is given is out of range
+unfoldable pub badLag : ℕ → Cause
+badLag lag = record { number = 16; holds = not (lagOk lag) }
+
 -- ---- a drain of lane L: its flushed words reach non-volatile memory, its floor moves or ends
 unfoldable pub drained : Sizes → ℕ → Machine → Machine
 drained z L m =
@@ -60,24 +64,29 @@ changed L xs r m = record { state = r; cache = stored xs m.cache; nvm = m.nvm; f
 unfoldable pub wouldHit : Sizes → ℕ → ℕ → Machine → Bool
 wouldHit z L n m = hits z.slots (laneAt m.state L .next) n (boundOf z (drained z L m .state)) (completeIn z m.cache L)
 
+-- would lane L's next timestamp be more than the lag limit above the lower bound, floors as after the lane's drain
+unfoldable pub wouldLag : Sizes → ℕ → Machine → Bool
+wouldLag z L m = lagPassed (m.state .lag) (m.state .clock + 2) (boundOf z (drained z L m .state))
+
 -- ---- Format: image and record at a start; the buffers may hold anything of the right length
 -- the image of these start words: base timestamp and logs 0, and the sizes at its end
 unfoldable pub startImage : Sizes → List ℕ → List ℕ
 startImage z start = 0 ∷ start ++ (replicate (2 * z.lanes * z.slots) 0 ++ trailer z)
 
--- a start: cache equals non-volatile memory, nothing is flushed
-unfoldable pub started : ℕ → List ℕ → Machine
-started base image = record { state = startRecord base; cache = image; nvm = image; flags = replicate (length image) 0 }
+-- a start with this lag limit: cache equals non-volatile memory, nothing is flushed
+unfoldable pub started : (lag base : ℕ) → List ℕ → Machine
+started lag base image = record { state = startRecord lag base; cache = image; nvm = image; flags = replicate (length image) 0 }
 
-unfoldable pub formatRefusal : Sizes → List ℕ → Machine → ℕ
-formatRefusal z start m =
+unfoldable pub formatRefusal : Sizes → (lag : ℕ) → List ℕ → Machine → ℕ
+formatRefusal z lag start m =
     firstCause
     (record { number = 1; holds = not (formatOk z (length m.cache) (length m.nvm) (length m.flags)) }
     ∷ record { number = 1; holds = not (eqb (length start) z.words) }
+    ∷ badLag lag
     ∷ [])
 
-unfoldable pub formatStep : Sizes → List ℕ → Machine → Step
-formatStep z start m = unless (formatRefusal z start m) m (record { answer = Done; machine = started 0 (startImage z start) })
+unfoldable pub formatStep : Sizes → (lag : ℕ) → List ℕ → Machine → Step
+formatStep z lag start m = unless (formatRefusal z lag start m) m (record { answer = Done; machine = started lag 0 (startImage z start) })
 
 -- ---- write-back of image word i, one of the trailer too; it knows no record
 unfoldable pub writeBackRefusal : Sizes → ℕ → Machine → ℕ
@@ -110,6 +119,7 @@ logRefusalBy r z L f m =
     ∷ badTxn r z f
     ∷ record { number = 6; holds = isLogged (laneAt m.state L .phase) }
     ∷ record { number = 8; holds = leb 1 n && spent m.state }
+    ∷ record { number = 15; holds = leb 1 n && wouldLag z L m }
     ∷ record { number = 9; holds = leb 1 n && wouldHit z L (n + 1) m }
     ∷ [])
 

@@ -1,7 +1,7 @@
 -- How a call's parameters and result are a machine and a step of it: what the calls' contracts compare. SPECIFICATION, "Contracts". Assumes nothing.
 use Prim.Native.Nat.{ℕ}
 use mathlib.Core.List.{List}
-use Rattle.record.specs.Record.{startRecord}
+use Rattle.record.specs.Record.{blankRecord}
 use Rattle.record.specs.declared.Record.{Record}
 use Rattle.store.specs.declared.Answer.{Answer}
 use Rattle.store.specs.declared.Outcome.{Outcome}
@@ -12,7 +12,7 @@ machineOf state cache nvm flags = record { state = state; cache = cache; nvm = n
 
 -- the machine of a call that takes no record: a blank one stands for it
 abbrev pub blankOf : (cache nvm flags : List ℕ) → Machine
-blankOf cache nvm flags = machineOf (startRecord 0) cache nvm flags
+blankOf cache nvm flags = machineOf blankRecord cache nvm flags
 
 -- an outcome, with the three buffers as the call leaves them
 abbrev pub stepOf : Outcome → (cache nvm flags : List ℕ) → Step

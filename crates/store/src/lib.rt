@@ -67,8 +67,15 @@ pub fn refused(number: u64, state: Record) -> Outcome
 }
 
 // The number of Format's refusal, or 0.
-pub fn format_refusal(sizes: Sizes, start: &[u64], cache: &[u64], nvm: &[u64], flags: &[u8]) -> u64
-    ensures { λ r. ⌜ r ≡ formatRefusal sizes (now (start .entry))
+pub fn format_refusal(
+    sizes: Sizes,
+    lag: u64,
+    start: &[u64],
+    cache: &[u64],
+    nvm: &[u64],
+    flags: &[u8],
+) -> u64
+    ensures { λ r. ⌜ r ≡ formatRefusal sizes lag (now (start .entry))
         (blankOf (now (cache .entry)) (now (nvm .entry)) (now (flags .entry))) ⌝ }
 {
     if !image::format_ok(sizes, cache.len(), nvm.len(), flags.len()) {
@@ -76,6 +83,9 @@ pub fn format_refusal(sizes: Sizes, start: &[u64], cache: &[u64], nvm: &[u64], f
     }
     if start.len() != sizes.words {
         return 1;
+    }
+    if !record::lag_ok(lag) {
+        return 16;
     }
     0
 }
@@ -132,27 +142,27 @@ fn fill(sizes: Sizes, start: &[u64], cache: &mut [u64], nvm: &mut [u64], flags: 
     image::bulk::clear_flags(flags);
 }
 
-// Starts the store with these words. It takes no record; beside a refusal the record is a blank one.
+// Starts the store with these words and this lag limit. It takes no record; beside a refusal the record is a blank one.
 pub fn format(
     sizes: Sizes,
+    lag: u64,
     start: &[u64],
     cache: &mut [u64],
     nvm: &mut [u64],
     flags: &mut [u8],
 ) -> Outcome
     ensures { λ r. ⌜ stepOf r (now (cache .exit)) (now (nvm .exit)) (now (flags .exit))
-        ≡ formatStep sizes (now (start .entry))
+        ≡ formatStep sizes lag (now (start .entry))
         (blankOf (now (cache .entry)) (now (nvm .entry)) (now (flags .entry))) ⌝ }
 {
-    let blank = record::start_record(0);
-    let number = format_refusal(sizes, start, cache, nvm, flags);
+    let number = format_refusal(sizes, lag, start, cache, nvm, flags);
     if number != 0 {
-        return refused(number, blank);
+        return refused(number, record::blank_record());
     }
     fill(sizes, start, cache, nvm, flags);
     Outcome {
         answer: Answer::Done,
-        state: blank,
+        state: record::start_record(lag, 0),
     }
 }
 

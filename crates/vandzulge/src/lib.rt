@@ -17,12 +17,13 @@ mod answers;
 // How many words an answer has.
 const ANSWER_WORDS: usize = 4;
 
-// Starts the store with these words. The record becomes the start record; its words are not read.
+// Starts the store with these words and this lag limit. The record becomes the start record; its words are not read.
 #[no_mangle]
 pub extern "C" fn vandzulge_format(
     words: usize,
     lanes: usize,
     slots: usize,
+    lag: u64,
     start: &[u64],
     cache: &mut [u64],
     nvm: &mut [u64],
@@ -31,7 +32,7 @@ pub extern "C" fn vandzulge_format(
 ) -> u64
     ensures { λ r. ⌜ leftBy r (now (state .exit)) (now (cache .exit)) (now (nvm .exit)) (now (flags .exit))
         ≡ leaves (recordFits (now (state .entry))) (now (state .entry))
-        (formatStep (sizesOf words lanes slots) (now (start .entry)))
+        (formatStep (sizesOf words lanes slots) lag (now (start .entry)))
         (blankOf (now (cache .entry)) (now (nvm .entry)) (now (flags .entry))) ⌝ }
 {
     if state.len() != RECORD_WORDS {
@@ -42,7 +43,7 @@ pub extern "C" fn vandzulge_format(
         lanes,
         slots,
     };
-    let outcome = store::format(sizes, start, cache, nvm, flags);
+    let outcome = store::format(sizes, lag, start, cache, nvm, flags);
     answers::settle(outcome, state)
 }
 
@@ -267,12 +268,13 @@ pub extern "C" fn vandzulge_mark(
 // Recovers an image of the former length, making at most `limit` stores. The answer: 0s where the limit cut it short,
 // and the record's words are then as before, but there is no record; where it finished, 1 and 0, or 2 and the boundary,
 // then the count of entries undone and that of the slots that were torn in the non-volatile memory that this call
-// found. The record's words are not read.
+// found. The record's words are not read; those that it stores have the lag limit that it is given.
 #[no_mangle]
 pub extern "C" fn vandzulge_recover(
     words: usize,
     lanes: usize,
     slots: usize,
+    lag: u64,
     cache: &mut [u64],
     nvm: &mut [u64],
     flags: &mut [u8],
@@ -282,11 +284,11 @@ pub extern "C" fn vandzulge_recover(
 ) -> u64
     ensures left { λ r. ⌜ leftBy r (now (state .exit)) (now (cache .exit)) (now (nvm .exit)) (now (flags .exit))
         ≡ restarts (bothFit (now (state .entry)) (now (answer .entry))) (now (state .entry))
-        (recoverStep (sizesOf words lanes slots) limit)
+        (recoverStep (sizesOf words lanes slots) lag limit)
         (blankOf (now (cache .entry)) (now (nvm .entry)) (now (flags .entry))) ⌝ }
     ensures answered { λ r. ⌜ now (answer .exit)
         ≡ restartReplies (bothFit (now (state .entry)) (now (answer .entry))) (now (answer .entry))
-        (recoverStep (sizesOf words lanes slots) limit)
+        (recoverStep (sizesOf words lanes slots) lag limit)
         (blankOf (now (cache .entry)) (now (nvm .entry)) (now (flags .entry))) ⌝ }
 {
     if state.len() != RECORD_WORDS {
@@ -300,7 +302,7 @@ pub extern "C" fn vandzulge_recover(
         lanes,
         slots,
     };
-    let result = recovery::recover(sizes, cache, nvm, flags, limit);
+    let result = recovery::recover(sizes, lag, cache, nvm, flags, limit);
     let given = result.answer;
     answers::reply_restart(given, answer);
     answers::restart(result, state)
@@ -309,6 +311,7 @@ pub extern "C" fn vandzulge_recover(
 // Recovers an image whose last four words tell its sizes, and is otherwise as the call before.
 #[no_mangle]
 pub extern "C" fn vandzulge_recover_read(
+    lag: u64,
     cache: &mut [u64],
     nvm: &mut [u64],
     flags: &mut [u8],
@@ -318,11 +321,11 @@ pub extern "C" fn vandzulge_recover_read(
 ) -> u64
     ensures left { λ r. ⌜ leftBy r (now (state .exit)) (now (cache .exit)) (now (nvm .exit)) (now (flags .exit))
         ≡ restarts (bothFit (now (state .entry)) (now (answer .entry))) (now (state .entry))
-        (recoverReadStep limit)
+        (recoverReadStep lag limit)
         (blankOf (now (cache .entry)) (now (nvm .entry)) (now (flags .entry))) ⌝ }
     ensures answered { λ r. ⌜ now (answer .exit)
         ≡ restartReplies (bothFit (now (state .entry)) (now (answer .entry))) (now (answer .entry))
-        (recoverReadStep limit)
+        (recoverReadStep lag limit)
         (blankOf (now (cache .entry)) (now (nvm .entry)) (now (flags .entry))) ⌝ }
 {
     if state.len() != RECORD_WORDS {
@@ -331,7 +334,7 @@ pub extern "C" fn vandzulge_recover_read(
     if answer.len() != ANSWER_WORDS {
         return 1;
     }
-    let result = recovery::recover_read(cache, nvm, flags, limit);
+    let result = recovery::recover_read(lag, cache, nvm, flags, limit);
     let given = result.answer;
     answers::reply_restart(given, answer);
     answers::restart(result, state)

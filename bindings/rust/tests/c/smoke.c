@@ -1,4 +1,4 @@
-/* Every call from C, with the header: the two-lane scenario of the specification, a mark, a drain, an image of the former length taken over, and a few refusals.
+/* Every call from C, with the header: the two-lane scenario of the specification, a mark, a drain, the lag limit, an image of the former length taken over, and a few refusals.
  * Prints the line that failed, or `ok`. */
 #include "vandzulge.h"
 
@@ -25,6 +25,7 @@ static uint64_t cache[LENGTH], nvm[LENGTH], record[VANDZULGE_RECORD_WORDS], answ
 static uint8_t flags[LENGTH];
 
 #define SIZES WORDS, LANES, SLOTS
+#define LAG VANDZULGE_LAG_MAX
 #define BUFFERS cache, LENGTH, nvm, LENGTH, flags, LENGTH
 #define FORMER_BUFFERS cache, FORMER, nvm, FORMER, flags, FORMER
 #define RECORD record, VANDZULGE_RECORD_WORDS
@@ -63,8 +64,10 @@ int main(void)
     uint64_t data[WORDS];
     size_t i;
 
-    EXPECT(vandzulge_format(WORDS, LANES, 33, start, WORDS, BUFFERS, RECORD) == 1);
-    EXPECT(vandzulge_format(SIZES, start, WORDS, BUFFERS, RECORD) == 0);
+    EXPECT(vandzulge_format(WORDS, LANES, 33, LAG, start, WORDS, BUFFERS, RECORD) == 1);
+    EXPECT(vandzulge_format(SIZES, LAG + 2, start, WORDS, BUFFERS, RECORD) == 16);
+    EXPECT(vandzulge_format(SIZES, LAG, start, WORDS, BUFFERS, RECORD) == 0);
+    EXPECT(record[VANDZULGE_RECORD_WORDS - 1] == LAG);
     EXPECT(vandzulge_log(SIZES, BUFFERS, RECORD, ANSWER, 0, pass, 8) == 0 && answers(0, 0, 0, 0));
     EXPECT(vandzulge_log(SIZES, BUFFERS, RECORD, ANSWER, 0, poke, 8) == 5 && answers(0, 0, 0, 0));
     EXPECT(vandzulge_log(SIZES, BUFFERS, RECORD, ANSWER, 1, copy, 4) == 0 && answers(1, 2, 0, 0));
@@ -82,16 +85,16 @@ int main(void)
     EXPECT(vandzulge_write_back(SIZES, BUFFERS, LENGTH) == 4);
 
     lose();
-    EXPECT(vandzulge_recover(SIZES, BUFFERS, RECORD, ANSWER, VANDZULGE_NO_LIMIT) == 1);
-    EXPECT(vandzulge_recover_read(cache, FORMER, nvm, LENGTH, flags, LENGTH, RECORD, ANSWER, VANDZULGE_NO_LIMIT) == 1);
-    EXPECT(vandzulge_recover_read(BUFFERS, RECORD, ANSWER, 2) == 0 && answers(0, 0, 0, 0));
-    EXPECT(vandzulge_recover_read(BUFFERS, RECORD, ANSWER, VANDZULGE_NO_LIMIT) == 0 && answers(2, 6, 3, 0));
+    EXPECT(vandzulge_recover(SIZES, LAG, BUFFERS, RECORD, ANSWER, VANDZULGE_NO_LIMIT) == 1);
+    EXPECT(vandzulge_recover_read(LAG, cache, FORMER, nvm, LENGTH, flags, LENGTH, RECORD, ANSWER, VANDZULGE_NO_LIMIT) == 1);
+    EXPECT(vandzulge_recover_read(LAG, BUFFERS, RECORD, ANSWER, 2) == 0 && answers(0, 0, 0, 0));
+    EXPECT(vandzulge_recover_read(LAG, BUFFERS, RECORD, ANSWER, VANDZULGE_NO_LIMIT) == 0 && answers(2, 6, 3, 0));
     EXPECT(nvm[0] == 10 && nvm[1] == 0 && nvm[2] == 0 && memcmp(cache, nvm, sizeof cache) == 0);
     EXPECT(ends_with_trailer(nvm));
     EXPECT(record[0] == 10 && record[1] == 10);
-    EXPECT(vandzulge_recover_read(BUFFERS, RECORD, ANSWER, VANDZULGE_NO_LIMIT) == 0 && answers(1, 0, 0, 0));
+    EXPECT(vandzulge_recover_read(LAG, BUFFERS, RECORD, ANSWER, VANDZULGE_NO_LIMIT) == 0 && answers(1, 0, 0, 0));
     nvm[3] = 9; /* of an entry's two words one has reached the memory */
-    EXPECT(vandzulge_recover_read(BUFFERS, RECORD, ANSWER, VANDZULGE_NO_LIMIT) == 0 && answers(1, 0, 0, 1));
+    EXPECT(vandzulge_recover_read(LAG, BUFFERS, RECORD, ANSWER, VANDZULGE_NO_LIMIT) == 0 && answers(1, 0, 0, 1));
 
     EXPECT(vandzulge_mark(SIZES, BUFFERS, RECORD, ANSWER, 0) == 0 && answers(0, 12, 0, 0));
     EXPECT(vandzulge_log(SIZES, BUFFERS, RECORD, ANSWER, 0, set, 4) == 0 && answers(1, 14, 0, 0));
@@ -104,8 +107,8 @@ int main(void)
 
     /* the same without its trailer is an image of the former length: recovered with its sizes given, used, recovered again, and moved to the new form */
     lose();
-    EXPECT(vandzulge_recover_read(FORMER_BUFFERS, RECORD, ANSWER, VANDZULGE_NO_LIMIT) == 14);
-    EXPECT(vandzulge_recover(SIZES, FORMER_BUFFERS, RECORD, ANSWER, VANDZULGE_NO_LIMIT) == 0 && answers(2, 14, 1, 0));
+    EXPECT(vandzulge_recover_read(LAG, FORMER_BUFFERS, RECORD, ANSWER, VANDZULGE_NO_LIMIT) == 14);
+    EXPECT(vandzulge_recover(SIZES, LAG, FORMER_BUFFERS, RECORD, ANSWER, VANDZULGE_NO_LIMIT) == 0 && answers(2, 14, 1, 0));
     EXPECT(vandzulge_log(SIZES, FORMER_BUFFERS, RECORD, ANSWER, 0, set, 4) == 0 && answers(1, 16, 0, 0));
     EXPECT(vandzulge_redo(SIZES, FORMER_BUFFERS, RECORD, ANSWER, 0) == 0 && answers(1, 18, 0, 0));
     EXPECT(vandzulge_mark(SIZES, FORMER_BUFFERS, RECORD, ANSWER, 0) == 0 && answers(0, 20, 0, 0));
@@ -113,24 +116,35 @@ int main(void)
     EXPECT(vandzulge_drain(SIZES, FORMER_BUFFERS, RECORD, 0) == 0);
     EXPECT(record[8] == 0 && record[9] == 0);
     EXPECT(vandzulge_write_back(SIZES, FORMER_BUFFERS, FORMER) == 4);
-    EXPECT(vandzulge_format(SIZES, start, WORDS, FORMER_BUFFERS, RECORD) == 1);
+    EXPECT(vandzulge_format(SIZES, LAG, start, WORDS, FORMER_BUFFERS, RECORD) == 1);
     lose();
-    EXPECT(vandzulge_recover(SIZES, FORMER_BUFFERS, RECORD, ANSWER, VANDZULGE_NO_LIMIT) == 0 && answers(1, 0, 0, 0));
+    EXPECT(vandzulge_recover(SIZES, LAG, FORMER_BUFFERS, RECORD, ANSWER, VANDZULGE_NO_LIMIT) == 0 && answers(1, 0, 0, 0));
     data[0] = nvm[1];
     data[1] = nvm[2];
     EXPECT(data[0] == 2 && data[1] == 0);
     lose();
     memset(nvm, 0x55, sizeof nvm);
-    EXPECT(vandzulge_format(SIZES, data, WORDS, BUFFERS, RECORD) == 0);
+    EXPECT(vandzulge_format(SIZES, LAG, data, WORDS, BUFFERS, RECORD) == 0);
     EXPECT(ends_with_trailer(cache) && ends_with_trailer(nvm));
-    EXPECT(vandzulge_recover_read(BUFFERS, RECORD, ANSWER, VANDZULGE_NO_LIMIT) == 0 && answers(1, 0, 0, 0));
+    EXPECT(vandzulge_recover_read(LAG, BUFFERS, RECORD, ANSWER, VANDZULGE_NO_LIMIT) == 0 && answers(1, 0, 0, 0));
     EXPECT(nvm[1] == 2 && nvm[2] == 0);
 
+    /* with the lag limit 2, lane 1 holds a transaction at 2 and lane 0 is marked: the next Log, at 6, is refused until lane 1 is marked and drained */
+    EXPECT(vandzulge_recover_read(VANDZULGE_LAG_MIN - 1, BUFFERS, RECORD, ANSWER, VANDZULGE_NO_LIMIT) == 16);
+    EXPECT(vandzulge_recover_read(VANDZULGE_LAG_MIN, BUFFERS, RECORD, ANSWER, VANDZULGE_NO_LIMIT) == 0 && answers(1, 0, 0, 0));
+    EXPECT(vandzulge_log(SIZES, BUFFERS, RECORD, ANSWER, 1, copy, 4) == 0 && answers(1, 2, 0, 0));
+    EXPECT(vandzulge_mark(SIZES, BUFFERS, RECORD, ANSWER, 0) == 0 && answers(0, 4, 0, 0));
+    EXPECT(vandzulge_log(SIZES, BUFFERS, RECORD, ANSWER, 0, set, 4) == 15 && answers(0, 4, 0, 0));
+    EXPECT(vandzulge_mark(SIZES, BUFFERS, RECORD, ANSWER, 1) == 0 && answers(1, 6, 0, 0));
+    EXPECT(vandzulge_drain(SIZES, BUFFERS, RECORD, 1) == 0);
+    EXPECT(vandzulge_log(SIZES, BUFFERS, RECORD, ANSWER, 0, set, 4) == 0 && answers(1, 8, 0, 0));
+
     nvm[0] = 3;
-    EXPECT(vandzulge_recover(SIZES, FORMER_BUFFERS, RECORD, ANSWER, VANDZULGE_NO_LIMIT) == 10);
-    EXPECT(vandzulge_recover_read(BUFFERS, RECORD, ANSWER, VANDZULGE_NO_LIMIT) == 10);
+    EXPECT(vandzulge_recover(SIZES, 0, FORMER_BUFFERS, RECORD, ANSWER, VANDZULGE_NO_LIMIT) == 16);
+    EXPECT(vandzulge_recover(SIZES, LAG, FORMER_BUFFERS, RECORD, ANSWER, VANDZULGE_NO_LIMIT) == 10);
+    EXPECT(vandzulge_recover_read(LAG, BUFFERS, RECORD, ANSWER, VANDZULGE_NO_LIMIT) == 10);
     nvm[LENGTH - 1]++;
-    EXPECT(vandzulge_recover_read(BUFFERS, RECORD, ANSWER, VANDZULGE_NO_LIMIT) == 14);
+    EXPECT(vandzulge_recover_read(LAG, BUFFERS, RECORD, ANSWER, VANDZULGE_NO_LIMIT) == 14);
     puts("ok");
     return 0;
 }

@@ -7,24 +7,25 @@ pub mod stores;
 pub mod trailers;
 
 use std::mem::take;
-use vandzulge::{plain, raw, ANSWER_WORDS, RECORD_WORDS};
+use vandzulge::{plain, raw, ANSWER_WORDS, GREATEST_LAG, RECORD_WORDS};
 
 type Step = fn(usize, usize, usize, &mut [u64], &mut [u64], &mut [u8], &mut [u64], &mut [u64], usize) -> u64;
 type TxnStep = fn(usize, usize, usize, &mut [u64], &mut [u64], &mut [u8], &mut [u64], &mut [u64], usize, &[u64]) -> u64;
-type UnsizedStep = fn(&mut [u64], &mut [u64], &mut [u8], &mut [u64], &mut [u64], usize) -> u64;
+type Recovery = fn(usize, usize, usize, u64, &mut [u64], &mut [u64], &mut [u8], &mut [u64], &mut [u64], usize) -> u64;
+type UnsizedRecovery = fn(u64, &mut [u64], &mut [u64], &mut [u8], &mut [u64], &mut [u64], usize) -> u64;
 
 /// One implementation of the nine calls.
 pub struct Calls {
     pub name: &'static str,
-    pub format: fn(usize, usize, usize, &[u64], &mut [u64], &mut [u64], &mut [u8], &mut [u64]) -> u64,
+    pub format: fn(usize, usize, usize, u64, &[u64], &mut [u64], &mut [u64], &mut [u8], &mut [u64]) -> u64,
     pub write_back: fn(usize, usize, usize, &[u64], &mut [u64], &[u8], usize) -> u64,
     pub drain: fn(usize, usize, usize, &[u64], &mut [u64], &mut [u8], &mut [u64], usize) -> u64,
     pub log: TxnStep,
     pub redo: Step,
     pub validate: TxnStep,
     pub mark: Step,
-    pub recover: Step,
-    pub recover_read: UnsizedStep,
+    pub recover: Recovery,
+    pub recover_read: UnsizedRecovery,
 }
 
 pub const PLAIN: Calls = Calls {
@@ -73,6 +74,8 @@ pub struct World {
     pub words: usize,
     pub lanes: usize,
     pub slots: usize,
+    /// the lag limit that Format and the recoveries are given
+    pub max_lag: u64,
     pub cache: Vec<u64>,
     pub nvm: Vec<u64>,
     pub flags: Vec<u8>,
@@ -81,7 +84,7 @@ pub struct World {
 }
 
 impl World {
-    /// Buffers of the image's length, all 0, where a trailer would stand too.
+    /// Buffers of the image's length, all 0, where a trailer would stand too; the greatest lag limit.
     pub fn new(words: usize, lanes: usize, slots: usize) -> World {
         World::of_length(words, lanes, slots, 1 + words + 2 * lanes * slots + 4)
     }
@@ -96,6 +99,7 @@ impl World {
             words,
             lanes,
             slots,
+            max_lag: GREATEST_LAG,
             cache: vec![0; length],
             nvm: vec![0; length],
             flags: vec![0; length],
@@ -127,18 +131,18 @@ impl World {
 
     /// The same on a cache and a non-volatile memory that stand elsewhere.
     pub fn call_on(&mut self, calls: &Calls, call: &Call, cache: &mut [u64], nvm: &mut [u64]) -> u64 {
-        let World { words, lanes, slots, flags, record, answer, .. } = self;
-        let (w, t, n) = (*words, *lanes, *slots);
+        let World { words, lanes, slots, max_lag, flags, record, answer, .. } = self;
+        let (w, t, n, lag) = (*words, *lanes, *slots, *max_lag);
         match call {
-            Call::Format(start) => (calls.format)(w, t, n, start, cache, nvm, flags, record),
+            Call::Format(start) => (calls.format)(w, t, n, lag, start, cache, nvm, flags, record),
             Call::WriteBack(word) => (calls.write_back)(w, t, n, cache, nvm, flags, *word),
             Call::Drain(lane) => (calls.drain)(w, t, n, cache, nvm, flags, record, *lane),
             Call::Log(lane, txn) => (calls.log)(w, t, n, cache, nvm, flags, record, answer, *lane, txn),
             Call::Redo(lane) => (calls.redo)(w, t, n, cache, nvm, flags, record, answer, *lane),
             Call::Validate(lane, txn) => (calls.validate)(w, t, n, cache, nvm, flags, record, answer, *lane, txn),
             Call::Mark(lane) => (calls.mark)(w, t, n, cache, nvm, flags, record, answer, *lane),
-            Call::Recover(limit) => (calls.recover)(w, t, n, cache, nvm, flags, record, answer, *limit),
-            Call::RecoverRead(limit) => (calls.recover_read)(cache, nvm, flags, record, answer, *limit),
+            Call::Recover(limit) => (calls.recover)(w, t, n, lag, cache, nvm, flags, record, answer, *limit),
+            Call::RecoverRead(limit) => (calls.recover_read)(lag, cache, nvm, flags, record, answer, *limit),
         }
     }
 }

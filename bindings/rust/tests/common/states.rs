@@ -2,7 +2,27 @@
 
 use super::{trailers, Call, Random, World};
 use std::collections::BTreeMap;
-use vandzulge::{images, Sizes};
+use vandzulge::{images, Sizes, GREATEST_LAG, RECORD_WORDS};
+
+/// Lag limits out of range.
+pub const BAD_LAGS: [u64; 10] = [0, 1, 3, 41, GREATEST_LAG - 1, GREATEST_LAG + 1, GREATEST_LAG + 2, 1 << 63, u64::MAX - 1, u64::MAX];
+
+/// The record's word that has the lag limit, its last.
+pub const LAG_WORD: usize = RECORD_WORDS - 1;
+
+/// A small lag limit, which Log meets often.
+pub fn small_lag(random: &mut Random) -> u64 {
+    2 + 2 * random.below(20)
+}
+
+/// A lag limit in range.
+fn good_lag(random: &mut Random) -> u64 {
+    match random.below(4) {
+        0 => small_lag(random),
+        1 => 2 + 2 * random.below(GREATEST_LAG / 2),
+        _ => GREATEST_LAG,
+    }
+}
 
 fn sizes(random: &mut Random) -> Sizes {
     let words = random.pick(&[1, 2, 3, 5, 16, 17, 100, 256, 1023, 1024]);
@@ -83,7 +103,7 @@ fn damage(random: &mut Random, world: &mut World) {
     let clock = world.record.first().copied().unwrap_or(0);
     let length = world.cache.len().min(world.nvm.len()).min(world.flags.len());
     let logs = 1 + world.words;
-    match random.below(10) {
+    match random.below(11) {
         0 => {
             let at = random.index(length);
             world.cache[at] = odd_word(random, clock);
@@ -127,6 +147,7 @@ fn damage(random: &mut Random, world: &mut World) {
             // a clock near its end
             world.record[0] = u64::MAX - 1 - 2 * random.below(4);
         }
+        9 => world.record[LAG_WORD] = if random.one_in(3) { random.pick(&BAD_LAGS) } else { good_lag(random) },
         _ => {
             let words = last_words(random, world);
             let image = if random.one_in(4) { &mut world.cache } else { &mut world.nvm };
@@ -198,7 +219,7 @@ fn misfit(random: &mut Random, world: &mut World) {
         0 => world.cache.push(0),
         1 => world.nvm.truncate(length - 1),
         2 => world.flags.clear(),
-        3 => world.record.resize(random.pick(&[0, 1, 2, 321, 323, 400]), 0),
+        3 => world.record.resize(random.pick(&[0, 1, 2, 321, 322, 324, 400]), 0),
         4 => world.answer.resize(random.pick(&[0, 1, 3, 5]), 7),
         5 => world.words = random.pick(&[0, 1025, usize::MAX, usize::MAX / 8]),
         6 => world.lanes = random.pick(&[0, 9, usize::MAX, usize::MAX / 68]),
@@ -221,11 +242,12 @@ fn misfit(random: &mut Random, world: &mut World) {
     }
 }
 
-/// A store's life from Format on: calls that mostly suit it, where `damaged` on states that no call made. Each call is handed to `make`, which makes it and may look at it.
+/// A store's life from Format on: calls that mostly suit it, where `damaged` on states that no call made. Each start is given a lag limit of its own, now and then one out of range.
+/// Each call is handed to `make`, which makes it and may look at it.
 fn walk(seed: u64, steps: u64, damaged: bool, former: bool, make: &mut impl FnMut(&mut World, &Call, &str)) {
     let random = &mut Random::new(seed);
     let Sizes { words, lanes, slots } = sizes(random);
-    let mut world = World::new(words, lanes, slots);
+    let mut world = World { max_lag: good_lag(random), ..World::new(words, lanes, slots) };
     let start = (0..words).map(|_| if random.one_in(2) { random.below(5) } else { random.word() }).collect();
     make(&mut world, &Call::Format(start), "format");
     if former {
@@ -239,6 +261,7 @@ fn walk(seed: u64, steps: u64, damaged: bool, former: bool, make: &mut impl FnMu
             damage(random, &mut world);
         }
         let call = call(random, &world, &held);
+        world.max_lag = if random.one_in(6) { random.pick(&BAD_LAGS) } else { good_lag(random) };
         if random.one_in(50) {
             let mut other = world.clone();
             misfit(random, &mut other);
@@ -254,7 +277,7 @@ fn walk(seed: u64, steps: u64, damaged: bool, former: bool, make: &mut impl FnMu
 }
 
 /// All outcomes that a call can have on images of either length.
-const EITHER: [&str; 33] = [
+const EITHER: [&str; 34] = [
     "write-back",
     "write-back refused 4",
     "drain",
@@ -267,6 +290,7 @@ const EITHER: [&str; 33] = [
     "log refused 5",
     "log refused 6",
     "log refused 8",
+    "log refused 15",
     "log refused 9",
     "redo",
     "redo stale",
@@ -291,15 +315,18 @@ const EITHER: [&str; 33] = [
 ];
 
 /// Those on images of the new length alone, on such of the former length, and those of slices that do not fit.
-const ONE_LENGTH: [&str; 18] = [
+const ONE_LENGTH: [&str; 21] = [
     "format",
+    "format refused 16",
     "recover-read",
     "recover-read none",
     "recover-read cut",
+    "recover-read refused 16",
     "recover-read refused 10",
     "recover, former length",
     "recover none, former length",
     "recover cut, former length",
+    "recover refused 16, former length",
     "recover refused 10, former length",
     "format refused 1",
     "write-back refused 1",
@@ -313,8 +340,13 @@ const ONE_LENGTH: [&str; 18] = [
 ];
 
 /// An image of the former length whose last words look like a trailer.
-const MISTAKEN: [&str; 4] =
-    ["recover-read, former length", "recover-read none, former length", "recover-read cut, former length", "recover-read refused 10, former length"];
+const MISTAKEN: [&str; 5] = [
+    "recover-read, former length",
+    "recover-read none, former length",
+    "recover-read cut, former length",
+    "recover-read refused 16, former length",
+    "recover-read refused 10, former length",
+];
 
 fn outcome(world: &World, call: &Call, number: u64) -> String {
     let name = match call {

@@ -29,7 +29,7 @@ use Rattle.log.specs.inner.AppendEntries.{WordsBelow, LogAt}
 use Rattle.log.specs.declared.Cursor.{Cursor}
 use Rattle.log.specs.declared.Latest.{Latest}
 use Rattle.log.specs.declared.Timestamp.{Timestamp}
-use Rattle.record.specs.Record.{laneAt, isLogged, spent, boundOf, cursorOf, pairsOf, withLane, withClock, drainedLane, appendedLane}
+use Rattle.record.specs.Record.{laneAt, isLogged, spent, boundOf, lagPassed, cursorOf, pairsOf, withLane, withClock, drainedLane, appendedLane}
 use Rattle.record.specs.inner.RecordLaws.{record-in, LaneIn, lane-in, clock-room, clock-lane, lane-twice}
 use Rattle.record.specs.declared.Lane.{Lane}
 use Rattle.record.specs.declared.Pair.{Pair}
@@ -38,7 +38,7 @@ use Rattle.record.specs.declared.Phase.the-variants.{Idle, Holds}
 use Rattle.record.specs.declared.Record.{Record}
 use Rattle.store.specs.declared.Answer.the-variants.{NoWrites, Logged, Marked}
 use Rattle.store.specs.Machine.{Machine, Step, Cause, firstCause}
-use Rattle.store.specs.Calls.{badBuffers, badRecord, badLane, badTxn, clockSpent, drainRefusal, drained, changed, wouldHit, writesOn, appended}
+use Rattle.store.specs.Calls.{badBuffers, badRecord, badLane, badTxn, clockSpent, drainRefusal, drained, changed, wouldLag, wouldHit, writesOn, appended}
 use Rattle.store.specs.Calls.{logRefusalBy, logRefusal, logged, logStepBy, logStep, markRefusal, markStep}
 use Rattle.store.specs.Interface.{machineOf}
 use Rattle.store.specs.inner.Checked.{Checked, drainedState}
@@ -48,7 +48,7 @@ use Rattle.store.specs.inner.CachedWritesLaws.{count-of, full-list, writes-of}
 use Rattle.append.specs.declared.Plan.{Plan}
 use Rattle.append.specs.inner.Plans.{roomRefusal, logChecks, Planned, Searchable, Appendable, AfterDrain, loggedStep}
 
--- ---- refusals 8 and 9
+-- ---- refusals 8, 15 and 9
 -- the record that the code drains, by the latest sequence that it has found
 drained-is : (z : Sizes) (r d : Record) (q : Latest) (cache : List ℕ) (L : ℕ) → q ≡ latestIn z cache L → d ≡ withLane r L (drainedLane q (laneAt r L))
     → d ≡ drainedState z cache L r
@@ -60,34 +60,49 @@ pub next-kept : (z : Sizes) (r d : Record) (q : Latest) (cache : List ℕ) (L : 
     → laneAt r L .next < z .slots → laneAt d L .next < z .slots
 next-kept z r d q cache L f e h = rw (drained-is z r d q cache L f e, drained-keeps z cache L r .next) h
 
-module _ (z : Sizes) (r : Record) (cache : List ℕ) (L n : ℕ) where
-  pub room-spent : spent r ≡ true → 8 ≡ roomRefusal z r cache L n
+module _ (z : Sizes) (r : Record) (cache : List ℕ) (L n : ℕ) (binds : Bool) where
+  pub room-spent : spent r ≡ true → 8 ≡ roomRefusal z r cache L n binds
   unfolding roomRefusal
   room-spent e = sym (first-holds _ _ e)
 
-  module _ (d : Record) (q : Latest) (f : q ≡ latestIn z cache L) (e : d ≡ withLane r L (drainedLane q (laneAt r L))) where
+  module _ (d : Record) (q : Latest) (f : q ≡ latestIn z cache L) (e : d ≡ withLane r L (drainedLane q (laneAt r L)))
+      (bound : Timestamp) (b : bound ≡ boundOf z d) (s : spent r ≡ false) where
+    -- the lag is looked at by the lower bound of the drained record
+    lag-in : (binds && lagPassed (r .lag) (r .clock + 2) (boundOf z (drainedState z cache L r))) ≡ (binds && lagPassed (r .lag) (r .clock + 2) bound)
+    lag-in = rw (b, drained-is z r d q cache L f e)
+
+    pub room-lag : (binds && lagPassed (r .lag) (r .clock + 2) bound) ≡ true → 15 ≡ roomRefusal z r cache L n binds
+    unfolding roomRefusal
+    room-lag h = sym (first-fails _ _ s ∙ first-holds _ _ (lag-in ∙ h))
+
     -- a hit is looked for in the part of the image that is the lane's log
-    module _ (log : List ℕ) (bound : Timestamp) (hit : Bool) (p : log ≡ logOf z L cache) (b : bound ≡ boundOf z d)
+    module _ (log : List ℕ) (hit : Bool) (p : log ≡ logOf z L cache)
         (g : hit ≡ hits (z .slots) (laneAt d L .next) n bound (completeBelow (z .words) (z .slots) (baseOf cache) log 0 (z .slots)))
-        (s : spent r ≡ false) where
+        (k : (binds && lagPassed (r .lag) (r .clock + 2) bound) ≡ false) where
       hit-in : hits (z .slots) (laneAt r L .next) n (boundOf z (drainedState z cache L r)) (completeIn z cache L) ≡ hit
       hit-in =
           rw (g, b, p, drained-is z r d q cache L f e, drained-keeps z cache L r .next)
           (hits-in z cache L (laneAt r L .next) n (boundOf z (drainedState z cache L r)))
 
-      pub room-hit : hit ≡ true → 9 ≡ roomRefusal z r cache L n
+      pub room-hit : hit ≡ true → 9 ≡ roomRefusal z r cache L n binds
       unfolding roomRefusal
-      room-hit h = sym (first-fails _ _ s ∙ first-holds _ _ (hit-in ∙ h))
+      room-hit h = sym (first-fails _ _ s ∙ first-fails _ _ (lag-in ∙ k) ∙ first-holds _ _ (hit-in ∙ h))
 
-      pub room-free : hit ≡ false → 0 ≡ roomRefusal z r cache L n
+      pub room-free : hit ≡ false → 0 ≡ roomRefusal z r cache L n binds
       unfolding roomRefusal
-      room-free h = sym (first-fails _ _ s ∙ first-fails _ _ (hit-in ∙ h) ∙ first-end)
+      room-free h = sym (first-fails _ _ s ∙ first-fails _ _ (lag-in ∙ k) ∙ first-fails _ _ (hit-in ∙ h) ∙ first-end)
 
--- as the calls' refusals have them
-room-left : (z : Sizes) (L n : ℕ) (m : Machine)
-    → roomRefusal z (m .state) (m .cache) L n ≡ firstCause (clockSpent m ∷ record { number = 9; holds = wouldHit z L n m } ∷ [])
-unfolding roomRefusal clockSpent wouldHit
-room-left z L n m = rw (drained-state z L m)
+-- as the calls' refusals have them: bound by the lag limit
+room-bound : (z : Sizes) (L n : ℕ) (m : Machine) → roomRefusal z (m .state) (m .cache) L n true
+    ≡ firstCause (clockSpent m ∷ record { number = 15; holds = wouldLag z L m } ∷ record { number = 9; holds = wouldHit z L n m } ∷ [])
+unfolding roomRefusal clockSpent wouldLag wouldHit
+room-bound z L n m = rw (drained-state z L m)
+
+-- and not
+room-unbound : (z : Sizes) (L n : ℕ) (m : Machine)
+    → roomRefusal z (m .state) (m .cache) L n false ≡ firstCause (clockSpent m ∷ record { number = 9; holds = wouldHit z L n m } ∷ [])
+unfolding roomRefusal firstCause clockSpent wouldHit
+room-unbound z L n m = rw (drained-state z L m)
 
 -- ---- Log's refusals before it runs the transaction
 module _ (z : Sizes) (L : ℕ) (f : List ℕ) (m : Machine) where
@@ -153,6 +168,7 @@ module _ (z : Sizes) (L : ℕ) (f : List ℕ) (m : Machine) where
   log-left : Unrefused → logRefusal z L f m
       ≡ firstCause
       (record { number = 8; holds = leb 1 (length (writesOn z f m)) && spent (m .state) }
+      ∷ record { number = 15; holds = leb 1 (length (writesOn z f m)) && wouldLag z L m }
       ∷ record { number = 9; holds = leb 1 (length (writesOn z f m)) && wouldHit z L (length (writesOn z f m) + 1) m }
       ∷ [])
   unfolding logRefusalBy
@@ -163,15 +179,16 @@ module _ (z : Sizes) (L : ℕ) (f : List ℕ) (m : Machine) where
     pub log-nothing : w .count ≡ 0 → 0 ≡ logRefusal z L f m
     log-nothing e =
         let n : length (writesOn z f m) ≡ 0 = sym (count-of w _ v) ∙ e in
-        sym (log-left u ∙ first-fails _ _ (rw n) ∙ first-fails _ _ (rw n) ∙ first-end)
+        sym (log-left u ∙ first-fails _ _ (rw n) ∙ first-fails _ _ (rw n) ∙ first-fails _ _ (rw n) ∙ first-end)
 
     -- where it writes, those of an append
-    pub log-room : (number : ℕ) → number ≡ roomRefusal z (m .state) (m .cache) L (w .count + 1) → (w .count ≡ 0 → ⊥) → number ≡ logRefusal z L f m
+    pub log-room : (number : ℕ) → number ≡ roomRefusal z (m .state) (m .cache) L (w .count + 1) true → (w .count ≡ 0 → ⊥)
+        → number ≡ logRefusal z L f m
     unfolding clockSpent
     log-room number r h =
         let n = count-of w _ v in
         let b : leb 1 (length (writesOn z f m)) ≡ true = le-leb 1 (length (writesOn z f m)) (some _ (λ d. h (n ∙ d))) in
-        r ∙ rw n (room-left z L (length (writesOn z f m) + 1) m ∙ sym (log-left u ∙ rw b))
+        r ∙ rw n (room-bound z L (length (writesOn z f m) + 1) m ∙ sym (log-left u ∙ rw b))
 
   log-unspent : logRefusal z L f m ≡ 0 → (length (writesOn z f m) ≡ 0 → ⊥) → spent (m .state) ≡ false
   log-unspent e h =
@@ -184,9 +201,9 @@ module _ (z : Sizes) (L : ℕ) (m : Machine) where
   unfolding markRefusal
   mark-refused number e h = e ∙ sym (at-lane z L m _ (λ d. h (e ∙ d)))
 
-  pub mark-room : (number : ℕ) → drainRefusal z L m ≡ 0 → number ≡ roomRefusal z (m .state) (m .cache) L 1 → number ≡ markRefusal z L m
+  pub mark-room : (number : ℕ) → drainRefusal z L m ≡ 0 → number ≡ roomRefusal z (m .state) (m .cache) L 1 false → number ≡ markRefusal z L m
   unfolding markRefusal
-  mark-room number h r = r ∙ room-left z L 1 m ∙ sym (after-lane z L m _ h)
+  mark-room number h r = r ∙ room-unbound z L 1 m ∙ sym (after-lane z L m _ h)
 
   mark-lane : markRefusal z L m ≡ 0 → drainRefusal z L m ≡ 0
   unfolding markRefusal

@@ -1,8 +1,9 @@
--- Inner: how the code goes, need not be believed. What Log and Mark find out before they act: refusals 8 and 9, Log's other refusals, a plan. Assumes
--- nothing.
+-- Inner: how the code goes, need not be believed. What Log and Mark find out before they act: refusals 8, 15 and 9, Log's other refusals, a plan.
+-- Assumes nothing.
 use Prim.Native.Nat.{ℕ, _+_, _^_, _≤_, _<_}
 use mathlib.Core.Path.{_≡_}
 use mathlib.Core.List.{List, [], _∷_}
+use mathlib.Core.Bool.{Bool, _&&_}
 use lib.ListN.{length}
 use Rattle.txn.specs.Txn.{maxWrites, current}
 use Rattle.txn.specs.inner.Writes.{writesOf}
@@ -13,7 +14,7 @@ use Rattle.image.specs.declared.Sizes.{Sizes}
 use Rattle.log.specs.Log.{latestIn, completeIn, hits}
 use Rattle.log.specs.inner.AppendEntries.{Loggable, Within}
 use Rattle.log.specs.declared.Latest.{Latest}
-use Rattle.record.specs.Record.{laneAt, isLogged, spent, boundOf, cursorOf, drainedLane}
+use Rattle.record.specs.Record.{laneAt, isLogged, spent, boundOf, lagPassed, cursorOf, drainedLane}
 use Rattle.record.specs.declared.Lane.{Lane}
 use Rattle.record.specs.declared.Record.{Record}
 use Rattle.store.specs.declared.Answer.the-variants.{Logged}
@@ -22,11 +23,12 @@ use Rattle.store.specs.Calls.{badBuffers, badRecord, badLane, badTxn, logged}
 use Rattle.store.specs.inner.Checked.{drainedState}
 use Rattle.append.specs.declared.Plan.{Plan}
 
--- refusals 8 and 9 of a call on record r that appends n slots to lane L, floors as after the lane's drain
-unfoldable pub roomRefusal : Sizes → Record → (cache : List ℕ) → (L n : ℕ) → ℕ
-roomRefusal z r cache L n =
+-- refusals 8, 15 and 9 of a call on record r that appends n slots to lane L, floors as after the lane's drain; the lag limit binds it or not
+unfoldable pub roomRefusal : Sizes → Record → (cache : List ℕ) → (L n : ℕ) → (binds : Bool) → ℕ
+roomRefusal z r cache L n binds =
     firstCause
     (record { number = 8; holds = spent r }
+    ∷ record { number = 15; holds = binds && lagPassed (r .lag) (r .clock + 2) (boundOf z (drainedState z cache L r)) }
     ∷ record { number = 9; holds = hits z.slots (laneAt r L .next) n (boundOf z (drainedState z cache L r)) (completeIn z cache L) }
     ∷ [])
 

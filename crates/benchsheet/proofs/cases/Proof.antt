@@ -28,6 +28,9 @@ case-requires c κs = search needs
 mark-requires : tie.Need-mark-requires Inv-loop μ-loop
 mark-requires c κs = search needs
 
+lagging-requires : tie.Need-lagging-requires Inv-loop μ-loop
+lagging-requires c κs = search needs
+
 add-i : tie.Need-add-i Inv-loop μ-loop
 add-i c = search needs
 
@@ -44,4 +47,4 @@ pub cases-spec : {M : Type 1} → statement M
 cases-spec =
     tie.close
     (tie.spec Inv-loop μ-loop clear-requires loop-holds edge-requires trailer-requires case-requires mark-requires
-    add-i loop-less loop-again returns)
+    lagging-requires add-i loop-less loop-again returns)

@@ -1,7 +1,7 @@
 -- `record_from` is `recordOf`: the loop has the lanes below `l`, each from its own words. Assumes nothing.
 use mathlib.Core.Path.{_≡_, refl, ap}
 use mathlib.Core.List.{List}
-use Prim.Native.Nat.{_≤_, _-_, _*_}
+use Prim.Native.Nat.{_+_, _≤_, _-_, _*_}
 use native.Mathlib.Omega.{arith}
 use lib.ListN.{getD, drop}
 use borrow.Author.Needs.{needs}
@@ -67,17 +67,21 @@ shared-slice-read-t18 c = search needs
 shared-slice-read-t20 : tie.Need-shared-slice-read-t20 Inv-loop μ-loop
 shared-slice-read-t20 c = search needs
 
+shared-slice-read-t23 : tie.Need-shared-slice-read-t23 Inv-loop μ-loop
+shared-slice-read-t23 c = search needs
+
 returns : tie.Need-returns Inv-loop μ-loop
 unfolding recordOf
 returns c =
-    let l = c .before .before .before .loop in
+    let l = c .before .before .before .before .loop in
     let e : l .l ≡ maxLanes = omega arith in
-    let w = c .before .before .before .before .before .before .args .words .now in
-    ap (λ (ls : List Lane). record { clock = getD w 0 0; last = getD w 1 0; lanes = ls }) (rw (← e) (begun-all _ _ _ _ (l .inv .1) e))
+    let w = c .before .before .before .before .before .before .before .args .words .now in
+    ap (λ (ls : List Lane). record { clock = getD w 0 0; last = getD w 1 0; lanes = ls; lag = getD w (2 + maxLanes * laneLength) 0 })
+    (rw (← e) (begun-all _ _ _ _ (l .inv .1) e))
 
 pub record-from-spec : {M : Type 1} → statement M
 record-from-spec =
     tie.close
     (tie.spec Inv-loop μ-loop start-lane-requires loop-holds mul-lane-from add-lane-from mul-lane-from-2 sub-lane-from
     part-lane-from-start part-lane-from-end lane-from-requires mul-lanes array-set-from-lanes add-l loop-less loop-again
-    shared-slice-read-t18 shared-slice-read-t20 returns)
+    shared-slice-read-t18 shared-slice-read-t20 shared-slice-read-t23 returns)

@@ -1,4 +1,4 @@
--- `record_to` leaves `wordsOf`: the loop has stored the lanes below `l`, and 8 of them fill the slice. Assumes nothing.
+-- `record_to` leaves `wordsOf`: the loop has stored the lanes below `l`, and after 8 of them there is one word more. Assumes nothing.
 use mathlib.Core.Path.{refl}
 use Prim.Native.Nat.{_+_, _*_, _≤_, _-_}
 use native.Mathlib.Omega.{arith}
@@ -7,7 +7,7 @@ use borrow.Author.Needs.{needs}
 use Rattle.record.proofs.Lengths.{lanes-eight}
 use Rattle.image.specs.Image.{maxLanes}
 use Rattle.codec.specs.Fields.{laneLength, recordLength}
-use Rattle.codec.specs.inner.FieldsLaws.{Begun, upTo, lanes-none, lanes-on, lanes-all}
+use Rattle.codec.specs.inner.FieldsLaws.{Begun, upTo, lanes-none, lanes-on, record-put}
 use Rattle.codec.proofs.record_to.Statement.{statement}
 use Rattle.codec.proofs.record_to.Tie as tie
 
@@ -72,15 +72,18 @@ loop-again c =
           (lanes-eight (s .args .t1) (s .good .0)) (search needs) (p .put-lane .ensures),
     )
 
+slice-write-words-3 : tie.Need-slice-write-words-3 Inv-loop μ-loop
+slice-write-words-3 c = search needs
+
 same-length : tie.Need-same-length Inv-loop μ-loop
-same-length c = search needs
+same-length c = rw length-set (search needs)
 
 returns : tie.Need-returns Inv-loop μ-loop
-returns c = let l = c .before .loop in let s = c .before .before .before in lanes-all _ _ _ (l .inv .1) (omega arith) (lanes-eight (s .args .t1) (s .good .0))
+returns c = let l = c .before .loop in let s = c .before .before .before in record-put _ _ _ (l .inv .1) (omega arith) (lanes-eight (s .args .t1) (s .good .0))
 
 pub record-to-spec : {M : Type 1} → statement M
 record-to-spec =
     tie.close
     (tie.spec Inv-loop μ-loop slice-write-words slice-write-words-2 loop-holds mul-lane element-copy-out-lane mul-at
     add-at add-put-lane mul-put-lane sub-put-lane part-put-lane-start part-put-lane-end put-lane-requires add-l
-    loop-less loop-again same-length returns)
+    loop-less loop-again slice-write-words-3 same-length returns)

@@ -152,9 +152,15 @@ lanes-on r i at ws ys b a h e n y =
     let next : 2 + laneLength * (i + 1) ≡ at + laneLength = omega arith in
     rw (next, ← lanes-next r i h e, ← y) (part-on recordLength (upTo r i) at (at + laneLength) ws ys b (omega (arith, n)) (omega arith) (omega arith))
 
-pub lanes-all : (r : Record) (i : ℕ) (ws : List ℕ)
-    → Begun recordLength (upTo r i) (2 + laneLength * i) ws → i ≡ maxLanes → length (r .lanes) ≡ maxLanes → ws ≡ wordsOf r
+-- the word after the lanes is the last
+pub record-put : (r : Record) (i : ℕ) (ws : List ℕ)
+    → Begun recordLength (upTo r i) (2 + laneLength * i) ws → i ≡ maxLanes → length (r .lanes) ≡ maxLanes
+    → set ws (2 + maxLanes * laneLength) (r .lag) ≡ wordsOf r
 unfolding upTo wordsOf
-lanes-all r i ws b h e =
-    begun-all recordLength (upTo r i) (2 + laneLength * i) ws b (omega arith)
-    ∙ ap (λ (l : List Lane). r .clock ∷ r .last ∷ rowWords laneWords l) (take-all i (r .lanes) (omega (arith, e)))
+record-put r i ws b h e =
+    let n : 2 + laneLength * i ≡ 2 + maxLanes * laneLength = omega arith in
+    sym (take-all (suc (2 + maxLanes * laneLength)) (set ws (2 + maxLanes * laneLength) (r .lag))
+    (omega (arith, length-set ws (2 + maxLanes * laneLength) (r .lag), b .in-all)))
+    ∙ take-suc-set ws (2 + maxLanes * laneLength) (r .lag) (omega (arith, b .in-all))
+    ∙ ap (λ (l : List ℕ). l ++ (r .lag ∷ [])) (ap (λ k. take k ws) (sym n) ∙ b .so-far)
+    ∙ ap (λ (l : List Lane). r .clock ∷ r .last ∷ (rowWords laneWords l ++ (r .lag ∷ []))) (take-all i (r .lanes) (omega (arith, e)))

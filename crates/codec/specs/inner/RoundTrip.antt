@@ -3,12 +3,12 @@
 use Prim.Native.Nat.{ℕ, zero, suc, _+_, _*_, _≤_}
 use mathlib.Core.Path.{_≡_, refl, sym, _∙_, ap}
 use mathlib.Core.Bool.{Bool, true, false, cond, _&&_}
-use mathlib.Core.List.{List, [], _∷_, _++_, append-assoc, append-nil}
+use mathlib.Core.List.{List, [], _∷_, _++_, append-assoc}
 use native.Mathlib.Omega.{arith}
 use native.Mathlib.Nat.{mul-suc}
 use lib.Dec.{eqb}
 use lib.ListN.{length, getD, take, drop, length-append, length-drop}
-use lib.Seq.{take-all, drop-at, take-add}
+use lib.Seq.{take-all, take-suc, drop-at, take-add, getD-at}
 use borrow.Author.Tests.{eq-eqb, eqb-true}
 use Rattle.laws.specs.inner.Tests.{clash, and-left, and-right, and-both}
 use Rattle.laws.specs.inner.Lists.{All, none, more, All-map}
@@ -78,10 +78,13 @@ lane-back l rest e =
 pub record-back : (r : Record) → length (r .lanes) ≡ maxLanes → All (λ l. length (l .redo) ≡ maxWrites) (r .lanes) → recordOf (wordsOf r) ≡ r
 unfolding recordOf wordsOf
 record-back r e es =
-    ap (λ (ls : List Lane). record { clock = r .clock; last = r .last; lanes = ls })
-    (ap (λ n. rowOf laneLength laneOf n (rowWords laneWords (r .lanes))) (sym e)
-    ∙ ap (rowOf laneLength laneOf (length (r .lanes))) (sym (append-nil (rowWords laneWords (r .lanes))))
-    ∙ row-back laneLength laneOf laneWords (r .lanes) [] (All-map (λ l n. (lane-length l n, λ ws. lane-back l ws n)) es))
+    let ws = rowWords laneWords (r .lanes) in
+    let n = row-length laneLength laneWords (r .lanes) (All-map lane-length es) in
+    rw (
+      ap (λ n. rowOf laneLength laneOf n (ws ++ (r .lag ∷ []))) (sym e)
+          ∙ row-back laneLength laneOf laneWords (r .lanes) (r .lag ∷ []) (All-map (λ l n. (lane-length l n, λ ws. lane-back l ws n)) es),
+      getD-at ws (r .lag) [] 0 (maxLanes * laneLength) (omega (arith, n, e)),
+    )
 
 -- ---- encoding what was decoded
 pairs-forth : (n : ℕ) (ws : List ℕ) → n * 2 ≤ length ws → rowWords pairWords (rowOf 2 pairOf n ws) ≡ take (n * 2) ws
@@ -167,8 +170,10 @@ record-forth (a ∷ []) t = clash false t refl
 record-forth (a ∷ b ∷ ws) t =
     let n = eqb-true (length (a ∷ b ∷ ws)) recordLength (and-left (eqb (length (a ∷ b ∷ ws)) recordLength) (lanesNormal maxLanes ws) t) in
     ap (λ (l : List ℕ). a ∷ b ∷ l)
-    (lanes-forth maxLanes ws (omega (arith, n)) (and-right (eqb (length (a ∷ b ∷ ws)) recordLength) (lanesNormal maxLanes ws) t)
-    ∙ take-all (maxLanes * laneLength) ws (omega (arith, n)))
+    (ap (λ (l : List ℕ). l ++ (getD ws (maxLanes * laneLength) 0 ∷ []))
+    (lanes-forth maxLanes ws (omega (arith, n)) (and-right (eqb (length (a ∷ b ∷ ws)) recordLength) (lanesNormal maxLanes ws) t))
+    ∙ sym (take-suc ws (maxLanes * laneLength) 0 (omega (arith, n)))
+    ∙ take-all (suc (maxLanes * laneLength)) ws (omega (arith, n)))
 
 -- ---- a record's words are in normal form
 phase-normal : (p : Phase) (rest : List ℕ) → phaseNormal (bitFor (isLogged p) ∷ loggedIn p .first ∷ loggedIn p .count ∷ loggedIn p .stamp ∷ rest) ≡ true
@@ -185,17 +190,21 @@ lane-normal : (l : Lane) (rest : List ℕ) → (phaseNormal (laneWords l ++ rest
 unfolding laneWords headWords
 lane-normal l rest = (phase-normal (l .phase) _, floor-normal (l .floor) _)
 
-lanes-normal : (ls : List Lane) → All (λ l. length (l .redo) ≡ maxWrites) ls → lanesNormal (length ls) (rowWords laneWords ls) ≡ true
+lanes-normal : (ls : List Lane) (rest : List ℕ) → All (λ l. length (l .redo) ≡ maxWrites) ls
+    → lanesNormal (length ls) (rowWords laneWords ls ++ rest) ≡ true
 unfolding lanesNormal rowWords
-lanes-normal [] none = refl
-lanes-normal (l ∷ ls) (more e es) =
-    let k = lane-normal l (rowWords laneWords ls) in
-    rw (k .0, k .1, drop-at (laneWords l) (rowWords laneWords ls) laneLength (lane-length l e)) (lanes-normal ls es)
+lanes-normal [] rest none = refl
+lanes-normal (l ∷ ls) rest (more e es) =
+    let ws = rowWords laneWords ls ++ rest in
+    let k = lane-normal l ws in
+    rw (append-assoc (laneWords l) (rowWords laneWords ls) rest, k .0, k .1, drop-at (laneWords l) ws laneLength (lane-length l e)) (lanes-normal ls rest es)
 
 pub words-normal : (r : Record) → length (r .lanes) ≡ maxLanes → All (λ l. length (l .redo) ≡ maxWrites) (r .lanes) → normal (wordsOf r) ≡ true
 unfolding normal wordsOf
 words-normal r e es =
-    and-both (eqb (length (r .clock ∷ r .last ∷ rowWords laneWords (r .lanes))) recordLength) (lanesNormal maxLanes (rowWords laneWords (r .lanes)))
-    (eq-eqb (length (r .clock ∷ r .last ∷ rowWords laneWords (r .lanes))) recordLength
-    (omega (arith, row-length laneLength laneWords (r .lanes) (All-map lane-length es), e)))
-    (ap (λ n. lanesNormal n (rowWords laneWords (r .lanes))) (sym e) ∙ lanes-normal (r .lanes) es)
+    let ws = rowWords laneWords (r .lanes) ++ (r .lag ∷ []) in
+    and-both (eqb (length (r .clock ∷ r .last ∷ ws)) recordLength) (lanesNormal maxLanes ws)
+    (eq-eqb (length (r .clock ∷ r .last ∷ ws)) recordLength
+    (omega
+    (arith, length-append (rowWords laneWords (r .lanes)) (r .lag ∷ []), row-length laneLength laneWords (r .lanes) (All-map lane-length es), e)))
+    (ap (λ n. lanesNormal n ws) (sym e) ∙ lanes-normal (r .lanes) (r .lag ∷ []) es)

@@ -63,6 +63,7 @@ pub record Moved (z : Sizes) (base : ℕ) (L : ℕ) (h k : History) (m n : Machi
   pub in-flags : length (n .flags) ≡ length (m .flags)
   pub words : dataOf z (n .cache) ≡ present z k
   pub clock : n .state .clock ≡ k .clock
+  pub lag : n .state .lag ≡ m .state .lag
   pub even : k .clock % 2 ≡ 0
   pub last : n .state .last ≡ lastOf base (k .commits)
   pub last-ok : stampOk (k .clock) (n .state .last) ≡ true
@@ -84,6 +85,7 @@ module _ (z : Sizes) (base : ℕ) (L : ℕ) (lane : L < z.lanes) (h k : History)
       record {
         even = rw (v .clock) (v .even);
         last = rw (v .clock) (v .last-ok);
+        lag = rw (v .lag) (old-ranges .lag);
         lanes = lane-cases (λ M. M < z.lanes → LaneIn z (n .state .clock) (laneAt (n .state) M)) L
             (λ i. rw (v .lanes .here, v .clock) (v .range))
             (λ M d i. rw (v .lanes .others M d) (lane-later z (m .state .clock) (n .state .clock) (laneAt (m .state) M) later (old-ranges .lanes M i)));
@@ -99,6 +101,7 @@ module _ (z : Sizes) (base : ℕ) (L : ℕ) (lane : L < z.lanes) (h k : History)
         live = record {
           words = v .words;
           clock = v .clock;
+          lag = v .lag ∙ b .live .lag ∙ sym (v .onward .lag);
           floors = lane-cases (λ M. M < z.lanes → laneAt (n .state) M .floor ≡ pageAt k M .floor) L
               (λ i. rw (v .lanes .here, v .pages .here) (v .floor))
               (λ M d i. rw (v .lanes .others M d, v .pages .others M d) (b .live .floors M i));
@@ -183,6 +186,7 @@ module _ (z : Sizes) (base : ℕ) (L : ℕ) (lane : L < z.lanes) (h : History) (
           in-flags = length-drainedFlags L (m .flags);
           words = b .live .words;
           clock = b .live .clock;
+          lag = refl;
           even = even-now;
           last = b .last;
           last-ok = last-now;
@@ -235,6 +239,7 @@ module _ (z : Sizes) (base : ℕ) (L : ℕ) (lane : L < z.lanes) (h : History) (
         in-flags = length-flushAll L _ (m .flags);
         words = data-appended z L ws phase redo m ∙ b .live .words ∙ sym (present-stamped kind held);
         clock = ap (λ (c : ℕ). c + 2) (b .live .clock);
+        lag = refl;
         even = let k = even-now in omega arith;
         last = b .last ∙ ap (lastOf base) (sym (append-nil (h .commits)));
         last-ok = stamp-later (h .clock) (h .clock + 2) (m .state .last) (omega arith) last-now;
@@ -348,6 +353,7 @@ module _ (z : Sizes) (base : ℕ) (L : ℕ) (lane : L < z.lanes) (h : History) (
         in-flags = refl;
         words = b .live .words;
         clock = b .live .clock;
+        lag = refl;
         even = even-now;
         last = b .last;
         last-ok = last-now;
@@ -394,6 +400,7 @@ module _ (z : Sizes) (base : ℕ) (L : ℕ) (lane : L < z.lanes) (h : History) (
           in-flags = length-flushAll L _ (m .flags);
           words = words-commit;
           clock = ap (λ (c : ℕ). c + 2) (b .live .clock);
+          lag = refl;
           even = let k = even-now in omega arith;
           last = ap (λ (c : ℕ). c + 2) (b .live .clock) ∙ sym (last-append base (h .commits) (record { stamp = h .clock + 2; txn = f }));
           last-ok = rw (b .live .clock) (stamp-now (h .clock + 2) (let k = even-now in omega arith));

@@ -49,9 +49,9 @@ pub lane-cases : (P : ℕ → Type 0) (L : ℕ) → P L → ((M : ℕ) → M ≢
 lane-cases P L here others M = elim (ℕ-discrete M L) [ yes e ↦ subst P (sym e) here | no d ↦ others M d ]
 
 -- every lane in use at a start
-pub lane-start : (z : Sizes) (base : ℕ) → z.lanes ≤ maxLanes → (L : ℕ) → L < z.lanes → laneAt (startRecord base) L ≡ startLane
+pub lane-start : (z : Sizes) (lag base : ℕ) → z.lanes ≤ maxLanes → (L : ℕ) → L < z.lanes → laneAt (startRecord lag base) L ≡ startLane
 unfolding laneAt startRecord
-lane-start z base h L i = getD-replicate maxLanes L startLane noLane (le-trans i h)
+lane-start z lag base h L i = getD-replicate maxLanes L startLane noLane (le-trans i h)
 
 -- ---- each move
 module _ (z : Sizes) (L : ℕ) (m : Machine) (h : L < length (m .state .lanes)) where

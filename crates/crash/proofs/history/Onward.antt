@@ -47,6 +47,7 @@ writes-held z h L f s p q = rw (p, writesLogged) (ap (λ (n : Newest). run z.wor
 pub record Onward (h k : History) : Type 0 where
   pub new : List Commit
   pub start : k .start ≡ h .start
+  pub lag : k .lag ≡ h .lag
   pub clock : h .clock ≤ k .clock
   pub commits : k .commits ≡ h .commits ++ new
   pub rising : Rising new
@@ -56,17 +57,17 @@ pub record Onward (h k : History) : Type 0 where
 pub onward-settled : (L : ℕ) (h : History) → Onward h (settled L h)
 unfolding settled
 onward-settled L h =
-    record { new = []; start = refl; clock = le-refl (h .clock); commits = sym (append-nil (h .commits)); rising = last; fresh = nil; upto = nil }
+    record { new = []; start = refl; lag = refl; clock = le-refl (h .clock); commits = sym (append-nil (h .commits)); rising = last; fresh = nil; upto = nil }
 
 pub onward-released : (L : ℕ) (h : History) → Onward h (released L h)
 unfolding released
 onward-released L h =
-    record { new = []; start = refl; clock = le-refl (h .clock); commits = sym (append-nil (h .commits)); rising = last; fresh = nil; upto = nil }
+    record { new = []; start = refl; lag = refl; clock = le-refl (h .clock); commits = sym (append-nil (h .commits)); rising = last; fresh = nil; upto = nil }
 
 -- a timestamp without a commit
 pub onward-stamped : (L : ℕ) (kind : ℕ → Newest) (held : Option (List ℕ)) (h : History) → Onward h (stamped L kind held [] h)
 unfolding stamped
-onward-stamped L kind held h = record { new = []; start = refl; clock = omega arith; commits = refl; rising = last; fresh = nil; upto = nil }
+onward-stamped L kind held h = record { new = []; start = refl; lag = refl; clock = omega arith; commits = refl; rising = last; fresh = nil; upto = nil }
 
 -- a commit
 pub onward-commit : (L : ℕ) (f : List ℕ) (h : History) → Onward h (stamped L closingAt none (f ∷ []) h)
@@ -75,6 +76,7 @@ onward-commit L f h =
     record {
       new = record { stamp = h .clock + 2; txn = f } ∷ [];
       start = refl;
+      lag = refl;
       clock = omega arith;
       commits = refl;
       rising = then nil last;

@@ -16,7 +16,7 @@ use Rattle.txn.specs.declared.Write.{Write}
 use Rattle.image.specs.declared.Sizes.{Sizes}
 use Rattle.log.specs.declared.Timestamp.{Timestamp}
 use Rattle.log.specs.declared.Timestamp.the-variants.{None, At}
-use Rattle.record.specs.Record.{noLane, laneAt, stampOk, floorOk, pairsOk, phaseOk, laneOk, lanesOk, recordOk, pairsOf}
+use Rattle.record.specs.Record.{noLane, laneAt, stampOk, floorOk, pairsOk, phaseOk, laneOk, lanesOk, lagOk, recordOk, pairsOf}
 use Rattle.record.specs.inner.RecordLaws.{LaneIn, lane-in, record-in}
 use Rattle.record.specs.declared.Pair.{Pair}
 use Rattle.record.specs.declared.Phase.{Phase}
@@ -40,6 +40,7 @@ lanes-out z clock (l ∷ ls) f =
 pub record RecordRange (z : Sizes) (r : Record) : Type 0 where
   pub even : r .clock % 2 ≡ 0
   pub last : stampOk (r .clock) (r .last) ≡ true
+  pub lag : lagOk (r .lag) ≡ true
   pub lanes : (M : ℕ) → M < z.lanes → LaneIn z (r .clock) (laneAt r M)
 
 module _ (z : Sizes) (r : Record) (long : z.lanes ≤ length (r .lanes)) where
@@ -53,13 +54,14 @@ module _ (z : Sizes) (r : Record) (long : z.lanes ≤ length (r .lanes)) where
       record {
         even = k .clock;
         last = and-left (stampOk (r .clock) (r .last)) _ (and-right (eqb (r .clock % 2) 0) _ h);
+        lag = k .lag;
         lanes = λ M i. lane-in z (r .clock) (laneAt r M) (k .lanes M i (le-trans i long));
       }
 
   pub record-ranged : RecordRange z r → recordOk z r ≡ true
   unfolding recordOk laneAt
   record-ranged k =
-      rw (eq-eqb (r .clock % 2) 0 (k .even), k .last)
+      rw (eq-eqb (r .clock % 2) 0 (k .even), k .last, k .lag)
       (lanes-out z (r .clock) (take z.lanes (r .lanes))
       (λ M i.
       let j : M < z.lanes = rw taken-long at i in

@@ -13,9 +13,9 @@ use Rattle.image.specs.declared.Sizes.{Sizes}
 use Rattle.log.specs.Log.{Complete, completeIn, back, ahead, overlaps, hitsFrom, hits}
 use Rattle.log.specs.declared.Timestamp.{Timestamp}
 use Rattle.log.specs.declared.Timestamp.the-variants.{None, At}
-use Rattle.record.specs.Record.{laneAt, isLogged, recordOk, spent, boundOf}
+use Rattle.record.specs.Record.{laneAt, isLogged, recordOk, spent, boundOf, lagPassed}
 use Rattle.store.specs.Machine.{Machine, Step, Cause, firstCause, unless, said}
-use Rattle.store.specs.Calls.{badBuffers, badRecord, badLane, badTxn, notLogged, clockSpent, drained, wouldHit, writesOn, drainRefusal, drainStep}
+use Rattle.store.specs.Calls.{badBuffers, badRecord, badLane, badTxn, notLogged, clockSpent, drained, wouldHit, wouldLag, writesOn, drainRefusal, drainStep}
 use Rattle.store.specs.Calls.{logRefusalBy, logStepBy, redoRefusal, redoStep, isStale, validateRefusalBy, validateStepBy, matches, markRefusal, markStep}
 use Rattle.crash.specs.Events.{Call, logBy, redo, validateBy, mark, drain, laneOf, callStep}
 use Rattle.crash.specs.History as book
@@ -79,6 +79,11 @@ module _ (z : Sizes) (h : History) (m : Machine) (v : Live z h m) where
     unfolding wouldHit
     same-hit L n l = ap (λ (b : Timestamp). hits z.slots (laneAt (m .state) L .next) n b (completeIn z (m .cache) L)) (bound L l)
 
+    -- a timestamp further above that floor than the lag limit
+    same-lag : (L : ℕ) → L < z.lanes → wouldLag z L m ≡ book.wouldLag L h
+    unfolding wouldLag book.wouldLag
+    same-lag L l = ap (lagPassed (m .state .lag) (m .state .clock + 2)) (bound L l) ∙ rw (v .lag, v .clock)
+
     log-full : (r : Rule) (L : ℕ) (f : List ℕ) → L < z.lanes
         → (leb 1 (length (writesNow z f h)) && wouldHit z L (length (writesNow z f h) + 1) m) ≡ isFull z (logBy r L f) h m
     unfolding isFull slotsBy laneOf
@@ -105,7 +110,7 @@ module _ (z : Sizes) (h : History) (m : Machine) (v : Live z h m) where
       unfolding refusalOf logRefusalBy refusalBy causesBy badBuffers badRecord badLane badTxn
       log-refusal r L f =
           past-two _ _ (leb z.lanes L) 3 _ _ (ok .buffers) (ok .fields)
-          (λ e. let l = leb-false z.lanes L e in rw (same-writes f, same-spent, same-held L l, log-full r L f l))
+          (λ e. let l = leb-false z.lanes L e in rw (same-writes f, same-spent, same-held L l, same-lag L l, log-full r L f l))
 
       mark-refusal : (L : ℕ) → refusalOf z (mark L) m ≡ refusalBy z (mark L) h m
       unfolding refusalOf markRefusal refusalBy causesBy badBuffers badRecord badLane clockSpent

@@ -13,7 +13,7 @@ use Rattle.image.specs.inner.ImageLaws.{sizes-in, getD-log, length-log, log-fit
 use Rattle.image.specs.inner.BulkLaws.{getD-zeros}
 use Rattle.image.specs.declared.Sizes.{Sizes}
 use Rattle.log.specs.declared.Timestamp.the-variants.{At}
-use Rattle.record.specs.Record.{startLane, startRecord, laneAt, isLogged, floorOk, phaseOk, recordOk}
+use Rattle.record.specs.Record.{startLane, startRecord, laneAt, isLogged, floorOk, phaseOk, lagOk, recordOk}
 use Rattle.record.specs.inner.RecordLaws.{LaneIn}
 use Rattle.record.specs.declared.Phase.the-variants.{Idle, Holds}
 use Rattle.record.specs.declared.Lane.{Lane}
@@ -30,12 +30,12 @@ use Rattle.crash.proofs.history.Agree.{lastOf, Book}
 use Rattle.crash.proofs.lane.Ends.{Form, form-buffers}
 
 -- ---- the book
-module _ (z : Sizes) (base : ℕ) (image words : List ℕ) (ok : sizesOk z ≡ true)
+module _ (z : Sizes) (lag base : ℕ) (image words : List ℕ) (ok : sizesOk z ≡ true) (in-lag : lagOk lag ≡ true)
     (even : base % 2 ≡ 0) (long : formerLength z ≤ length image) (form : Form z (endOf z image)) (same : dataOf z image ≡ words) where
   eight : z.lanes ≤ maxLanes
   eight = sizes-in z ok .lanes-high
 
-  page-start : (M : ℕ) → M < z.lanes → pageAt (opened z words base) M ≡ blankPage
+  page-start : (M : ℕ) → M < z.lanes → pageAt (opened z lag words base) M ≡ blankPage
   unfolding pageAt opened
   page-start M i = getD-replicate z.lanes M blankPage blankPage i
 
@@ -43,49 +43,56 @@ module _ (z : Sizes) (base : ℕ) (image words : List ℕ) (ok : sizesOk z ≡ t
   unfolding startLane floorOk phaseOk
   start-range = record { next = let k = sizes-in z ok .slots-low in omega arith; wrap = omega arith; floor = refl; phase = refl }
 
-  eight-lanes : length (startRecord base .lanes) ≡ maxLanes
+  eight-lanes : length (startRecord lag base .lanes) ≡ maxLanes
   unfolding startRecord
   eight-lanes = length-replicate maxLanes startLane
 
-  ranges-start : RecordRange z (startRecord base)
+  ranges-start : RecordRange z (startRecord lag base)
   unfolding startRecord
-  ranges-start = record { even = even; last = stamp-now base even; lanes = λ M i. subst (LaneIn z base) (sym (lane-start z base eight M i)) start-range }
+  ranges-start =
+      record {
+        even = even;
+        last = stamp-now base even;
+        lag = in-lag;
+        lanes = λ M i. subst (LaneIn z base) (sym (lane-start z lag base eight M i)) start-range;
+      }
 
-  in-range : recordOk z (startRecord base) ≡ true
-  in-range = record-ranged z (startRecord base) (rw eight-lanes eight) ranges-start
+  in-range : recordOk z (startRecord lag base) ≡ true
+  in-range = record-ranged z (startRecord lag base) (rw eight-lanes eight) ranges-start
 
-  idle-start : (M : ℕ) → M < z.lanes → laneAt (startRecord base) M .phase ≡ Idle
+  idle-start : (M : ℕ) → M < z.lanes → laneAt (startRecord lag base) M .phase ≡ Idle
   unfolding startLane
-  idle-start M i = ap (λ (l : Lane). l .phase) (lane-start z base eight M i)
+  idle-start M i = ap (λ (l : Lane). l .phase) (lane-start z lag base eight M i)
 
-  pub none-held : {A : Type 0} (M : ℕ) (g : Logged) → M < z.lanes → laneAt (started base image .state) M .phase ≡ Holds g → A
+  pub none-held : {A : Type 0} (M : ℕ) (g : Logged) → M < z.lanes → laneAt (started lag base image .state) M .phase ≡ Holds g → A
   unfolding started
   none-held M g i e = absurd (let d = idle-start M i in let z : _≡_ {A = ℕ} 0 1 = cc in omega arith)
 
-  floors-start : (M : ℕ) → M < z.lanes → laneAt (startRecord base) M .floor ≡ pageAt (opened z words base) M .floor
+  floors-start : (M : ℕ) → M < z.lanes → laneAt (startRecord lag base) M .floor ≡ pageAt (opened z lag words base) M .floor
   unfolding startLane
-  floors-start M i = rw (lane-start z base eight M i, page-start M i)
+  floors-start M i = rw (lane-start z lag base eight M i, page-start M i)
 
-  held-start : (M : ℕ) → M < z.lanes → isLogged (laneAt (startRecord base) M .phase) ≡ isSome (pageAt (opened z words base) M .held)
+  held-start : (M : ℕ) → M < z.lanes → isLogged (laneAt (startRecord lag base) M .phase) ≡ isSome (pageAt (opened z lag words base) M .held)
   unfolding startLane isLogged isSome
-  held-start M i = rw (lane-start z base eight M i, page-start M i)
+  held-start M i = rw (lane-start z lag base eight M i, page-start M i)
 
-  no-stamp : {A : Type 0} (M s : ℕ) → M < z.lanes → newestStamp (pageAt (opened z words base) M .newest) ≡ At s → A
+  no-stamp : {A : Type 0} (M s : ℕ) → M < z.lanes → newestStamp (pageAt (opened z lag words base) M .newest) ≡ At s → A
   unfolding newestStamp
   no-stamp M s i e =
       absurd (let d = ap (λ (p : Page). newestStamp (p .newest)) (page-start M i) in let z : _≡_ {A = ℕ} 0 1 = cc in omega arith)
 
-  live-start : Live z (opened z words base) (started base image)
+  live-start : Live z (opened z lag words base) (started lag base image)
   unfolding started opened present wordsBelow replay startRecord
   live-start =
       record {
         words = same;
         clock = refl;
+        lag = refl;
         floors = floors-start;
         held = held-start;
       }
 
-  pub book-start : Book z base (opened z words base) (started base image)
+  pub book-start : Book z base (opened z lag words base) (started lag base image)
   unfolding started opened lastOf startRecord
   book-start =
       record {

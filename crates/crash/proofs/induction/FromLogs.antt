@@ -12,7 +12,7 @@ use Rattle.image.specs.Image.{sizesOk, formerLength, baseOf, dataOf, logOf}
 use Rattle.image.specs.Flush.{writtenBack}
 use Rattle.image.specs.inner.FlushLaws.{length-writtenBack}
 use Rattle.image.specs.declared.Sizes.{Sizes}
-use Rattle.record.specs.Record.{laneAt, isLogged, pairsOf}
+use Rattle.record.specs.Record.{laneAt, isLogged, lagOk, pairsOf}
 use Rattle.record.specs.declared.Phase.the-variants.{Idle}
 use Rattle.store.specs.Machine.{Machine}
 use Rattle.store.specs.Calls.{started, startImage, drained, writesOn, appended, logged, committed, isStale, redoPairs, matches}
@@ -51,10 +51,10 @@ pub record LogLaws (z : Sizes) (G : ℕ → Machine → History → Type 0) : Ty
   -- and of the end of the image
   pub tails : (base : ℕ) (m : Machine) (h : History) → Book z base h m → G base m h → Tailed z m
   -- a start: logs of 0s
-  pub starts : (base : ℕ) (image words : List ℕ) → base % 2 ≡ 0 → formerLength z ≤ length image → Form z (endOf z image) → baseOf image ≡ base
+  pub starts : (lag base : ℕ) (image words : List ℕ) → base % 2 ≡ 0 → formerLength z ≤ length image → Form z (endOf z image) → baseOf image ≡ base
       → dataOf z image ≡ words
       → ((L : ℕ) → L < z.lanes → logOf z L image ≡ replicate (2 * z.slots) 0)
-      → G base (started base image) (opened z words base)
+      → G base (started lag base image) (opened z lag words base)
   -- it is kept by write-backs and by each move
   pub writes : (base : ℕ) (m : Machine) (h : History) (i : ℕ) → Book z base h m → G base m h
       → G base (record { state = m .state; cache = m .cache; nvm = writtenBack i (m .cache) (m .nvm); flags = m .flags }) h
@@ -120,14 +120,14 @@ module _ (z : Sizes) (ok : sizesOk z ≡ true) (G : ℕ → Machine → History 
       }
 
   -- a start is one of the book and of the logs
-  pub fresh : (base : ℕ) (image words : List ℕ) → base % 2 ≡ 0 → formerLength z ≤ length image → Form z (endOf z image) → baseOf image ≡ base
-      → dataOf z image ≡ words
-      → ((L : ℕ) → L < z.lanes → logOf z L image ≡ replicate (2 * z.slots) 0) → Inv z G (started base image) (opened z words base)
-  fresh base image words even long form at same blank =
+  pub fresh : (lag base : ℕ) (image words : List ℕ) → lagOk lag ≡ true → base % 2 ≡ 0 → formerLength z ≤ length image → Form z (endOf z image)
+      → baseOf image ≡ base → dataOf z image ≡ words
+      → ((L : ℕ) → L < z.lanes → logOf z L image ≡ replicate (2 * z.slots) 0) → Inv z G (started lag base image) (opened z lag words base)
+  fresh lag base image words in-lag even long form at same blank =
       record {
         base = base;
-        book = book-start z base image words ok even long form same;
-        rest = laws .starts base image words even long form at same blank;
+        book = book-start z lag base image words ok in-lag even long form same;
+        rest = laws .starts lag base image words even long form at same blank;
       }
 
   written : (m : Machine) (h : History) (i : ℕ) (v : Inv z G m h)
@@ -139,7 +139,7 @@ module _ (z : Sizes) (ok : sizesOk z ≡ true) (G : ℕ → Machine → History 
         fields = b .fields;
         lanes = b .lanes;
         pages = b .pages;
-        live = record { words = b .live .words; clock = b .live .clock; floors = b .live .floors; held = b .live .held };
+        live = record { words = b .live .words; clock = b .live .clock; lag = b .live .lag; floors = b .live .floors; held = b .live .held };
         rising = b .rising;
         above = b .above;
         upto = b .upto;
@@ -162,16 +162,18 @@ module _ (z : Sizes) (ok : sizesOk z ≡ true) (G : ℕ → Machine → History 
       }
 
   -- what a finished recovery leaves is one
-  recovered-fresh : (cells words : List ℕ) → formerLength z ≤ length cells → Form z (endOf z cells) → baseOf cells % 2 ≡ 0
-      → dataOf z (recoveredImage z cells) ≡ words → Inv z G (started (newBase z cells) (recoveredImage z cells)) (opened z words (newBase z cells))
-  recovered-fresh cells words size form even same =
-      fresh (newBase z cells) (recoveredImage z cells) words (newBase-even z cells even) (rw (recovered-length z cells) size)
+  recovered-fresh : (lag : ℕ) (cells words : List ℕ) → lagOk lag ≡ true → formerLength z ≤ length cells → Form z (endOf z cells) → baseOf cells % 2 ≡ 0
+      → dataOf z (recoveredImage z cells) ≡ words → Inv z G (started lag (newBase z cells) (recoveredImage z cells)) (opened z lag words (newBase z cells))
+  recovered-fresh lag cells words in-lag size form even same =
+      fresh lag (newBase z cells) (recoveredImage z cells) words in-lag (newBase-even z cells even) (rw (recovered-length z cells) size)
       (rw (recovered-end z cells) form) (recovered-base z cells size) same (λ L i. recovered-log z cells size L i)
 
-  restarted-so : (cells : List ℕ) (h : History) → AtCut z cells h → Inv z G (started (newBase z cells) (recoveredImage z cells)) (restarted z cells h)
+  restarted-so : (lag : ℕ) → lagOk lag ≡ true → (cells : List ℕ) (h : History) → AtCut z cells h
+      → Inv z G (started lag (newBase z cells) (recoveredImage z cells)) (restarted z lag cells h)
   unfolding restarted wordsBelow
-  restarted-so cells h a =
-      recovered-fresh cells (wordsBelow z (boundary z cells) h) (a .size) (a .form) (a .even) (recovered-right z cells (h .start) (h .commits) (a .shows))
+  restarted-so lag in-lag cells h a =
+      recovered-fresh lag cells (wordsBelow z (boundary z cells) h) in-lag (a .size) (a .form) (a .even)
+      (recovered-right z cells (h .start) (h .commits) (a .shows))
 
   words-so : (cells : List ℕ) (h : History) → AtCut z cells h → dataOf z (recoveredImage z cells) ≡ wordsBelow z (boundary z cells) h
   unfolding wordsBelow
@@ -183,8 +185,8 @@ module _ (z : Sizes) (ok : sizesOk z ≡ true) (G : ℕ → Machine → History 
   pub all-laws : Laws z (Inv z G) (AtCut z)
   all-laws =
       record {
-        formats = λ start e. fresh 0 (startImage z start) start zero-even (image-fits z start e) (inr (image-end z start e)) (image-base z start e)
-            (image-data z start e) (λ L i. image-log z start e L i);
+        formats = λ lag start in-lag e. fresh lag 0 (startImage z start) start in-lag zero-even (image-fits z start e) (inr (image-end z start e))
+            (image-base z start e) (image-data z start e) (λ L i. image-log z start e L i);
         lives = λ m h v. v .book .live;
         buffers = λ m h v. v .book .buffers;
         calls = call-by-steps z (Inv z G) steps;
@@ -211,16 +213,16 @@ module _ (G : Sizes → ℕ → Machine → History → Type 0) (laws : (z : Siz
   -- what a finished recovery of an image of the former length leaves is a start too
   pub former-theorem-by-logs : FormerTheorem vandzulge
   unfolding FormerTheorem vandzulge started
-  former-theorem-by-logs z limit m e all es =
-      let a = former-known z m e in
+  former-theorem-by-logs z lag limit m e all es =
+      let a = former-known z lag m e in
       let size : formerLength z ≤ length (m .nvm) = omega (arith, a .1) in
       let form = inl (no-end z (m .nvm) (a .1)) in
-      let v = recovered-fresh z (a .0) (G z) (laws z (a .0)) (m .nvm) (dataOf z (recoveredImage z (m .nvm))) size form (a .2) refl in
+      let v = recovered-fresh z (a .0) (G z) (laws z (a .0)) lag (m .nvm) (dataOf z (recoveredImage z (m .nvm))) (a .3) size form (a .2) refl in
       let long : length (recoveredImage z (m .nvm)) ≡ formerLength z + 0 = omega (arith, recovered-length z (m .nvm), a .1) in
       let g = starts-from (λ z. Inv z (G z)) AtCut its-laws z (a .0) [] (inl refl) _ _ v long es in
       subst
-      (λ (r : Restarted). (r .answer ≡ recoveryAnswer z limit (m .nvm))
-      × InStep z [] (opened z (dataOf z (r .machine .nvm)) (newBase z (m .nvm))) (live (r .machine))
-      × Holds vandzulge z [] (live (r .machine)) (opened z (dataOf z (r .machine .nvm)) (newBase z (m .nvm))) es)
-      (sym (former-finished z limit m e all size))
-      (answer-finished z limit (m .nvm) all, g .0, g .1)
+      (λ (r : Restarted). (r .answer ≡ recoveryAnswer z lag limit (m .nvm))
+      × InStep z [] (opened z lag (dataOf z (r .machine .nvm)) (newBase z (m .nvm))) (live (r .machine))
+      × Holds vandzulge z [] (live (r .machine)) (opened z lag (dataOf z (r .machine .nvm)) (newBase z (m .nvm))) es)
+      (sym (former-finished z lag limit m e all size))
+      (answer-finished z lag limit (m .nvm) (a .3) all, g .0, g .1)

@@ -19,7 +19,6 @@ use Rattle.log.specs.declared.Timestamp.{Timestamp}
 use Rattle.log.specs.declared.Timestamp.the-variants.{None, At}
 use Rattle.record.specs.Record.{lesser}
 use Rattle.store.specs.Machine.{Machine, Said, said}
-use Rattle.recovery.specs.Recovery.{boundary}
 use Rattle.crash.specs.Events.{Call, mark, drain, laneOf, live, Design, happens}
 use Rattle.crash.specs.Events.{Event, format, call, recover}
 use Rattle.crash.specs.Events.{Reply, answered, recovered, failed, ignored}
@@ -68,7 +67,8 @@ module _ (P : Page → Type 0) (blank : P blankPage) (drains : (p : Page) → P 
   idle-page : (d : Design) (z : Sizes) (w : World) (es : List Event) → staysIdle L es ≡ true → P (pageAt (w .history) L)
       → P (pageAt (worldAfter d z w es .history) L)
   idle-page d z w es t i =
-      after-keeps (λ h. P (pageAt h L)) (λ M. L ≢ M) page-keeping d z w es (idle-steps es t) (inl (λ start clock. opened-page P blank z start clock L)) i
+      after-keeps (λ h. P (pageAt h L)) (λ M. L ≢ M) page-keeping d z w es (idle-steps es t)
+      (inl (λ lag start clock. opened-page P blank z lag start clock L)) i
 
 -- ---- a mark, and a drain
 blank-settled : Settled blankPage
@@ -130,9 +130,9 @@ others-floor : (L : ℕ) (h : History) → Settled (pageAt h L) → leastFloorOf
 unfolding Settled othersFloor pageAt
 others-floor L h e = without-floor (h .pages) L (e .0)
 
-module _ (d : Design) (z : Sizes) (start : List ℕ) (m : Machine) (h : History) (L : ℕ) (es fs gs : List Event) where
+module _ (d : Design) (z : Sizes) (lag : ℕ) (start : List ℕ) (m : Machine) (h : History) (L : ℕ) (es fs gs : List Event) where
   abbrev a : World
-  a = worldAfter d z (record { system = live m; history = h }) (format start ∷ es)
+  a = worldAfter d z (record { system = live m; history = h }) (format lag start ∷ es)
 
   abbrev b : World
   b = worldAfter d z (nextWorld d z a (call (mark L))) fs
@@ -140,7 +140,7 @@ module _ (d : Design) (z : Sizes) (start : List ℕ) (m : Machine) (h : History)
   abbrev c : World
   c = worldAfter d z (nextWorld d z b (call (drain L))) gs
 
-  holds-last : (e : Event) → ((es : List Event) → Holds d z (trailer z) (live m) h (format start ∷ es))
+  holds-last : (e : Event) → ((es : List Event) → Holds d z (trailer z) (live m) h (format lag start ∷ es))
       → Holds d z (trailer z) (c .system) (c .history) (e ∷ [])
   holds-last e v =
       let third : List Event = gs ++ (e ∷ []) in
@@ -149,7 +149,7 @@ module _ (d : Design) (z : Sizes) (start : List ℕ) (m : Machine) (h : History)
       (holds-next d z (trailer z) b (call (drain L)) third
       (holds-after d z (trailer z) (nextWorld d z a (call (mark L))) fs (call (drain L) ∷ third)
       (holds-next d z (trailer z) a (call (mark L)) second
-      (holds-after d z (trailer z) (record { system = live m; history = h }) (format start ∷ es) (call (mark L) ∷ second)
+      (holds-after d z (trailer z) (record { system = live m; history = h }) (format lag start ∷ es) (call (mark L) ∷ second)
       (v (es ++ (call (mark L) ∷ second)))))))
 
   -- the lane's page from the mark on, and from the drain on
@@ -170,7 +170,7 @@ module _ (d : Design) (z : Sizes) (start : List ℕ) (m : Machine) (h : History)
 
 pub idle-from : (d : Design) → CrashTheorem d → IdleTheorem d
 unfolding CrashTheorem IdleTheorem
-idle-from d theorem z start m h ok L es fs gs marks idle drains stays limit j =
-    let q = others-floor L _ (page-rests d z start m h L es fs gs marks idle drains stays) in
-    recovery-keeps d z (c d z start m h L es fs gs) _ (λ s e. rw q e) limit j
-    (holds-last d z start m h L es fs gs (recover limit j) (theorem z start m h ok))
+idle-from d theorem z lag start m h ok L es fs gs marks idle drains stays lag₁ limit j =
+    let q = others-floor L _ (page-rests d z lag start m h L es fs gs marks idle drains stays) in
+    recovery-keeps d z (c d z lag start m h L es fs gs) _ (λ s e. rw q e) lag₁ limit j
+    (holds-last d z lag start m h L es fs gs (recover lag₁ limit j) (theorem z lag start m h ok))

@@ -32,16 +32,16 @@ module _ (z : Sizes) (h : History) (kept : Timestamp) (low : (s : ℕ) → isBel
       record { boundary = boundary z found; nvm = v .nvm; cache = v .cache; keeps = λ s e. not-below (v .floors) s (low s e) }
   kept-by (down nvm j f) (Finished a) v = v
 
-  kept-reply : (limit : ℕ) (j : Junk) (was y : System) (r : Reply) → Replied z (trailer z) h (recover limit j) was found y r → Kept z h kept y r
-  kept-reply limit j was y (answered a) v = tt
-  kept-reply limit j was y (recovered r) v = kept-by y r (v .leaves)
-  kept-reply limit j was y (failed d) v = tt
-  kept-reply limit j was y ignored v = tt
+  kept-reply : (lag limit : ℕ) (j : Junk) (was y : System) (r : Reply) → Replied z (trailer z) h (recover lag limit j) was found y r → Kept z h kept y r
+  kept-reply lag limit j was y (answered a) v = tt
+  kept-reply lag limit j was y (recovered r) v = kept-by y r (v .leaves)
+  kept-reply lag limit j was y (failed d) v = tt
+  kept-reply lag limit j was y ignored v = tt
 
 pub recovery-keeps : (d : Design) (z : Sizes) (w : World) (kept : Timestamp)
     → ((s : ℕ) → isBelow kept s ≡ true → isBelow (leastFloorOf (w .history .pages)) s ≡ true)
-    → (limit : ℕ) (j : Junk) → Holds d z (trailer z) (w .system) (w .history) (recover limit j ∷ [])
-    → let r = happens d z (w .system) (recover limit j) in Kept z (w .history) kept (r .system) (r .reply)
-recovery-keeps d z w kept low limit j v =
-    let r = happens d z (w .system) (recover limit j) in
-    kept-reply z (w .history) kept low (r .found) limit j (w .system) (r .system) (r .reply) (v .0 .reply)
+    → (lag limit : ℕ) (j : Junk) → Holds d z (trailer z) (w .system) (w .history) (recover lag limit j ∷ [])
+    → let r = happens d z (w .system) (recover lag limit j) in Kept z (w .history) kept (r .system) (r .reply)
+recovery-keeps d z w kept low lag limit j v =
+    let r = happens d z (w .system) (recover lag limit j) in
+    kept-reply z (w .history) kept low (r .found) lag limit j (w .system) (r .system) (r .reply) (v .0 .reply)

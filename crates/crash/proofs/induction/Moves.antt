@@ -102,7 +102,7 @@ rest : (a b : Bool) → a ≡ true → (a && b) ≡ false → b ≡ false
 rest true b p q = q
 rest false b p q = clash false p refl
 
-positive : (n : ℕ) → (n ≡ 0 → ⊥) → 0 < n
+pub positive : (n : ℕ) → (n ≡ 0 → ⊥) → 0 < n
 positive n h = omega arith
 
 -- ---- each call
@@ -153,7 +153,8 @@ module _ (z : Sizes) (m : Machine) (L : ℕ) where
         let c₅ = none-holds _ _ _ (k .1) in
         let c₆ = none-holds _ _ _ (c₅ .1) in
         let c₈ = none-holds _ _ _ (c₆ .1) in
-        let c₉ = none-holds _ _ _ (c₈ .1) in
+        let c₁₅ = none-holds _ _ _ (c₈ .1) in
+        let c₉ = none-holds _ _ _ (c₁₅ .1) in
         let ok = txn-former q maxWrites z.words f (not-false (txnBy q maxWrites z.words f) (c₅ .0)) in
         cond-by (Move z m (logBy q L f)) (eqb n 0) _ _ (λ t. draining (k .0) (quiet q L f ok (c₆ .0) (eqb-true n 0 t)))
         (λ t.

@@ -20,12 +20,13 @@ use Rattle.log.specs.declared.Timestamp.the-variants.{At}
 use Rattle.store.specs.Machine.{Said, said}
 use Rattle.store.specs.declared.Answer.{Answer}
 use Rattle.recovery.specs.Recovery.{boundary, newBase, told}
+use Rattle.recovery.specs.declared.Recovered.{Recovered}
 use Rattle.crash.specs.Events.{Call, logBy, redo, validateBy, mark, drain, laneOf, Design, happens}
 use Rattle.crash.specs.Events.{Event, format, writeBack, call, recover, fails, failsInDrain, failsAfterDrain, failsInRecovery}
 use Rattle.crash.specs.Events.{Reply, answered, recovered, failed, ignored}
 use Rattle.crash.specs.History.{Newest, unset, closingAt, markAt, newestStamp, Page, History, blankPage, pageAt, opened, wordsBelow}
 use Rattle.crash.specs.History.{floorOnDrain, settled, stamped, released, isCounted, heldBy}
-use Rattle.crash.specs.History.{taken, restarted, afterCall, afterRecovered, fedAnswer, fedFailure, fed}
+use Rattle.crash.specs.History.{taken, restarted, afterCall, afterRecovered, fedAnswer, fedRecovery, fedFailure, fed}
 use Rattle.crash.specs.Corollaries.{World, nextWorld, worldAfter, isFormat, startsAnew, goesOn, isDrain}
 
 -- ---- pages
@@ -56,9 +57,9 @@ module _ (P : Page → Type 0) (blank : P blankPage) where
     | no d ↦ subst P (sym (getD-set-other ps M L p blankPage d)) (f L)
   ]
 
-  pub opened-page : (z : Sizes) (start : List ℕ) (clock L : ℕ) → P (pageAt (opened z start clock) L)
+  pub opened-page : (z : Sizes) (lag : ℕ) (start : List ℕ) (clock L : ℕ) → P (pageAt (opened z lag start clock) L)
   unfolding opened pageAt
-  opened-page z start clock L =
+  opened-page z lag start clock L =
       split (ltb L (z .lanes))
       (λ t. rw (getD-replicate (z .lanes) L blankPage blankPage (ltb-true L (z .lanes) t)) blank)
       (λ t. rw (List·getD-eq-default (replicate (z .lanes) blankPage) blankPage
@@ -77,9 +78,9 @@ abbrev pub MayStep : (ℕ → Type 0) → Event → Type 0
 MayStep may e = (c : Call) → e ≡ call c → isDrain c ≡ false → may (laneOf c)
 
 abbrev Starts : (History → Type 0) → Sizes → Event → Reply → Type 0
-Starts P z e r = startsAnew e r ≡ true → (start : List ℕ) (clock : ℕ) → P (opened z start clock)
+Starts P z e r = startsAnew e r ≡ true → (lag : ℕ) (start : List ℕ) (clock : ℕ) → P (opened z lag start clock)
 
-closes : (n : ℕ) → newestStamp (closingAt n) ≡ At n
+pub closes : (n : ℕ) → newestStamp (closingAt n) ≡ At n
 unfolding newestStamp
 closes n = refl
 
@@ -111,13 +112,13 @@ module _ (P : History → Type 0) (may : ℕ → Type 0) (k : Keeping P may) whe
   module _ (z : Sizes) where
     answered-keeps : (e : Event) (a : Answer) → MayStep may e → Starts P z e (answered a) → (h : History) → P h → P (fedAnswer z e a h)
     unfolding fedAnswer afterCall startsAnew isFormat
-    answered-keeps (format start) a m s h i =
+    answered-keeps (format lag start) a m s h i =
         split (said a .refused)
-        (λ t. subst (λ (b : Bool). P (cond b h (opened z start 0))) (sym t) i)
-        (λ t. subst (λ (b : Bool). P (cond b h (opened z start 0))) (sym t) (s (ap not t) start 0))
+        (λ t. subst (λ (b : Bool). P (cond b h (opened z lag start 0))) (sym t) i)
+        (λ t. subst (λ (b : Bool). P (cond b h (opened z lag start 0))) (sym t) (s (ap not t) lag start 0))
     answered-keeps (writeBack w) a m s h i = i
     answered-keeps (call c) a m s h i = one-of (said a .refused) _ _ i (taken-keeps c (m c refl) (said a) h i)
-    answered-keeps (recover limit j) a m s h i = i
+    answered-keeps (recover lag limit j) a m s h i = i
     answered-keeps (fails j) a m s h i = i
     answered-keeps (failsInDrain c ws j) a m s h i = i
     answered-keeps (failsAfterDrain c j) a m s h i = i
@@ -125,23 +126,34 @@ module _ (P : History → Type 0) (may : ℕ → Type 0) (k : Keeping P may) whe
 
     failed-keeps : (e : Event) (d : Bool) (h : History) → P h → P (fedFailure e d h)
     unfolding fedFailure
-    failed-keeps (format start) d h i = i
+    failed-keeps (format lag start) d h i = i
     failed-keeps (writeBack w) d h i = i
     failed-keeps (call c) d h i = i
-    failed-keeps (recover limit j) d h i = i
+    failed-keeps (recover lag limit j) d h i = i
     failed-keeps (fails j) d h i = i
     failed-keeps (failsInDrain c ws j) d h i = i
     failed-keeps (failsAfterDrain c j) d h i = one-of d _ _ (k .settles (laneOf c) h i) i
     failed-keeps (failsInRecovery n j) d h i = i
 
-    fed-keeps : (e : Event) (r : Reply) → MayStep may e → Starts P z e r → (found : List ℕ) (h : History) → P h → P (fed z e r found h)
-    unfolding fed afterRecovered restarted startsAnew
-    fed-keeps e (answered a) m s found h i = answered-keeps e a m s h i
-    fed-keeps e (recovered x) m s found h i =
-        let new : History = opened z (wordsBelow z (boundary z found) h) (newBase z found) in
-        split (told x .refused || told x .cut)
+    recovered-keeps : (e : Event) (r : Recovered) → Starts P z e (recovered r) → (found : List ℕ) (h : History) → P h → P (fedRecovery z e found r h)
+    unfolding fedRecovery afterRecovered restarted startsAnew
+    recovered-keeps (format lag start) r s found h i = i
+    recovered-keeps (writeBack w) r s found h i = i
+    recovered-keeps (call c) r s found h i = i
+    recovered-keeps (recover lag limit j) r s found h i =
+        let new : History = opened z lag (wordsBelow z (boundary z found) h) (newBase z found) in
+        split (told r .refused || told r .cut)
         (λ t. subst (λ (b : Bool). P (cond b h new)) (sym t) i)
-        (λ t. subst (λ (b : Bool). P (cond b h new)) (sym t) (s (ap not t) (wordsBelow z (boundary z found) h) (newBase z found)))
+        (λ t. subst (λ (b : Bool). P (cond b h new)) (sym t) (s (ap not t) lag (wordsBelow z (boundary z found) h) (newBase z found)))
+    recovered-keeps (fails j) r s found h i = i
+    recovered-keeps (failsInDrain c ws j) r s found h i = i
+    recovered-keeps (failsAfterDrain c j) r s found h i = i
+    recovered-keeps (failsInRecovery n j) r s found h i = i
+
+    fed-keeps : (e : Event) (r : Reply) → MayStep may e → Starts P z e r → (found : List ℕ) (h : History) → P h → P (fed z e r found h)
+    unfolding fed
+    fed-keeps e (answered a) m s found h i = answered-keeps e a m s h i
+    fed-keeps e (recovered x) m s found h i = recovered-keeps e x s found h i
     fed-keeps e (failed d) m s found h i = failed-keeps e d h i
     fed-keeps e ignored m s found h i = i
 
@@ -149,7 +161,7 @@ module _ (P : History → Type 0) (may : ℕ → Type 0) (k : Keeping P may) whe
 module _ (P : History → Type 0) (may : ℕ → Type 0) (k : Keeping P may) (d : Design) (z : Sizes) where
   -- of events that start anew where every start has the property, or that do not
   pub after-keeps : (w : World) (es : List Event) → All (MayStep may) es
-      → ((start : List ℕ) (clock : ℕ) → P (opened z start clock)) ⊎ (goesOn d z w es ≡ true) → P (w .history) → P (worldAfter d z w es .history)
+      → ((lag : ℕ) (start : List ℕ) (clock : ℕ) → P (opened z lag start clock)) ⊎ (goesOn d z w es ≡ true) → P (w .history) → P (worldAfter d z w es .history)
   unfolding worldAfter nextWorld goesOn
   after-keeps w [] nil s i = i
   after-keeps w (e ∷ es) (more m ms) (inl s) i =

@@ -2,7 +2,7 @@
 -- store of which the crash theorem holds. Assumes nothing.
 use mathlib.Core.Path.{_≡_, refl, ap, sym, subst, _∙_}
 use mathlib.Core.Logic.{inl, inr}
-use mathlib.Core.Bool.{true, not}
+use mathlib.Core.Bool.{true}
 use mathlib.Core.List.{List, [], _∷_, _++_}
 use Prim.Native.Nat.{ℕ, zero, suc, _+_, _≤_, _<_, min}
 use native.Mathlib.Omega.{arith}
@@ -16,9 +16,9 @@ use Rattle.image.specs.declared.Sizes.{Sizes}
 use Rattle.log.specs.inner.LogLaws.{at-one}
 use Rattle.log.specs.declared.Timestamp.{Timestamp}
 use Rattle.log.specs.declared.Timestamp.the-variants.{None, At}
-use Rattle.record.specs.Record.{lesser}
+use Rattle.record.specs.Record.{lesser, lagOk}
 use Rattle.store.specs.Machine.{Machine, said}
-use Rattle.store.specs.Calls.{formatRefusal}
+use Rattle.store.specs.Calls.{badLag, formatRefusal}
 use Rattle.crash.specs.Events.{Event, format, recover, live, Design, happens, afterFormat}
 use Rattle.crash.specs.History.{Newest, unset, closingAt, markAt, newestStamp, Page, History, blankPage, pageAt, opened, isBelow}
 use Rattle.crash.specs.History.{floorOr, floorOnDrain, settled, stamped, released, fedAnswer, fed, leastFloorOf}
@@ -128,10 +128,10 @@ rises-stamp c t p q l r n f =
     }
 
 -- ---- all pages, from Format on
-unfoldable Rising : History → Type 0
+pub Rising : History → Type 0
 Rising h = (L : ℕ) → Rises (h .clock) (pageAt h L)
 
-rising-keeping : Keeping Rising (λ M. Unit {0})
+pub rising-keeping : Keeping Rising (λ M. Unit {0})
 unfolding Rising settled stamped released pageAt
 rising-keeping =
     record {
@@ -148,9 +148,9 @@ rising-keeping =
           (record { floor-low = f M .floor-low; newest-low = f M .newest-low; rises = f M .rises }) f;
     }
 
-rising-opened : (z : Sizes) (start : List ℕ) (clock : ℕ) → Rising (opened z start clock)
+pub rising-opened : (z : Sizes) (lag : ℕ) (start : List ℕ) (clock : ℕ) → Rising (opened z lag start clock)
 unfolding Rising opened
-rising-opened z start clock L = opened-page (Rises clock) (rises-blank clock) z start clock L
+rising-opened z lag start clock L = opened-page (Rises clock) (rises-blank clock) z lag start clock L
 
 -- ---- all pages, with their floors above s
 record Above (s : ℕ) (p : Page) : Type 0 where
@@ -166,10 +166,10 @@ unfolding floorOr isBelow
 or-above None t s l e = lt-ltb s t l
 or-above (At b) t s l e = e
 
-unfoldable AllAbove : ℕ → History → Type 0
-AllAbove s h = (s ≤ h .clock) × ((L : ℕ) → Above s (pageAt h L))
+pub AllAbove : ℕ → History → Type 0
+AllAbove s h = (s < h .clock + 2) × ((L : ℕ) → Above s (pageAt h L))
 
-above-keeping : (s : ℕ) → Keeping (AllAbove s) (λ M. Unit {0})
+pub above-keeping : (s : ℕ) → Keeping (AllAbove s) (λ M. Unit {0})
 unfolding AllAbove settled stamped released pageAt
 above-keeping s =
     record {
@@ -183,7 +183,7 @@ above-keeping s =
             (i .1),
       );
       stamps = λ M u kind ks held txns h i.
-          let l : s < h .clock + 2 = omega (arith, i .0) in (
+          let l : s < h .clock + 2 = i .0 in (
             omega (arith, i .0),
             page-all (Above s) (above-blank s) (h .pages) M _
                 (record {
@@ -199,43 +199,47 @@ above-keeping s =
     }
 
 -- floors above s stay so, since drains do not lower them
-above-from : (s : ℕ) (h : History) → Rising h → s ≤ h .clock → isBelow (leastFloorOf (h .pages)) s ≡ true → AllAbove s h
+pub above-from : (s : ℕ) (h : History) → Rising h → s < h .clock + 2 → isBelow (leastFloorOf (h .pages)) s ≡ true → AllAbove s h
 unfolding Rising AllAbove pageAt
 above-from s h r l e = (l, λ L. let f = each-above (h .pages) s e L in record { floor = f; drained = r L .rises s f })
 
-above-least : (s : ℕ) (h : History) → AllAbove s h → isBelow (leastFloorOf (h .pages)) s ≡ true
+pub above-least : (s : ℕ) (h : History) → AllAbove s h → isBelow (leastFloorOf (h .pages)) s ≡ true
 unfolding AllAbove pageAt
 above-least s h i = least-above (h .pages) s (λ L. i .1 L .floor)
 
 -- ---- lists
-any-step : (es : List Event) → All (MayStep (λ M. Unit {0})) es
+pub any-step : (es : List Event) → All (MayStep (λ M. Unit {0})) es
 any-step [] = nil
 any-step (e ∷ es) = more (λ c p f. tt) (any-step es)
 
 -- Format is taken
-format-words : (z : Sizes) (start : List ℕ) (m : Machine) → formatRefusal z start m ≡ 0 → eqb (length start) (z .words) ≡ true
-unfolding formatRefusal
-format-words z start m e = not-false _ (none-holds _ _ _ (none-holds _ _ _ e .1) .0)
+format-words : (z : Sizes) (lag : ℕ) (start : List ℕ) (m : Machine) → formatRefusal z lag start m ≡ 0
+    → (eqb (length start) (z .words) ≡ true) × (lagOk lag ≡ true)
+unfolding formatRefusal badLag
+format-words z lag start m e =
+    let a = none-holds _ _ _ (none-holds _ _ _ e .1) in
+    (not-false _ (a .0), not-false _ (none-holds _ _ _ (a .1) .0))
 
-formatted : (d : Design) (z : Sizes) (start : List ℕ) (m : Machine) (h : History) → formatRefusal z start m ≡ 0
-    → Replied z (trailer z) h (format start) (live m) (happens d z (live m) (format start) .found) (happens d z (live m) (format start) .system)
-    (happens d z (live m) (format start) .reply)
-    → nextWorld d z (record { system = live m; history = h }) (format start) .history ≡ opened z start 0
+pub formatted : (d : Design) (z : Sizes) (lag : ℕ) (start : List ℕ) (m : Machine) (h : History) → formatRefusal z lag start m ≡ 0
+    → Replied z (trailer z) h (format lag start) (live m) (happens d z (live m) (format lag start) .found) (happens d z (live m) (format lag start) .system)
+    (happens d z (live m) (format lag start) .reply)
+    → nextWorld d z (record { system = live m; history = h }) (format lag start) .history ≡ opened z lag start 0
 unfolding nextWorld happens afterFormat fed fedAnswer trailer said
-formatted d z start m h ok v = rw (v, format-words z start m ok)
+formatted d z lag start m h ok v = let t = format-words z lag start m ok in rw (v, t .0, t .1)
 
 pub safe-from : (d : Design) → CrashTheorem d → SafeTheorem d
 unfolding CrashTheorem SafeTheorem worldAfter
-safe-from d theorem z start m h ok es fs s low above goes limit j =
+safe-from d theorem z lag start m h ok es fs s low above goes lag₁ limit j =
     let w : World = record { system = live m; history = h } in
-    let v = theorem z start m h ok (es ++ (fs ++ (recover limit j ∷ []))) in
-    let f = nextWorld d z w (format start) in
+    let v = theorem z lag start m h ok (es ++ (fs ++ (recover lag₁ limit j ∷ []))) in
+    let f = nextWorld d z w (format lag start) in
     let a = worldAfter d z f es in
     let b = worldAfter d z a fs in
     let r : Rising (a .history) = after-keeps Rising (λ M. Unit {0}) rising-keeping d z f es (any-step es)
-    (inl (rising-opened z)) (subst Rising (sym (formatted d z start m h ok (v .0 .reply))) (rising-opened z start 0)) in
+    (inl (rising-opened z)) (subst Rising (sym (formatted d z lag start m h ok (v .0 .reply))) (rising-opened z lag start 0)) in
     let i : AllAbove s (b .history) = after-keeps (AllAbove s) (λ M. Unit {0}) (above-keeping s) d z a fs (any-step fs)
-    (inr goes) (above-from s (a .history) r low above) in
-    recovery-keeps d z b (At (s + 1)) (λ t e. below-earlier _ s t (up-to s t e) (above-least s (b .history) i)) limit j
-    (holds-after d z (trailer z) a fs (recover limit j ∷ [])
-    (holds-after d z (trailer z) f es (fs ++ (recover limit j ∷ [])) (holds-next d z (trailer z) w (format start) (es ++ (fs ++ (recover limit j ∷ []))) v)))
+    (inr goes) (above-from s (a .history) r (omega (arith, low)) above) in
+    recovery-keeps d z b (At (s + 1)) (λ t e. below-earlier _ s t (up-to s t e) (above-least s (b .history) i)) lag₁ limit j
+    (holds-after d z (trailer z) a fs (recover lag₁ limit j ∷ [])
+    (holds-after d z (trailer z) f es (fs ++ (recover lag₁ limit j ∷ []))
+    (holds-next d z (trailer z) w (format lag start) (es ++ (fs ++ (recover lag₁ limit j ∷ []))) v)))

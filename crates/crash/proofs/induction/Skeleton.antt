@@ -15,8 +15,9 @@ use Rattle.image.specs.inner.ImageLaws.{buffers-in, format-good}
 use Rattle.image.specs.Flush.{flushed, writtenBack, drainedNvm}
 use Rattle.image.specs.inner.FlushLaws.{length-writtenBack, length-drainedNvm}
 use Rattle.image.specs.declared.Sizes.{Sizes}
+use Rattle.record.specs.Record.{lagOk}
 use Rattle.store.specs.Machine.{Machine, Step, firstCause, unless, said}
-use Rattle.store.specs.Calls.{badBuffers, started, startImage, drained, formatRefusal, formatStep, writeBackRefusal, writeBackStep}
+use Rattle.store.specs.Calls.{badBuffers, badLag, started, startImage, drained, formatRefusal, formatStep, writeBackRefusal, writeBackStep}
 use Rattle.store.specs.inner.FormatLaws.{length-startImage}
 use Rattle.store.specs.inner.StoreLaws.{format-checked}
 use Rattle.store.specs.declared.Answer.the-variants as answer
@@ -25,21 +26,21 @@ use Rattle.crash.specs.Events.{Call, drain, Junk, Event, format, writeBa
 use Rattle.crash.specs.Events.{System, live, down, nvmOf, vandzulge, happens, laneOf, callStep, isTaken, recoveryOf, fit, partlyDrained}
 use Rattle.crash.specs.Events.{bare, foundOr, afterStep, afterFormat, recoveredSystem, afterRecovery, afterFailure, notOffered}
 use Rattle.crash.specs.History.{History, opened, wordsBelow, settled, restarted, taken, afterCall}
-use Rattle.crash.specs.History.{afterRecovered, fedAnswer, fedFailure, fed, leastFloorOf}
+use Rattle.crash.specs.History.{afterRecovered, fedAnswer, fedRecovery, fedFailure, fed, leastFloorOf}
 use Rattle.crash.specs.Theorem.{Live, endOf, InStep, Answers, formatAnswer, NotBelow, RecoveryReply, Replied, Holds, CrashTheorem}
 use Rattle.crash.proofs.induction.Moves.{Known}
 use Rattle.recovery.specs.inner.AgainLaws.{recoveredImage}
 use Rattle.recovery.specs.inner.FreshLaws.{recovered-length, recovered-none}
 use Rattle.crash.proofs.lane.Ends.{Form, Tailed, same-end, length-end, ends-known}
 use Rattle.crash.proofs.recovery.Restart.{recovery-taken, cut-taken, length-fitted, length-recoveredNvm, cut-end}
-use Rattle.crash.proofs.recovery.Restart.{Leads, leads-self, leads-cut, leads-length, Restarts, short, finished, restarts}
+use Rattle.crash.proofs.recovery.Restart.{Leads, leads-self, leads-cut, leads-length, Restarts, unfit, short, finished, restarts}
 use Rattle.crash.proofs.induction.Fed.{taken-known, drain-taken, call-length}
 
 -- ---- what is left to prove
 -- of an invariant `Inv` of running store and history, and of what is known of the cells when power fails, `AtCut`
 pub record Laws (z : Sizes) (Inv : Machine → History → Type 0) (AtCut : List ℕ → History → Type 0) : Type 0 where
   -- Format
-  pub formats : (start : List ℕ) → length start ≡ z.words → Inv (started 0 (startImage z start)) (opened z start 0)
+  pub formats : (lag : ℕ) (start : List ℕ) → lagOk lag ≡ true → length start ≡ z.words → Inv (started lag 0 (startImage z start)) (opened z lag start 0)
   -- a running store
   pub lives : (m : Machine) (h : History) → Inv m h → Live z h m
   pub tails : (m : Machine) (h : History) → Inv m h → Tailed z m
@@ -56,7 +57,8 @@ pub record Laws (z : Sizes) (Inv : Machine → History → Type 0) (AtCut : List
   pub words : (cells : List ℕ) (h : History) → AtCut cells h → dataOf z (recoveredImage z cells) ≡ wordsBelow z (boundary z cells) h
   pub floors : (cells : List ℕ) (h : History) → AtCut cells h → NotBelow (leastFloorOf (h .pages)) (boundary z cells)
   -- a finished recovery is a start
-  pub restarts : (cells : List ℕ) (h : History) → AtCut cells h → Inv (started (newBase z cells) (recoveredImage z cells)) (restarted z cells h)
+  pub restarts : (lag : ℕ) → lagOk lag ≡ true → (cells : List ℕ) (h : History) → AtCut cells h
+      → Inv (started lag (newBase z cells) (recoveredImage z cells)) (restarted z lag cells h)
 
 -- ---- three buffers as long as an image with this end
 pub record Sized (z : Sizes) (end : List ℕ) (m : Machine) : Type 0 where
@@ -64,24 +66,26 @@ pub record Sized (z : Sizes) (end : List ℕ) (m : Machine) : Type 0 where
   pub cache : length (m .cache) ≡ length (m .nvm)
   pub flags : length (m .flags) ≡ length (m .nvm)
 
--- ---- Format: refused where the image has no trailer, and for the start words
-formats-at : (z : Sizes) (start : List ℕ) (m : Machine) → formatOk z (length (m .cache)) (length (m .nvm)) (length (m .flags)) ≡ true
-    → formatStep z start m
-    ≡ cond (eqb (length start) (z .words)) (record { answer = answer.Done; machine = started 0 (startImage z start) })
-    (record { answer = answer.Refused 1; machine = m })
-unfolding formatStep formatRefusal firstCause unless
-formats-at z start m b = split (eqb (length start) (z .words)) (λ e. rw (b, e)) (λ e. rw (b, e))
+-- ---- Format: refused where the image has no trailer, for the start words and for the lag limit
+unfoldable formattedAs : Sizes → (lag : ℕ) → (start : List ℕ) → Machine → Step
+formattedAs z lag start m =
+    cond (lagOk lag) (record { answer = answer.Done; machine = started lag 0 (startImage z start) }) (record { answer = answer.Refused 16; machine = m })
 
-format-answer : (z : Sizes) (ok : sizesOk z ≡ true) (end start : List ℕ) (m : Machine) → Form z end → Sized z end m
-    → formatStep z start m
-    ≡ cond (eqb (length end) 4 && eqb (length start) (z .words)) (record { answer = answer.Done; machine = started 0 (startImage z start) })
-    (record { answer = answer.Refused 1; machine = m })
+formats-at : (z : Sizes) (lag : ℕ) (start : List ℕ) (m : Machine) → formatOk z (length (m .cache)) (length (m .nvm)) (length (m .flags)) ≡ true
+    → formatStep z lag start m ≡ cond (eqb (length start) (z .words)) (formattedAs z lag start m) (record { answer = answer.Refused 1; machine = m })
+unfolding formatStep formatRefusal badLag firstCause unless formattedAs
+formats-at z lag start m b =
+    split (eqb (length start) (z .words)) (λ e. split (lagOk lag) (λ t. rw (b, e, t)) (λ t. rw (b, e, t))) (λ e. rw (b, e))
+
+format-answer : (z : Sizes) (ok : sizesOk z ≡ true) (end : List ℕ) (lag : ℕ) (start : List ℕ) (m : Machine) → Form z end → Sized z end m
+    → formatStep z lag start m
+    ≡ cond (eqb (length end) 4 && eqb (length start) (z .words)) (formattedAs z lag start m) (record { answer = answer.Refused 1; machine = m })
 unfolding formatStep formatRefusal formatOk allAre imageLength trailer firstCause unless
-format-answer z ok end start m (inl e) s =
+format-answer z ok end lag start m (inl e) s =
     rw (e, ok, ne-eqb (length (m .cache)) (formerLength z + 4) (λ p. omega (arith, s .cache, s .nvm, ap length e)))
-format-answer z ok end start m (inr e) s =
+format-answer z ok end lag start m (inr e) s =
     let n : length (m .nvm) ≡ formerLength z + 4 = omega (arith, s .nvm, ap length e) in
-    formats-at z start m (format-good z _ _ _ ok (record { in-cache = s .cache ∙ n; in-nvm = n; in-flags = s .flags ∙ n })) ∙ rw e
+    formats-at z lag start m (format-good z _ _ _ ok (record { in-cache = s .cache ∙ n; in-nvm = n; in-flags = s .flags ∙ n })) ∙ rw e
 
 -- ---- write-back
 abbrev written : ℕ → Machine → Machine
@@ -176,12 +180,13 @@ module _ (z : Sizes) (ok : sizesOk z ≡ true) (end : List ℕ) (form : Form z e
         }
 
   -- a recovery by a machine whose cells lead where the cut cells lead
-  module _ (limit : ℕ) (m : Machine) (y : System) (i : Junk) (found : List ℕ) (h : History) (a : AtCut found h) (l : Leads z (m .nvm) found)
-      (s : Sized z end m) (e : endOf z (m .nvm) ≡ end) where
-    recovers : {r : Restarted} → Restarts z limit found m r
-        → RecoveryReply z h limit (m .nvm) found (recoveredSystem y (fit (m .nvm) i) found r (r .answer)) (r .answer)
-        × Good (recoveredSystem y (fit (m .nvm) i) found r (r .answer)) (afterRecovered z found (r .answer) h)
+  module _ (lag limit : ℕ) (m : Machine) (y : System) (i : Junk) (found : List ℕ) (h : History) (g : Good y h) (a : AtCut found h)
+      (l : Leads z (m .nvm) found) (s : Sized z end m) (e : endOf z (m .nvm) ≡ end) where
+    recovers : {r : Restarted} → Restarts z lag limit found m r
+        → RecoveryReply z h lag limit (m .nvm) found (recoveredSystem y (fit (m .nvm) i) found r (r .answer)) (r .answer)
+        × Good (recoveredSystem y (fit (m .nvm) i) found r (r .answer)) (afterRecovered z lag found (r .answer) h)
     unfolding recoveredSystem afterRecovered told Good foundOr started fit
+    recovers (unfit e′) = (record { gives = e′; leaves = tt }, g)
     recovers (short e′ l′) = (
       record { gives = e′; leaves = tt },
       record {
@@ -192,7 +197,7 @@ module _ (z : Sizes) (ok : sizesOk z ≡ true) (end : List ℕ) (form : Form z e
         flags = length-fitted (length (m .nvm)) (i .flags) ∙ sym (length-recoveredNvm z limit (m .nvm));
       },
     )
-    recovers (finished e′) = (
+    recovers (finished t e′) = (
       record {
         gives = e′;
         leaves = record {
@@ -202,33 +207,37 @@ module _ (z : Sizes) (ok : sizesOk z ≡ true) (end : List ℕ) (form : Form z e
           none = recovered-none z found (laws .size found h a);
         };
       },
-      record { inv = laws .restarts found h a; long = recovered-length z found ∙ leads-length z l ∙ s .nvm },
+      record { inv = laws .restarts lag t found h a; long = recovered-length z found ∙ leads-length z l ∙ s .nvm },
     )
 
     -- by the call that fits
-    by-call : let r = recoveryOf vandzulge z limit m in
-        RecoveryReply z h limit (m .nvm) found (recoveredSystem y (fit (m .nvm) i) found r (r .answer)) (r .answer)
-        × Good (recoveredSystem y (fit (m .nvm) i) found r (r .answer)) (afterRecovered z found (r .answer) h)
+    by-call : let r = recoveryOf vandzulge z lag limit m in
+        RecoveryReply z h lag limit (m .nvm) found (recoveredSystem y (fit (m .nvm) i) found r (r .answer)) (r .answer)
+        × Good (recoveredSystem y (fit (m .nvm) i) found r (r .answer)) (afterRecovered z lag found (r .answer) h)
     by-call =
         recovers
-        (subst (Restarts z limit found m) (sym (recovery-taken z ok m (l .size) (s .cache) (s .flags) (l .even) limit (rw e form))) (restarts z limit m l))
+        (subst (Restarts z lag limit found m) (sym (recovery-taken z ok m (l .size) (s .cache) (s .flags) (l .even) lag limit (rw e form)))
+        (restarts z lag limit m l))
 
   -- Format by a machine whose buffers are as long as the image
-  module _ (start : List ℕ) (m : Machine) (y : System) (h : History) (g : Good y h) (s : Sized z end m) where
-    formatted : (formatStep z start m .answer ≡ formatAnswer z end start)
-        × Good (cond (said (formatStep z start m .answer) .refused) y (live (formatStep z start m .machine)))
-        (cond (said (formatStep z start m .answer) .refused) h (opened z start 0))
-    unfolding said Good started imageLength
+  module _ (lag : ℕ) (start : List ℕ) (m : Machine) (y : System) (h : History) (g : Good y h) (s : Sized z end m) where
+    formatted : (formatStep z lag start m .answer ≡ formatAnswer z end lag start)
+        × Good (cond (said (formatStep z lag start m .answer) .refused) y (live (formatStep z lag start m .machine)))
+        (cond (said (formatStep z lag start m .answer) .refused) h (opened z lag start 0))
+    unfolding said Good started imageLength formattedAs
     formatted =
-        rw (format-answer z ok end start m form s)
+        rw (format-answer z ok end lag start m form s)
         (split (eqb (length end) 4 && eqb (length start) (z .words))
-        (λ e. rw e (refl, begins (eqb-true (length end) 4 (and-left _ _ e)) (eqb-true (length start) (z .words) (and-right (eqb (length end) 4) _ e))))
+        (λ e. rw e
+        (split (lagOk lag)
+        (λ t. rw t (refl, begins t (eqb-true (length end) 4 (and-left _ _ e)) (eqb-true (length start) (z .words) (and-right (eqb (length end) 4) _ e))))
+        (λ t. rw t (refl, g))))
         (λ e. rw e (refl, g)))
       where
-        begins : length end ≡ 4 → length start ≡ z.words → Runs (started 0 (startImage z start)) (opened z start 0)
-        begins f w =
+        begins : lagOk lag ≡ true → length end ≡ 4 → length start ≡ z.words → Runs (started lag 0 (startImage z start)) (opened z lag start 0)
+        begins t f w =
             record {
-              inv = laws .formats start w;
+              inv = laws .formats lag start t w;
               long = length-startImage z start w ∙ (let q : formerLength z + 4 ≡ formerLength z + length end = omega arith in q);
             }
 
@@ -262,9 +271,9 @@ module _ (z : Sizes) (ok : sizesOk z ≡ true) (end : List ℕ) (form : Form z e
     lost-now : (j : Junk) → Lost (m .nvm) (fit (m .nvm) j) (m .nvm) h
     lost-now j = loses (m .nvm) (m .nvm) j h refl (cells-now m h v)
 
-    on-format : (start : List ℕ) → Kept (live m) h (format start)
+    on-format : (lag : ℕ) (start : List ℕ) → Kept (live m) h (format lag start)
     unfolding happens vandzulge afterFormat fed fedAnswer Good
-    on-format start = let r = formatted start m (live m) h v (sized-now m h v) in record { reply = r .0; good = r .1 }
+    on-format lag start = let r = formatted lag start m (live m) h v (sized-now m h v) in record { reply = r .0; good = r .1 }
 
     on-write : (i : ℕ) → Kept (live m) h (writeBack i)
     unfolding happens vandzulge afterStep fed fedAnswer Good
@@ -285,11 +294,11 @@ module _ (z : Sizes) (ok : sizesOk z ≡ true) (end : List ℕ) (form : Form z e
           good = record { inv = laws .calls m h c (v .inv); long = call-length z m c ∙ v .long };
         }
 
-    on-recover : (limit : ℕ) (j : Junk) → Kept (live m) h (recover limit j)
-    unfolding happens vandzulge afterRecovery fed nvmOf Good
-    on-recover limit j =
+    on-recover : (lag limit : ℕ) (j : Junk) → Kept (live m) h (recover lag limit j)
+    unfolding happens vandzulge afterRecovery fed fedRecovery nvmOf Good
+    on-recover lag limit j =
         let l = lost-now j in
-        let r = by-call limit m (live m) j (m .nvm) h (l .cut) (l .leads) (sized-now m h v) (l .ends) in
+        let r = by-call lag limit m (live m) j (m .nvm) h v (l .cut) (l .leads) (sized-now m h v) (l .ends) in
         record { reply = r .0; good = r .1 }
 
     on-failure : (j : Junk) → Kept (live m) h (fails j)
@@ -329,17 +338,17 @@ module _ (z : Sizes) (ok : sizesOk z ≡ true) (end : List ℕ) (form : Form z e
 
   -- of a store without a record
   module _ (nvm : List ℕ) (j : Junk) (found : Option (List ℕ)) (h : History) (l : Lost nvm j (foundOr nvm found) h) where
-    down-format : (start : List ℕ) → Kept (down nvm j found) h (format start)
+    down-format : (lag : ℕ) (start : List ℕ) → Kept (down nvm j found) h (format lag start)
     unfolding happens vandzulge afterFormat fed fedAnswer bare Good
-    down-format start =
-        let r = formatted start (bare nvm j) (down nvm j found) h l (bare-sized nvm j (foundOr nvm found) h l) in
+    down-format lag start =
+        let r = formatted lag start (bare nvm j) (down nvm j found) h l (bare-sized nvm j (foundOr nvm found) h l) in
         record { reply = r .0; good = r .1 }
 
-    down-recover : (limit : ℕ) (i : Junk) → Kept (down nvm j found) h (recover limit i)
-    unfolding happens vandzulge afterRecovery fed nvmOf bare Good
-    down-recover limit i =
+    down-recover : (lag limit : ℕ) (i : Junk) → Kept (down nvm j found) h (recover lag limit i)
+    unfolding happens vandzulge afterRecovery fed fedRecovery nvmOf bare Good
+    down-recover lag limit i =
         let s = bare-sized nvm j (foundOr nvm found) h l in
-        let r = by-call limit (bare nvm j) (down nvm j found) i (foundOr nvm found) h (l .cut) (l .leads) s (l .ends) in
+        let r = by-call lag limit (bare nvm j) (down nvm j found) i (foundOr nvm found) h l (l .cut) (l .leads) s (l .ends) in
         record { reply = r .0; good = r .1 }
 
     down-fails : (i : Junk) → Kept (down nvm j found) h (fails i)
@@ -363,18 +372,18 @@ module _ (z : Sizes) (ok : sizesOk z ≡ true) (end : List ℕ) (form : Form z e
 
   event : (y : System) (h : History) (e : Event) → Good y h → Kept y h e
   unfolding Good happens notOffered fed
-  event (live m) h (format start) v = on-format m h v start
+  event (live m) h (format lag start) v = on-format m h v lag start
   event (live m) h (writeBack i) v = on-write m h v i
   event (live m) h (call c) v = on-call m h v c
-  event (live m) h (recover limit j) v = on-recover m h v limit j
+  event (live m) h (recover lag limit j) v = on-recover m h v lag limit j
   event (live m) h (fails j) v = on-failure m h v j
   event (live m) h (failsInDrain c is j) v = on-part m h v c is j
   event (live m) h (failsAfterDrain c j) v = on-drain m h v c j
   event (live m) h (failsInRecovery n j) v = on-failed-recovery m h v n j
-  event (down nvm j found) h (format start) l = down-format nvm j found h l start
+  event (down nvm j found) h (format lag start) l = down-format nvm j found h l lag start
   event (down nvm j found) h (writeBack i) l = record { reply = tt; good = l }
   event (down nvm j found) h (call c) l = record { reply = tt; good = l }
-  event (down nvm j found) h (recover limit i) l = down-recover nvm j found h l limit i
+  event (down nvm j found) h (recover lag limit i) l = down-recover nvm j found h l lag limit i
   event (down nvm j found) h (fails i) l = down-fails nvm j found h l i
   event (down nvm j found) h (failsInDrain c is i) l = record { reply = tt; good = l }
   event (down nvm j found) h (failsAfterDrain c i) l = record { reply = tt; good = l }
@@ -403,22 +412,22 @@ module _ (Inv : Sizes → Machine → History → Type 0) (AtCut : Sizes → Lis
       (in-step z ok end f (Inv z) (AtCut z) (laws z ok) (live m) h g, all-events z ok end f (Inv z) (AtCut z) (laws z ok) (live m) h es g)
 
   pub crash-theorem-from : CrashTheorem vandzulge
-  unfolding CrashTheorem vandzulge happens afterFormat fed fedAnswer said started trailer imageLength
-  crash-theorem-from z start m h e es =
-      let f = format-checked z m start e in
+  unfolding CrashTheorem vandzulge happens afterFormat fed fedAnswer said started trailer imageLength formattedAs
+  crash-theorem-from z lag start m h e es =
+      let f = format-checked z m lag start e in
       let ok = f .0 in
-      let v = laws z ok .formats start (f .2) in
-      let w : formatStep z start m ≡ record { answer = answer.Done; machine = started 0 (startImage z start) }
-      = formats-at z start m (format-good z _ _ _ ok (f .1)) ∙ rw (eq-eqb (length start) (z .words) (f .2)) in
-      let g = starts-from z ok (trailer z) (inr refl) (started 0 (startImage z start)) (opened z start 0) v (length-startImage z start (f .2)) es in (
+      let v = laws z ok .formats lag start (f .3) (f .2) in
+      let w : formatStep z lag start m ≡ record { answer = answer.Done; machine = started lag 0 (startImage z start) }
+      = formats-at z lag start m (format-good z _ _ _ ok (f .1)) ∙ rw (eq-eqb (length start) (z .words) (f .2), f .3) in
+      let g = starts-from z ok (trailer z) (inr refl) (started lag 0 (startImage z start)) (opened z lag start 0) v (length-startImage z start (f .2)) es in (
         record {
-          reply = ap (λ (s : Step). s .answer) w ∙ rw (eq-eqb (length start) (z .words) (f .2));
+          reply = ap (λ (s : Step). s .answer) w ∙ rw (eq-eqb (length start) (z .words) (f .2), f .3);
           store = subst (λ (s : Step).
-              InStep z (trailer z) (cond (said (s .answer) .refused) h (opened z start 0)) (cond (said (s .answer) .refused) (live m) (live (s .machine))))
+              InStep z (trailer z) (cond (said (s .answer) .refused) h (opened z lag start 0)) (cond (said (s .answer) .refused) (live m) (live (s .machine))))
               (sym w) (g .0);
         },
         subst
             (λ (s : Step). Holds vandzulge z (trailer z) (cond (said (s .answer) .refused) (live m) (live (s .machine)))
-            (cond (said (s .answer) .refused) h (opened z start 0)) es)
+            (cond (said (s .answer) .refused) h (opened z lag start 0)) es)
             (sym w) (g .1),
       )

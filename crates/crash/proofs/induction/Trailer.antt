@@ -33,21 +33,21 @@ sized z nvm its = omega (arith, length-end z nvm, ap length its)
 
 -- ---- a recovery, by the call that fits
 module _ (z : Sizes) (m : Machine) (its : endOf z (m .nvm) ≡ trailer z) where
-  leaves : (limit number : ℕ) (y : System) (j : Junk) (found : List ℕ) → endOf z (nvmOf y) ≡ trailer z
-      → let r = recoveredBy z limit number m in endOf z (nvmOf (recoveredSystem y j found r (r .answer))) ≡ trailer z
+  leaves : (lag limit number : ℕ) (y : System) (j : Junk) (found : List ℕ) → endOf z (nvmOf y) ≡ trailer z
+      → let r = recoveredBy z lag limit number m in endOf z (nvmOf (recoveredSystem y j found r (r .answer))) ≡ trailer z
   unfolding recoveredBy recoveredSystem nvmOf calls.started
-  leaves limit number y j found e =
+  leaves lag limit number y j found e =
       split (eqb number 0)
       (λ t. rw t (split (allMade z limit (m .nvm)) (λ a. rw a (cut-end z limit (m .nvm) ∙ its)) (λ a. rw a (cut-end z limit (m .nvm) ∙ its))))
       (λ t. rw t e)
 
-  recovers : (limit : ℕ) (y : System) (j : Junk) (found : List ℕ) → endOf z (nvmOf y) ≡ trailer z
-      → let r = recoveryOf vandzulge z limit m in endOf z (nvmOf (recoveredSystem y j found r (r .answer))) ≡ trailer z
+  recovers : (lag limit : ℕ) (y : System) (j : Junk) (found : List ℕ) → endOf z (nvmOf y) ≡ trailer z
+      → let r = recoveryOf vandzulge z lag limit m in endOf z (nvmOf (recoveredSystem y j found r (r .answer))) ≡ trailer z
   unfolding recoveryOf isFormer vandzulge recoverReadStep
-  recovers limit y j found e =
+  recovers lag limit y j found e =
       let size = sized z (m .nvm) its in
       rw (ne-eqb (length (m .nvm)) (formerLength z) (not-former z (m .nvm) size its), end-sizes z (m .nvm) size its)
-      (leaves limit (recoverReadRefusal m) y j found e)
+      (leaves lag limit (recoverReadRefusal lag m) y j found e)
 
 -- one that power cuts short
 cuts : (z : Sizes) (n : ℕ) (nvm : List ℕ) → endOf z nvm ≡ trailer z → endOf z (cutShortOf vandzulge z n nvm) ≡ trailer z
@@ -82,20 +82,20 @@ module _ (z : Sizes) (m : Machine) (its : endOf z (m .nvm) ≡ trailer z) (none 
 
 pub trailer-theorem : TrailerTheorem vandzulge
 unfolding TrailerTheorem happens vandzulge mayStore afterStep afterRecovery afterFailure notOffered nvmOf bare
-trailer-theorem z (live m) (format start) s its none = clash true refl s
+trailer-theorem z (live m) (format lag start) s its none = clash true refl s
 trailer-theorem z (live m) (writeBack i) s its none = clash true refl s
 trailer-theorem z (live m) (call c) s its none = moves z m its none (call-moves z m c)
-trailer-theorem z (live m) (recover limit j) s its none = recovers z m its limit (live m) _ (m .nvm) its
+trailer-theorem z (live m) (recover lag limit j) s its none = recovers z m its lag limit (live m) _ (m .nvm) its
 trailer-theorem z (live m) (fails j) s its none = its
 trailer-theorem z (live m) (failsInDrain c is j) s its none =
     split (isTaken vandzulge z c m) (λ t. rw t (partly z m its none (laneOf c) is (m .nvm) its)) (λ t. rw t its)
 trailer-theorem z (live m) (failsAfterDrain c j) s its none =
     split (isTaken vandzulge z c m) (λ t. rw t (drains z m its none (laneOf c) (taken-known z c m t))) (λ t. rw t its)
 trailer-theorem z (live m) (failsInRecovery n j) s its none = cuts z n (m .nvm) its
-trailer-theorem z (down nvm j found) (format start) s its none = clash true refl s
+trailer-theorem z (down nvm j found) (format lag start) s its none = clash true refl s
 trailer-theorem z (down nvm j found) (writeBack i) s its none = clash true refl s
 trailer-theorem z (down nvm j found) (call c) s its none = its
-trailer-theorem z (down nvm j found) (recover limit k) s its none = recovers z (bare nvm j) its limit (down nvm j found) _ _ its
+trailer-theorem z (down nvm j found) (recover lag limit k) s its none = recovers z (bare nvm j) its lag limit (down nvm j found) _ _ its
 trailer-theorem z (down nvm j found) (fails k) s its none = its
 trailer-theorem z (down nvm j found) (failsInDrain c is k) s its none = its
 trailer-theorem z (down nvm j found) (failsAfterDrain c k) s its none = its

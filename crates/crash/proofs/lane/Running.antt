@@ -58,7 +58,7 @@ updated-other M t ts L d = rw (ne-eqb M L (λ e. d (sym e)))
 abbrev pub startTrack : Sizes → List ℕ → ℕ → Track
 startTrack z image L = record { hist = replicate z.slots blank; gs = []; prior = replicate z.slots blank; priors = []; was = logOf z L image }
 
-module _ (z : Sizes) (r : InRange z) (base : ℕ) (image : List ℕ) (even : base % 2 ≡ 0) (len : formerLength z ≤ length image) (form : Form z (endOf z image))
+module _ (z : Sizes) (r : InRange z) (lag base : ℕ) (image : List ℕ) (even : base % 2 ≡ 0) (len : formerLength z ≤ length image) (form : Form z (endOf z image))
     (at : baseOf image ≡ base)
     (zero : (L : ℕ) → L < z.lanes → logOf z L image ≡ replicate (2 * z.slots) 0) where
   start-cursor : cursorAt z.slots (length (replicate z.slots blank)) ≡ cursorOf startLane
@@ -67,7 +67,7 @@ module _ (z : Sizes) (r : InRange z) (base : ℕ) (image : List ℕ) (even : bas
       let p : 0 < z.slots = omega (arith, r .slots-low) in
       rw (length-replicate z.slots blank, mod-self z.slots, div-self p)
 
-  start-lane : (L : ℕ) → L < z.lanes → LaneLog z L (started base image) (startTrack z image L)
+  start-lane : (L : ℕ) → L < z.lanes → LaneLog z L (started lag base image) (startTrack z image L)
   unfolding started startRecord newestIn floorSince giving startLane
   start-lane L h =
       let w = written-start z (baseOf image) base (logOf z L image) r (λ j k. rw (zero L h) (getD-replicate (2 * z.slots) j 0 0 k)) in
@@ -76,12 +76,12 @@ module _ (z : Sizes) (r : InRange z) (base : ℕ) (image : List ℕ) (even : bas
         before = w;
         since = level;
         mem = mem-same z L image (replicate (length image) 0) image (λ j k. refl);
-        cursor = rw (lane-start z base (r .lanes-high) L h) (sym start-cursor);
-        floor = rw (lane-start z base (r .lanes-high) L h);
-        holding = rw (lane-start z base (r .lanes-high) L h) idle;
+        cursor = rw (lane-start z lag base (r .lanes-high) L h) (sym start-cursor);
+        floor = rw (lane-start z lag base (r .lanes-high) L h);
+        holding = rw (lane-start z lag base (r .lanes-high) L h) idle;
       }
 
-  pub running-start : Running z (started base image) (startTrack z image)
+  pub running-start : Running z (started lag base image) (startTrack z image)
   unfolding started startRecord
   running-start =
       record {

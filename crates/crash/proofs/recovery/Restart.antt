@@ -1,8 +1,8 @@
--- Recovery, by the call that fits the image: never refused on an even base, and, however often it is cut short, it leads to the image of the cut cells.
--- Assumes nothing.
+-- Recovery, by the call that fits the image: on an even base refused for its lag limit alone, and, however often it is cut short, it leads to the image
+-- of the cut cells. Assumes nothing.
 use mathlib.Core.Path.{_≡_, refl, ap, _∙_, sym}
 use mathlib.Core.Logic.{_⊎_, inl, inr}
-use mathlib.Core.Bool.{true, false}
+use mathlib.Core.Bool.{Bool, true, false, cond, not}
 use mathlib.Core.List.{List, [], _++_}
 use Prim.Native.Nat.{ℕ, _%_, _≤_}
 use native.Mathlib.Omega.{arith}
@@ -17,13 +17,14 @@ use Rattle.image.specs.Stores.{stored}
 use Rattle.image.specs.inner.StoresLaws.{length-stored}
 use Rattle.image.specs.declared.Sizes.{Sizes}
 use Rattle.store.specs.Machine.{Machine, firstCause}
-use Rattle.store.specs.Calls.{started}
+use Rattle.record.specs.Record.{lagOk}
+use Rattle.store.specs.Calls.{badLag, started}
 use Rattle.store.specs.inner.StoreLaws.{first-none}
 use Rattle.recovery.specs.Recovery.{boundary, undoStores, newBase, tornIn, recoveryStores, recoveredNvm, allMade, Restarted, recoveredBy}
 use Rattle.recovery.specs.Recovery.{oddBase, recoverRefusal, recoverStep, recoverReadRefusal, recoverReadStep}
 use Rattle.recovery.specs.declared.Finished.{Finished}
 use Rattle.recovery.specs.declared.Recovered.the-variants as Recovered
-use Rattle.recovery.specs.declared.Recovered.the-variants.{Cut}
+use Rattle.recovery.specs.declared.Recovered.the-variants.{Refused, Cut}
 use Rattle.crash.specs.Events.{vandzulge, isFormer, recoveryOf, cutShortOf, fitted}
 use Rattle.crash.specs.Theorem.{endOf, recoveryAnswer}
 use Rattle.recovery.specs.inner.SequenceLaws.{newBase-even}
@@ -36,25 +37,31 @@ pub not-former : (z : Sizes) (image : List ℕ) → formerLength z ≤ length im
 unfolding imageLength
 not-former z image size e n = omega (arith, end-sized z image size e)
 
--- ---- not refused, by the call that fits
+lag-refusal : (b : Bool) → _≡_ {A = ℕ} (cond (not b) 16 0) (cond b 0 16)
+lag-refusal true = refl
+lag-refusal false = refl
+
+-- ---- not refused but for the lag limit, by the call that fits
 module _ (z : Sizes) (ok : sizesOk z ≡ true) (m : Machine) (size : formerLength z ≤ length (m .nvm))
-    (cache : length (m .cache) ≡ length (m .nvm)) (flags : length (m .flags) ≡ length (m .nvm)) (even : baseOf (m .nvm) % 2 ≡ 0) where
-  given-taken : endOf z (m .nvm) ≡ [] → recoverRefusal z m ≡ 0
-  unfolding recoverRefusal firstCause oddBase
+    (cache : length (m .cache) ≡ length (m .nvm)) (flags : length (m .flags) ≡ length (m .nvm)) (even : baseOf (m .nvm) % 2 ≡ 0) (lag : ℕ) where
+  given-taken : endOf z (m .nvm) ≡ [] → recoverRefusal z lag m ≡ cond (lagOk lag) 0 16
+  unfolding recoverRefusal firstCause badLag oddBase
   given-taken e =
       let n = end-none z (m .nvm) size e in
       rw (former-good z _ _ _ ok (record { in-cache = cache ∙ n; in-nvm = n; in-flags = flags ∙ n }), ne-eqb (baseOf (m .nvm) % 2) 1 (λ p. omega arith))
+      (lag-refusal (lagOk lag))
 
-  told-taken : endOf z (m .nvm) ≡ trailer z → recoverReadRefusal m ≡ 0
-  unfolding recoverReadRefusal firstCause oddBase
+  told-taken : endOf z (m .nvm) ≡ trailer z → recoverReadRefusal lag m ≡ cond (lagOk lag) 0 16
+  unfolding recoverReadRefusal firstCause badLag oddBase
   told-taken e =
       rw (
         all-good _ _ _ _ (record { in-cache = cache; in-nvm = refl; in-flags = flags }),
         end-ok z (m .nvm) size e ok,
         ne-eqb (baseOf (m .nvm) % 2) 1 (λ p. omega arith),
       )
+      (lag-refusal (lagOk lag))
 
-  pub recovery-taken : (limit : ℕ) → Form z (endOf z (m .nvm)) → recoveryOf vandzulge z limit m ≡ recoveredBy z limit 0 m
+  pub recovery-taken : (limit : ℕ) → Form z (endOf z (m .nvm)) → recoveryOf vandzulge z lag limit m ≡ recoveredBy z lag limit (cond (lagOk lag) 0 16) m
   unfolding recoveryOf isFormer vandzulge recoverStep recoverReadStep
   recovery-taken limit (inl e) = rw (eq-eqb (length (m .nvm)) (formerLength z) (end-none z (m .nvm) size e), given-taken e)
   recovery-taken limit (inr e) =
@@ -95,30 +102,34 @@ pub recovered-end : (z : Sizes) (nvm : List ℕ) → endOf z (recoveredImage z n
 recovered-end z nvm = end-stored z nvm (stores-within z nvm)
 
 -- ---- what the call leaves
-pub finished-step : (z : Sizes) (limit : ℕ) (m : Machine) → allMade z limit (m .nvm) ≡ true
-    → recoveredBy z limit 0 m
+pub finished-step : (z : Sizes) (lag limit : ℕ) (m : Machine) → allMade z limit (m .nvm) ≡ true
+    → recoveredBy z lag limit 0 m
     ≡ record {
       answer = Recovered.Finished (record { boundary = boundary z (m .nvm); undone = length (undoStores z (m .nvm)); torn = tornIn z (m .nvm) });
-      machine = started (baseOf (recoveredImage z (m .nvm))) (recoveredImage z (m .nvm));
+      machine = started lag (baseOf (recoveredImage z (m .nvm))) (recoveredImage z (m .nvm));
     }
 unfolding recoveredBy
-finished-step z limit m e = rw (e, made-all z limit (m .nvm) e)
+finished-step z lag limit m e = rw (e, made-all z limit (m .nvm) e)
 
-pub cut-step : (z : Sizes) (limit : ℕ) (m : Machine) → allMade z limit (m .nvm) ≡ false
-    → recoveredBy z limit 0 m
+pub cut-step : (z : Sizes) (lag limit : ℕ) (m : Machine) → allMade z limit (m .nvm) ≡ false
+    → recoveredBy z lag limit 0 m
     ≡ record { answer = Cut; machine = record { state = m .state; cache = m .cache; nvm = recoveredNvm z limit (m .nvm); flags = m .flags } }
 unfolding recoveredBy
-cut-step z limit m e = rw e
+cut-step z lag limit m e = rw e
 
 -- the answer is the one that the theorem gives
-pub answer-finished : (z : Sizes) (limit : ℕ) (nvm : List ℕ) → allMade z limit nvm ≡ true
-    → Recovered.Finished (record { boundary = boundary z nvm; undone = length (undoStores z nvm); torn = tornIn z nvm }) ≡ recoveryAnswer z limit nvm
+pub answer-finished : (z : Sizes) (lag limit : ℕ) (nvm : List ℕ) → lagOk lag ≡ true → allMade z limit nvm ≡ true
+    → Recovered.Finished (record { boundary = boundary z nvm; undone = length (undoStores z nvm); torn = tornIn z nvm }) ≡ recoveryAnswer z lag limit nvm
 unfolding recoveryAnswer
-answer-finished z limit nvm e = rw e
+answer-finished z lag limit nvm t e = rw (t, e)
 
-answer-cut : (z : Sizes) (limit : ℕ) (nvm : List ℕ) → allMade z limit nvm ≡ false → Cut ≡ recoveryAnswer z limit nvm
+answer-cut : (z : Sizes) (lag limit : ℕ) (nvm : List ℕ) → lagOk lag ≡ true → allMade z limit nvm ≡ false → Cut ≡ recoveryAnswer z lag limit nvm
 unfolding recoveryAnswer
-answer-cut z limit nvm e = rw e
+answer-cut z lag limit nvm t e = rw (t, e)
+
+answer-refused : (z : Sizes) (lag limit : ℕ) (nvm : List ℕ) → lagOk lag ≡ false → Refused 16 ≡ recoveryAnswer z lag limit nvm
+unfolding recoveryAnswer
+answer-refused z lag limit nvm t = rw t
 
 -- ---- any number of recoveries cut short
 -- these cells lead to the image that a recovery of the cut cells leaves
@@ -145,35 +156,46 @@ module _ (z : Sizes) {nvm found : List ℕ} (l : Leads z nvm found) where
   pub leads-base : baseOf (recoveredImage z nvm) ≡ newBase z found
   leads-base = ap baseOf (l .same) ∙ recovered-base z found (rw leads-length (l .size))
 
--- the call on cells that lead there: cut short, or the start from the image of the cut cells
-pub data Restarts (z : Sizes) (limit : ℕ) (found : List ℕ) (m : Machine) : Restarted → Type 0 where
-  short : Cut ≡ recoveryAnswer z limit (m .nvm) → Leads z (recoveredNvm z limit (m .nvm)) found
-      → Restarts z limit found m
+-- the call on cells that lead there: refused for its lag limit, cut short, or the start from the image of the cut cells
+pub data Restarts (z : Sizes) (lag limit : ℕ) (found : List ℕ) (m : Machine) : Restarted → Type 0 where
+  unfit : Refused 16 ≡ recoveryAnswer z lag limit (m .nvm) → Restarts z lag limit found m (record { answer = Refused 16; machine = m })
+  short : Cut ≡ recoveryAnswer z lag limit (m .nvm) → Leads z (recoveredNvm z limit (m .nvm)) found
+      → Restarts z lag limit found m
       (record { answer = Cut; machine = record { state = m .state; cache = m .cache; nvm = recoveredNvm z limit (m .nvm); flags = m .flags } })
-  finished : {a : Finished} → Recovered.Finished a ≡ recoveryAnswer z limit (m .nvm)
-      → Restarts z limit found m (record { answer = Recovered.Finished a; machine = started (newBase z found) (recoveredImage z found) })
+  finished : {a : Finished} → lagOk lag ≡ true → Recovered.Finished a ≡ recoveryAnswer z lag limit (m .nvm)
+      → Restarts z lag limit found m (record { answer = Recovered.Finished a; machine = started lag (newBase z found) (recoveredImage z found) })
 
-pub restarts : (z : Sizes) (limit : ℕ) {found : List ℕ} (m : Machine) → Leads z (m .nvm) found → Restarts z limit found m (recoveredBy z limit 0 m)
-restarts z limit {found} m l =
-    split (allMade z limit (m .nvm))
-    (λ e. rw (finished-step z limit m e, leads-base z l, l .same) (finished (answer-finished z limit (m .nvm) e)))
-    (λ e. rw (cut-step z limit m e) (short (answer-cut z limit (m .nvm) e) (leads-cut z l limit)))
+refused-step : (z : Sizes) (lag limit : ℕ) (m : Machine) → recoveredBy z lag limit 16 m ≡ record { answer = Refused 16; machine = m }
+unfolding recoveredBy
+refused-step z lag limit m = refl
+
+pub restarts : (z : Sizes) (lag limit : ℕ) {found : List ℕ} (m : Machine) → Leads z (m .nvm) found
+    → Restarts z lag limit found m (recoveredBy z lag limit (cond (lagOk lag) 0 16) m)
+restarts z lag limit {found} m l =
+    split (lagOk lag)
+    (λ t. rw t
+    (split (allMade z limit (m .nvm))
+    (λ e. rw (finished-step z lag limit m e, leads-base z l, l .same) (finished t (answer-finished z lag limit (m .nvm) t e)))
+    (λ e. rw (cut-step z lag limit m e) (short (answer-cut z lag limit (m .nvm) t e) (leads-cut z l limit)))))
+    (λ t. rw (t, refused-step z lag limit m) (unfit (answer-refused z lag limit (m .nvm) t)))
 
 -- ---- a recovery of an image of the former length, whatever it holds
-pub former-known : (z : Sizes) (m : Machine) → recoverRefusal z m ≡ 0
-    → (sizesOk z ≡ true) × (length (m .nvm) ≡ formerLength z) × (baseOf (m .nvm) % 2 ≡ 0)
-unfolding recoverRefusal oddBase
-former-known z m e =
+pub former-known : (z : Sizes) (lag : ℕ) (m : Machine) → recoverRefusal z lag m ≡ 0
+    → (sizesOk z ≡ true) × (length (m .nvm) ≡ formerLength z) × (baseOf (m .nvm) % 2 ≡ 0) × (lagOk lag ≡ true)
+unfolding recoverRefusal badLag oddBase
+former-known z lag m e =
     let c₁ = first-none _ _ (λ q. omega arith) e in
-    let c₁₀ = first-none _ _ (λ q. omega arith) (c₁ .1) in
+    let c₁₆ = first-none _ _ (λ q. omega arith) (c₁ .1) in
+    let c₁₀ = first-none _ _ (λ q. omega arith) (c₁₆ .1) in
     let f = former-in z _ _ _ (not-false _ (c₁ .0)) in
-    (f .0, f .1 .in-nvm, omega (arith, eqb-false (baseOf (m .nvm) % 2) 1 (c₁₀ .0)))
+    (f .0, f .1 .in-nvm, omega (arith, eqb-false (baseOf (m .nvm) % 2) 1 (c₁₀ .0)), not-false _ (c₁₆ .0))
 
-pub former-finished : (z : Sizes) (limit : ℕ) (m : Machine) → recoverRefusal z m ≡ 0 → allMade z limit (m .nvm) ≡ true → formerLength z ≤ length (m .nvm)
-    → recoverStep z limit m
+pub former-finished : (z : Sizes) (lag limit : ℕ) (m : Machine) → recoverRefusal z lag m ≡ 0 → allMade z limit (m .nvm) ≡ true
+    → formerLength z ≤ length (m .nvm)
+    → recoverStep z lag limit m
     ≡ record {
       answer = Recovered.Finished (record { boundary = boundary z (m .nvm); undone = length (undoStores z (m .nvm)); torn = tornIn z (m .nvm) });
-      machine = started (newBase z (m .nvm)) (recoveredImage z (m .nvm));
+      machine = started lag (newBase z (m .nvm)) (recoveredImage z (m .nvm));
     }
 unfolding recoverStep
-former-finished z limit m e all size = rw (e, finished-step z limit m all, recovered-base z (m .nvm) size)
+former-finished z lag limit m e all size = rw (e, finished-step z lag limit m all, recovered-base z (m .nvm) size)

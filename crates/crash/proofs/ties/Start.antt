@@ -27,14 +27,14 @@ use Rattle.crash.proofs.ties.Ties.{Ties}
 use Rattle.crash.proofs.ties.Laws.{word-in, cells-writtenBack}
 
 -- ---- a start
-module _ (z : Sizes) (ok : sizesOk z ≡ true) (base : ℕ) (image words : List ℕ)
+module _ (z : Sizes) (ok : sizesOk z ≡ true) (lag base : ℕ) (image words : List ℕ)
     (even : base % 2 ≡ 0) (long : formerLength z ≤ length image) (form : Form z (endOf z image)) (at : baseOf image ≡ base)
     (same : dataOf z image ≡ words) (blank : (L : ℕ) → L < z.lanes → logOf z L image ≡ replicate (2 * z.slots) 0) where
-  page-start : (L : ℕ) → L < z.lanes → pageAt (opened z words base) L .newest ≡ newestIn []
+  page-start : (L : ℕ) → L < z.lanes → pageAt (opened z lag words base) L .newest ≡ newestIn []
   unfolding pageAt opened newestIn
   page-start L i = ap (λ (p : Page). p .newest) (getD-replicate z.lanes L blankPage blankPage i)
 
-  unflushed : (L w : ℕ) → w < z.words → flushed L (getD (started base image .flags) (1 + w) 0) ≡ false
+  unflushed : (L w : ℕ) → w < z.words → flushed L (getD (started lag base image .flags) (1 + w) 0) ≡ false
   unfolding started
   unflushed L w i = ap (flushed L) (getD-replicate (length image) (1 + w) 0 0 (word-in z w (length image) i long)) ∙ flushed-zero L
 
@@ -44,12 +44,12 @@ module _ (z : Sizes) (ok : sizesOk z ≡ true) (base : ℕ) (image words : List 
   no-more : {A : Type 0} {g : Seq} {gs : List Seq} → _≡_ {A = List Seq} [] (g ∷ gs) → A
   no-more e = absurd (omega (arith, ap length e))
 
-  pub ties-starts : Ties z base (started base image) (opened z words base)
+  pub ties-starts : Ties z base (started lag base image) (opened z lag words base)
   unfolding started opened
   ties-starts =
       record {
         ts = startTrack z image;
-        running = running-start z (sizes-in z ok) base image even long form at blank;
+        running = running-start z (sizes-in z ok) lag base image even long form at blank;
         at-base = at;
         newest = page-start;
         entries = λ L i x e g gs q. no-more q;

@@ -28,11 +28,12 @@ unfolding slots.entryOf slots.stampOf slots.entryShape slots.stampShape slots.wh
     logs.latest logs.latestIn logs.given logs.contribution logs.ahead logs.overlaps logs.hitsFrom logs.hits
     appends.onward appends.advance appends.slotStores appends.appendFrom appends.appendStores appends.circular appends.restampStore
     records.startLane records.startRecord records.laneAt records.cursorOf records.isLogged records.loggedIn records.stampOk records.floorOk
-    records.pairsOk records.phaseOk records.laneOk records.lanesOk records.recordOk records.spent records.lesser records.leastFloor records.boundOf
-    records.floorAfterDrain records.floorAfterAppend records.withLane records.withClock records.withLast records.drainedLane records.appendedLane
-    records.idleLane records.pairsOf
+    records.pairsOk records.phaseOk records.laneOk records.lanesOk records.lagOk records.recordOk records.spent records.lesser records.leastFloor
+    records.boundOf records.lagPassed records.floorAfterDrain records.floorAfterAppend records.withLane records.withClock records.withLast
+    records.drainedLane records.appendedLane records.idleLane records.pairsOf
     machines.firstCause machines.unless machines.said
-    calls.badBuffers calls.badRecord calls.badLane calls.badTxn calls.notLogged calls.clockSpent calls.drained calls.changed calls.wouldHit
+    calls.badBuffers calls.badRecord calls.badLane calls.badTxn calls.notLogged calls.clockSpent calls.badLag calls.drained calls.changed
+    calls.wouldHit calls.wouldLag
     calls.startImage calls.started calls.formatRefusal calls.formatStep calls.writeBackRefusal calls.writeBackStep calls.drainRefusal calls.drainStep
     calls.writesOn calls.logRefusalBy calls.appended calls.logged calls.logStepBy calls.pairStores calls.commitStores calls.committed calls.redoRefusal
     calls.isStale calls.redoPairs calls.redoStep calls.validateRefusalBy calls.entryMatches calls.entriesMatch calls.matches calls.released
@@ -47,10 +48,11 @@ unfolding slots.entryOf slots.stampOf slots.entryShape slots.stampShape slots.wh
     events.afterFailure events.notOffered events.happens
     histories.pageAt histories.opened histories.isBelow histories.replay histories.wordsBelow histories.floorOr histories.floorOnDrain histories.settled
     histories.stamped histories.released histories.isSome histories.heldBy histories.isCounted histories.taken histories.restarted histories.afterCall
-    histories.afterRecovered histories.fedAnswer histories.fedFailure histories.fed histories.leastFloorOf histories.present histories.writesNow
-    histories.newestStamp histories.writesLogged histories.sameOlds histories.isAbove histories.commitAbove histories.holdsOne histories.notHeld
-    histories.clockSpent histories.causesBy histories.slotsBy histories.takenAnswer
+    histories.afterRecovered histories.fedAnswer histories.fedRecovery histories.fedFailure histories.fed histories.leastFloorOf histories.present
+    histories.writesNow histories.newestStamp histories.writesLogged histories.sameOlds
+    histories.isAbove histories.commitAbove histories.holdsOne histories.notHeld
+    histories.clockSpent histories.wouldLag histories.causesBy histories.slotsBy histories.takenAnswer
     theorems.endOf theorems.isFull theorems.refusalBy theorems.answerBy theorems.recoveryAnswer theorems.mayStore
     corollaries.nextWorld corollaries.worldAfter corollaries.isFormat corollaries.startsAnew corollaries.goesOn corollaries.isDone
-    corollaries.isDrain corollaries.isIdle corollaries.staysIdle corollaries.othersFloor
+    corollaries.isDrain corollaries.isIdle corollaries.staysIdle corollaries.othersFloor corollaries.stampsIn corollaries.cutCells
 everything = 0

@@ -10,9 +10,9 @@ use Rattle.image.specs.declared.Sizes.{Sizes}
 use Rattle.log.specs.declared.Timestamp.the-variants.{None, At}
 use Rattle.store.specs.Machine.{Machine}
 use Rattle.store.specs.Calls.{started, startImage}
-use Rattle.record.specs.Record.{noLane, laneAt}
+use Rattle.record.specs.Record.{maxLag, noLane, laneAt}
 use Rattle.record.specs.declared.Lane.{Lane}
-use Rattle.store.specs.declared.Answer.the-variants.{Refused, Done, Logged, Committed, Stale, Changed, Marked}
+use Rattle.store.specs.declared.Answer.the-variants.{Refused, Done, NoWrites, Logged, Committed, Stale, Changed, Marked}
 use Rattle.recovery.specs.Recovery.{Restarted, recoverStep, recoverReadStep}
 use Rattle.recovery.specs.declared.Recovered.{Recovered}
 use Rattle.recovery.specs.declared.Recovered.the-variants as recovereds
@@ -49,7 +49,7 @@ laneIn L (down nvm j found) = noLane
 
 -- a start with these data words; both are 0 at first
 abbrev begunWith : List ℕ → System
-begunWith start = live (started 0 (startImage small start))
+begunWith start = live (started maxLag 0 (startImage small start))
 
 abbrev begun : System
 begun = begunWith (0 ∷ 0 ∷ [])
@@ -70,11 +70,11 @@ two-lanes = refl
 abbrev twoLanesCut : System
 twoLanesCut = afterAll small begun (twoLanes ++ (writeBacks 0 139 ++ (fails junk ∷ [])))
 
-two-lanes-recover : replies small twoLanesCut (recover 1000 junk ∷ []) ≡ recovered (Finished (record { boundary = At 6; undone = 3; torn = 0 })) ∷ []
+two-lanes-recover : replies small twoLanesCut (recover maxLag 1000 junk ∷ []) ≡ recovered (Finished (record { boundary = At 6; undone = 3; torn = 0 })) ∷ []
 unfolding everything replies afterAll writeBacks
 two-lanes-recover = refl
 
-two-lanes-words : wordsIn small (afterAll small twoLanesCut (recover 1000 junk ∷ [])) ≡ 0 ∷ 0 ∷ []
+two-lanes-words : wordsIn small (afterAll small twoLanesCut (recover maxLag 1000 junk ∷ [])) ≡ 0 ∷ 0 ∷ []
 unfolding everything afterAll writeBacks wordsIn
 two-lanes-words = refl
 
@@ -82,7 +82,7 @@ two-lanes-words = refl
 abbrev inDrain : List Event
 inDrain = call (log 0 (set0 2)) ∷ call (redo 0) ∷ failsInDrain (drain 0) (1 ∷ []) junk ∷ []
 
-in-drain : replies small begun (inDrain ++ (recover 1000 junk ∷ []))
+in-drain : replies small begun (inDrain ++ (recover maxLag 1000 junk ∷ []))
     ≡ answered (Logged (record { count = 1; stamp = 2 }))
     ∷ answered (Committed 4)
     ∷ failed false
@@ -95,18 +95,18 @@ in-drain-found : wordsIn small (afterAll small begun inDrain) ≡ 2 ∷ 0 ∷ []
 unfolding everything afterAll wordsIn
 in-drain-found = refl
 
-in-drain-words : wordsIn small (afterAll small begun (inDrain ++ (recover 1000 junk ∷ []))) ≡ 0 ∷ 0 ∷ []
+in-drain-words : wordsIn small (afterAll small begun (inDrain ++ (recover maxLag 1000 junk ∷ []))) ≡ 0 ∷ 0 ∷ []
 unfolding everything afterAll wordsIn
 in-drain-words = refl
 
 -- ---- the same with recovery cut twice: after the undone entry and before the base timestamp, and past the base timestamp, which leaves nothing to be undone.
 -- The second has cleared three log words, both of slot 0 and the address word of slot 1, whose value word is left: the third finds it torn
-cut-twice : replies small (afterAll small begun inDrain) (recover 1 junk ∷ recover 5 junk ∷ recover 1000 junk ∷ [])
+cut-twice : replies small (afterAll small begun inDrain) (recover maxLag 1 junk ∷ recover maxLag 5 junk ∷ recover maxLag 1000 junk ∷ [])
     ≡ recovered Cut ∷ recovered Cut ∷ recovered (Finished (record { boundary = None; undone = 0; torn = 1 })) ∷ []
 unfolding everything replies afterAll
 cut-twice = refl
 
-cut-twice-words : wordsIn small (afterAll small begun (inDrain ++ (recover 1 junk ∷ recover 5 junk ∷ recover 1000 junk ∷ []))) ≡ 0 ∷ 0 ∷ []
+cut-twice-words : wordsIn small (afterAll small begun (inDrain ++ (recover maxLag 1 junk ∷ recover maxLag 5 junk ∷ recover maxLag 1000 junk ∷ []))) ≡ 0 ∷ 0 ∷ []
 unfolding everything afterAll wordsIn
 cut-twice-words = refl
 
@@ -115,7 +115,7 @@ cut-twice-words = refl
 abbrev afterDrain : List Event
 afterDrain = call (log 0 (set0 2)) ∷ call (redo 0) ∷ call (mark 0) ∷ failsAfterDrain (log 0 (set0 3)) junk ∷ []
 
-after-drain : replies small begun (afterDrain ++ (recover 1000 junk ∷ []))
+after-drain : replies small begun (afterDrain ++ (recover maxLag 1000 junk ∷ []))
     ≡ answered (Logged (record { count = 1; stamp = 2 }))
     ∷ answered (Committed 4)
     ∷ answered (Marked (record { stamp = 6; dropped = false }))
@@ -125,7 +125,7 @@ after-drain : replies small begun (afterDrain ++ (recover 1000 junk ∷ []))
 unfolding everything replies
 after-drain = refl
 
-after-drain-words : wordsIn small (afterAll small begun (afterDrain ++ (recover 1000 junk ∷ []))) ≡ 2 ∷ 0 ∷ []
+after-drain-words : wordsIn small (afterAll small begun (afterDrain ++ (recover maxLag 1000 junk ∷ []))) ≡ 2 ∷ 0 ∷ []
 unfolding everything afterAll wordsIn
 after-drain-words = refl
 
@@ -134,18 +134,18 @@ after-drain-words = refl
 abbrev inRecovery : List Event
 inRecovery = failsInRecovery 1 junk ∷ failsInRecovery 2 junk ∷ failsInRecovery 138 junk ∷ []
 
-in-recovery : replies small (afterAll small begun inDrain) (inRecovery ++ (recover 1000 junk ∷ []))
+in-recovery : replies small (afterAll small begun inDrain) (inRecovery ++ (recover maxLag 1000 junk ∷ []))
     ≡ failed false ∷ failed false ∷ failed false ∷ recovered (Finished (record { boundary = None; undone = 0; torn = 0 })) ∷ []
 unfolding everything replies afterAll
 in-recovery = refl
 
-in-recovery-words : wordsIn small (afterAll small begun (inDrain ++ (inRecovery ++ (recover 1000 junk ∷ [])))) ≡ 0 ∷ 0 ∷ []
+in-recovery-words : wordsIn small (afterAll small begun (inDrain ++ (inRecovery ++ (recover maxLag 1000 junk ∷ [])))) ≡ 0 ∷ 0 ∷ []
 unfolding everything afterAll wordsIn
 in-recovery-words = refl
 
 -- ---- of a logged entry's two words only the address word, word 3, has reached memory when power fails: its slot is torn. The recovery that clears it has
 -- found it; the next one finds none
-torn-slot : replies small begun (call (log 0 (set0 2)) ∷ writeBack 3 ∷ fails junk ∷ recover 1000 junk ∷ recover 1000 junk ∷ [])
+torn-slot : replies small begun (call (log 0 (set0 2)) ∷ writeBack 3 ∷ fails junk ∷ recover maxLag 1000 junk ∷ recover maxLag 1000 junk ∷ [])
     ≡ answered (Logged (record { count = 1; stamp = 2 }))
     ∷ answered Done
     ∷ failed false
@@ -183,11 +183,12 @@ changed-back = refl
 abbrev changedBackCut : System
 changedBackCut = afterAll small begun (changedBack ++ (writeBacks 0 139 ++ (fails junk ∷ [])))
 
-changed-back-recover : replies small changedBackCut (recover 1000 junk ∷ []) ≡ recovered (Finished (record { boundary = At 10; undone = 2; torn = 0 })) ∷ []
+changed-back-recover : replies small changedBackCut (recover maxLag 1000 junk ∷ [])
+    ≡ recovered (Finished (record { boundary = At 10; undone = 2; torn = 0 })) ∷ []
 unfolding everything replies afterAll writeBacks
 changed-back-recover = refl
 
-changed-back-words : wordsIn small (afterAll small changedBackCut (recover 1000 junk ∷ [])) ≡ 7 ∷ 0 ∷ []
+changed-back-words : wordsIn small (afterAll small changedBackCut (recover maxLag 1000 junk ∷ [])) ≡ 7 ∷ 0 ∷ []
 unfolding everything afterAll writeBacks wordsIn
 changed-back-words = refl
 
@@ -269,12 +270,12 @@ floor-by-mark = refl
 abbrev twoOnLane0 : List Event
 twoOnLane0 = call (log 0 (set0 2)) ∷ call (redo 0) ∷ call (drain 0) ∷ call (log 0 (set0 3)) ∷ call (redo 0) ∷ call (drain 0) ∷ fails junk ∷ []
 
-idle-boundary : replies small (afterAll small begun (idleLane1 ++ twoOnLane0)) (recover 1000 junk ∷ [])
+idle-boundary : replies small (afterAll small begun (idleLane1 ++ twoOnLane0)) (recover maxLag 1000 junk ∷ [])
     ≡ recovered (Finished (record { boundary = At 14; undone = 1; torn = 0 })) ∷ []
 unfolding everything replies afterAll
 idle-boundary = refl
 
-idle-words : wordsIn small (afterAll small begun (idleLane1 ++ (twoOnLane0 ++ (recover 1000 junk ∷ [])))) ≡ 2 ∷ 9 ∷ []
+idle-words : wordsIn small (afterAll small begun (idleLane1 ++ (twoOnLane0 ++ (recover maxLag 1000 junk ∷ [])))) ≡ 2 ∷ 9 ∷ []
 unfolding everything afterAll wordsIn
 idle-words = refl
 
@@ -282,12 +283,12 @@ idle-words = refl
 abbrev markedToo : List Event
 markedToo = call (log 0 (set0 2)) ∷ call (redo 0) ∷ call (mark 0) ∷ call (drain 0) ∷ fails junk ∷ []
 
-no-boundary : replies small (afterAll small begun (idleLane1 ++ markedToo)) (recover 1000 junk ∷ [])
+no-boundary : replies small (afterAll small begun (idleLane1 ++ markedToo)) (recover maxLag 1000 junk ∷ [])
     ≡ recovered (Finished (record { boundary = None; undone = 0; torn = 0 })) ∷ []
 unfolding everything replies afterAll
 no-boundary = refl
 
-no-boundary-words : wordsIn small (afterAll small begun (idleLane1 ++ (markedToo ++ (recover 1000 junk ∷ [])))) ≡ 2 ∷ 9 ∷ []
+no-boundary-words : wordsIn small (afterAll small begun (idleLane1 ++ (markedToo ++ (recover maxLag 1000 junk ∷ [])))) ≡ 2 ∷ 9 ∷ []
 unfolding everything afterAll wordsIn
 no-boundary-words = refl
 
@@ -295,12 +296,12 @@ no-boundary-words = refl
 abbrev markedAbove : List Event
 markedAbove = call (log 0 (set0 2)) ∷ call (drain 0) ∷ idleLane1 ++ (fails junk ∷ [])
 
-marked-above : replies small (afterAll small begun markedAbove) (recover 1000 junk ∷ [])
+marked-above : replies small (afterAll small begun markedAbove) (recover maxLag 1000 junk ∷ [])
     ≡ recovered (Finished (record { boundary = At 2; undone = 2; torn = 0 })) ∷ []
 unfolding everything replies afterAll
 marked-above = refl
 
-marked-above-words : wordsIn small (afterAll small begun (markedAbove ++ (recover 1000 junk ∷ []))) ≡ 0 ∷ 0 ∷ []
+marked-above-words : wordsIn small (afterAll small begun (markedAbove ++ (recover maxLag 1000 junk ∷ []))) ≡ 0 ∷ 0 ∷ []
 unfolding everything afterAll wordsIn
 marked-above-words = refl
 
@@ -309,6 +310,115 @@ freed-log : replies small (afterAll small begun (call (mark 1) ∷ call (drain 1
     ≡ answered (Marked (record { stamp = 72; dropped = false })) ∷ []
 unfolding everything replies afterAll marks
 freed-log = refl
+
+-- ---- a limit on lost work
+abbrev begunLag : (lag : ℕ) → System
+begunLag lag = live (started lag 0 (startImage small (0 ∷ 0 ∷ [])))
+
+-- a limit of 4: lane 1 logs at 2, lane 0 logs at 4 and commits at 6. Its next Log, at 8, is too far above lane 1's floor, 2. Lane 1, the lane with the least
+-- floor, is marked, which drops what it holds, and drained: then lane 0 may log, at 10, which is 4 above its own floor
+abbrev freedByMark : List Event
+freedByMark =
+    call (log 1 (set1 9))
+    ∷ call (log 0 (set0 2))
+    ∷ call (redo 0)
+    ∷ call (log 0 (set0 3))
+    ∷ call (mark 1)
+    ∷ call (drain 1)
+    ∷ call (log 0 (set0 3))
+    ∷ []
+
+freed-by-mark : replies small (begunLag 4) freedByMark
+    ≡ answered (Logged (record { count = 1; stamp = 2 }))
+    ∷ answered (Logged (record { count = 1; stamp = 4 }))
+    ∷ answered (Committed 6)
+    ∷ answered (Refused 15)
+    ∷ answered (Marked (record { stamp = 8; dropped = true }))
+    ∷ answered Done
+    ∷ answered (Logged (record { count = 1; stamp = 10 }))
+    ∷ []
+unfolding everything replies
+freed-by-mark = refl
+
+-- a limit of 2: lane 1 logs at 2, and lane 0, at the limit, at 4; lane 0 commits at 6. Its next Log, at 8, is too far above lane 1's floor. One that writes
+-- nothing is taken, word 1 being 0, and so are Redo, which is stale, Validate, Drain and Mark
+abbrev tooFar : List Event
+tooFar =
+    call (log 1 (set1 9))
+    ∷ call (log 0 (set0 2))
+    ∷ call (redo 0)
+    ∷ call (log 0 (set0 3))
+    ∷ call (log 0 (5 ∷ 0 ∷ 1 ∷ 1 ∷ set0 3))
+    ∷ call (redo 1)
+    ∷ call (validate 1 (set1 9))
+    ∷ call (drain 0)
+    ∷ call (mark 1)
+    ∷ call (log 0 (set0 3))
+    ∷ call (drain 1)
+    ∷ []
+
+too-far : replies small (begunLag 2) tooFar
+    ≡ answered (Logged (record { count = 1; stamp = 2 }))
+    ∷ answered (Logged (record { count = 1; stamp = 4 }))
+    ∷ answered (Committed 6)
+    ∷ answered (Refused 15)
+    ∷ answered NoWrites
+    ∷ answered Stale
+    ∷ answered (Committed 8)
+    ∷ answered Done
+    ∷ answered (Marked (record { stamp = 10; dropped = false }))
+    ∷ answered (Refused 15)
+    ∷ answered Done
+    ∷ []
+unfolding everything replies
+too-far = refl
+
+-- the least floor was lane 0's own in the end, 6, of its commit, which was drained: 12 is too far above that with lane 1's floor ended too. So lane 0 has to
+-- be marked and drained itself
+marked-itself : replies small (afterAll small (begunLag 2) tooFar) (call (log 0 (set0 3)) ∷ call (mark 0) ∷ call (drain 0) ∷ call (log 0 (set0 3)) ∷ [])
+    ≡ answered (Refused 15)
+    ∷ answered (Marked (record { stamp = 12; dropped = false }))
+    ∷ answered Done
+    ∷ answered (Logged (record { count = 1; stamp = 14 }))
+    ∷ []
+unfolding everything replies afterAll
+marked-itself = refl
+
+-- the limit is reached: a Log at 6, and a cut with the boundary at 4. Half the limit, one commit, is lost
+abbrev atLimit : List Event
+atLimit = call (log 0 (set0 2)) ∷ call (redo 0) ∷ call (log 0 (set0 3)) ∷ fails junk ∷ []
+
+at-limit : replies small (begunLag 2) (atLimit ++ (recover 4 1000 junk ∷ []))
+    ≡ answered (Logged (record { count = 1; stamp = 2 }))
+    ∷ answered (Committed 4)
+    ∷ answered (Logged (record { count = 1; stamp = 6 }))
+    ∷ failed false
+    ∷ recovered (Finished (record { boundary = At 4; undone = 1; torn = 0 }))
+    ∷ []
+unfolding everything replies
+at-limit = refl
+
+-- the same with power failing inside the drain of the next step, a Redo: of the sequence stamped 6, all but the value word of its timestamp is stored, so
+-- that its last slot is torn, and the boundary is 4 still
+in-next-drain : replies small (afterAll small (begunLag 2) (call (log 0 (set0 2)) ∷ call (redo 0) ∷ call (log 0 (set0 3)) ∷ []))
+    (failsInDrain (redo 0) (7 ∷ 8 ∷ 9 ∷ []) junk ∷ recover 2 1000 junk ∷ [])
+    ≡ failed false ∷ recovered (Finished (record { boundary = At 4; undone = 1; torn = 1 })) ∷ []
+unfolding everything replies afterAll
+in-next-drain = refl
+
+-- a finished recovery goes on with the limit that it was given; one that is refused for its limit, or a Format, changes nothing
+unfoldable lagIn : System → ℕ
+lagIn (live m) = m .state .lag
+lagIn (down nvm j found) = 0
+
+lag-given : lagIn (afterAll small (begunLag 2) (atLimit ++ (recover 3 1000 junk ∷ recover 4 1000 junk ∷ format 0 (0 ∷ 0 ∷ []) ∷ []))) ≡ 4
+unfolding everything afterAll lagIn
+lag-given = refl
+
+lag-refused : replies small (begunLag 2) (format 3 (0 ∷ 0 ∷ []) ∷ recover 0 1000 junk ∷ format 3 (0 ∷ []) ∷ format 2 (0 ∷ 0 ∷ []) ∷ [])
+    ≡ answered (Refused 16) ∷ recovered (recovereds.Refused 16) ∷ answered (Refused 1) ∷ answered Done ∷ []
+unfolding everything replies
+lag-refused = refl
 
 -- ---- POKE is withdrawn. Word 0 is 3, so a POKE by it writes word 3 mod 2, which is 1.
 -- A new transaction with one is refused with 5, by Log also where it is passed over; one that was logged under the former rule is redone
@@ -358,15 +468,16 @@ poke-stale = refl
 abbrev redoneCut : System
 redoneCut = afterAll small (begunWith (3 ∷ 0 ∷ [])) (redone ++ (writeBacks 0 139 ++ (fails junk ∷ [])))
 
-poke-undone : replies small redoneCut (recover 1000 junk ∷ []) ≡ recovered (Finished (record { boundary = At 4; undone = 1; torn = 0 })) ∷ []
+poke-undone : replies small redoneCut (recover maxLag 1000 junk ∷ []) ≡ recovered (Finished (record { boundary = At 4; undone = 1; torn = 0 })) ∷ []
 unfolding everything replies afterAll writeBacks
 poke-undone = refl
 
-poke-undone-words : wordsIn small (afterAll small redoneCut (recover 1000 junk ∷ [])) ≡ 3 ∷ 0 ∷ []
+poke-undone-words : wordsIn small (afterAll small redoneCut (recover maxLag 1000 junk ∷ [])) ≡ 3 ∷ 0 ∷ []
 unfolding everything afterAll writeBacks wordsIn
 poke-undone-words = refl
 
-poke-kept-words : wordsIn small (afterAll small (begunWith (3 ∷ 0 ∷ [])) (redone ++ (call (mark 0) ∷ call (drain 0) ∷ fails junk ∷ recover 1000 junk ∷ [])))
+poke-kept-words : wordsIn small
+    (afterAll small (begunWith (3 ∷ 0 ∷ [])) (redone ++ (call (mark 0) ∷ call (drain 0) ∷ fails junk ∷ recover maxLag 1000 junk ∷ [])))
     ≡ 3 ∷ 7 ∷ []
 unfolding everything afterAll wordsIn
 poke-kept-words = refl
@@ -389,7 +500,7 @@ unfoldable endsIn : Sizes → System → List ℕ
 endsIn z (live m) = endOf z (m .nvm) ++ (endOf z (m .cache) ++ endOf z (m .flags))
 endsIn z (down nvm j found) = endOf z nvm
 
-trailer-kept : endsIn small (afterAll small begun (twoLanes ++ (writeBacks 0 143 ++ (fails junk ∷ recover 1000 junk ∷ []))))
+trailer-kept : endsIn small (afterAll small begun (twoLanes ++ (writeBacks 0 143 ++ (fails junk ∷ recover maxLag 1000 junk ∷ []))))
     ≡ 2 ∷ 2 ∷ 34 ∷ 139 ∷ 2 ∷ 2 ∷ 34 ∷ 139 ∷ 0 ∷ 0 ∷ 0 ∷ 0 ∷ []
 unfolding everything afterAll writeBacks endsIn
 trailer-kept = refl
@@ -403,29 +514,29 @@ trailer-written = refl
 unfoldable answeredBy : Restarted → Recovered
 answeredBy r = r .answer
 
-trailer-given : answeredBy (recoverStep small 1000 (started 0 (startImage small (0 ∷ 0 ∷ [])))) ≡ recovereds.Refused 1
+trailer-given : answeredBy (recoverStep small maxLag 1000 (started maxLag 0 (startImage small (0 ∷ 0 ∷ [])))) ≡ recovereds.Refused 1
 unfolding everything answeredBy
 trailer-given = refl
 
 -- ---- an image of the former length: 139 words, base 4, both data words 5, empty logs
 abbrev former139 : Machine
-former139 = started 4 (4 ∷ 5 ∷ 5 ∷ replicate 136 0)
+former139 = started maxLag 4 (4 ∷ 5 ∷ 5 ∷ replicate 136 0)
 
-former-taken : answeredBy (recoverStep small 1000 former139) ≡ Finished (record { boundary = None; undone = 0; torn = 0 })
+former-taken : answeredBy (recoverStep small maxLag 1000 former139) ≡ Finished (record { boundary = None; undone = 0; torn = 0 })
 unfolding everything answeredBy
 former-taken = refl
 
 -- without sizes it is refused: its last words tell none
-former-unread : answeredBy (recoverReadStep 1000 former139) ≡ recovereds.Refused 14
+former-unread : answeredBy (recoverReadStep maxLag 1000 former139) ≡ recovereds.Refused 14
 unfolding everything answeredBy
 former-unread = refl
 
 -- from there on it works as any, but Format is refused; a cut with the commit at 8 written back, and it is undone
 abbrev formerList : List Event
-formerList = call (log 0 (set0 2)) ∷ call (redo 0) ∷ format (0 ∷ 0 ∷ []) ∷ writeBack 138 ∷ writeBack 139 ∷ []
+formerList = call (log 0 (set0 2)) ∷ call (redo 0) ∷ format maxLag (0 ∷ 0 ∷ []) ∷ writeBack 138 ∷ writeBack 139 ∷ []
 
 abbrev formerBegun : System
-formerBegun = live (recoverStep small 1000 former139 .machine)
+formerBegun = live (recoverStep small maxLag 1000 former139 .machine)
 
 former-works : replies small formerBegun formerList
     ≡ answered (Logged (record { count = 1; stamp = 6 })) ∷ answered (Committed 8) ∷ answered (Refused 1) ∷ answered Done ∷ answered (Refused 4) ∷ []
@@ -435,23 +546,24 @@ former-works = refl
 abbrev formerCut : System
 formerCut = afterAll small formerBegun (formerList ++ (writeBacks 0 139 ++ (fails junk ∷ [])))
 
-former-recovers : replies small formerCut (recover 1000 junk ∷ []) ≡ recovered (Finished (record { boundary = At 8; undone = 1; torn = 0 })) ∷ []
+former-recovers : replies small formerCut (recover maxLag 1000 junk ∷ []) ≡ recovered (Finished (record { boundary = At 8; undone = 1; torn = 0 })) ∷ []
 unfolding everything replies afterAll writeBacks
 former-recovers = refl
 
-former-words : wordsIn small (afterAll small formerCut (recover 1000 junk ∷ [])) ≡ 5 ∷ 5 ∷ []
+former-words : wordsIn small (afterAll small formerCut (recover maxLag 1000 junk ∷ [])) ≡ 5 ∷ 5 ∷ []
 unfolding everything afterAll writeBacks wordsIn
 former-words = refl
 
 -- ---- one image, two readings: 75 words are an image of the former length of six data words, one lane and 34 slots, and also one with a trailer of two
 -- data words, one lane and 34 slots, if its last four words, two torn slots of the one's log, are 2, 1, 34, 71. The call that is used decides
 abbrev lookalike : Machine
-lookalike = started 0 (replicate 71 0 ++ (2 ∷ 1 ∷ 34 ∷ 71 ∷ []))
+lookalike = started maxLag 0 (replicate 71 0 ++ (2 ∷ 1 ∷ 34 ∷ 71 ∷ []))
 
-read-given : answeredBy (recoverStep (record { words = 6; lanes = 1; slots = 34 }) 1000 lookalike) ≡ Finished (record { boundary = None; undone = 0; torn = 2 })
+read-given : answeredBy (recoverStep (record { words = 6; lanes = 1; slots = 34 }) maxLag 1000 lookalike)
+    ≡ Finished (record { boundary = None; undone = 0; torn = 2 })
 unfolding everything answeredBy
 read-given = refl
 
-read-told : answeredBy (recoverReadStep 1000 lookalike) ≡ Finished (record { boundary = None; undone = 0; torn = 0 })
+read-told : answeredBy (recoverReadStep maxLag 1000 lookalike) ≡ Finished (record { boundary = None; undone = 0; torn = 0 })
 unfolding everything answeredBy
 read-told = refl

@@ -6,27 +6,27 @@ use mathlib.Core.Bool.{Bool, true, false, not, _&&_}
 use mathlib.Core.List.{List, [], _∷_, _++_}
 use lib.Dec.{leb, eqb}
 use lib.ListN.{length, replicate}
-use borrow.Author.Tests.{leb-true, eq-eqb, eqb-true, not-true}
+use borrow.Author.Tests.{leb-true, le-ltb, eq-eqb, eqb-true, not-true}
 use Rattle.laws.specs.inner.Tests.{clash, and-left, and-right}
-use Rattle.txn.specs.Txn.{after}
+use Rattle.txn.specs.Txn.{Rule, after}
 use Rattle.image.specs.Image.{trailer, imageLength, dataOf}
 use Rattle.image.specs.declared.Sizes.{Sizes}
 use Rattle.log.specs.declared.Timestamp.{Timestamp}
 use Rattle.log.specs.declared.Timestamp.the-variants.{None, At}
-use Rattle.record.specs.Record.{startRecord}
+use Rattle.record.specs.Record.{blankRecord, lagPassed}
 use Rattle.store.specs.Machine.{Machine, said}
 use Rattle.store.specs.Calls.{formatRefusal}
 use Rattle.store.specs.declared.Answer.{Answer}
 use Rattle.recovery.specs.Recovery.{boundary, allMade, recoverRefusal, told}
 use Rattle.recovery.specs.declared.Recovered.{Recovered}
 use Rattle.recovery.specs.declared.Recovered.the-variants.{Refused, Cut, Finished}
-use Rattle.crash.specs.Events.{Call, mark, drain, Junk, Event, format, call, recover, System, live, down, nvmOf}
+use Rattle.crash.specs.Events.{Call, logBy, mark, drain, Junk, Event, format, call, recover, System, live, down, nvmOf}
 use Rattle.crash.specs.Events.{Reply, answered, recovered, failed, ignored, Design, happens}
 use Rattle.crash.specs.History.{Commit, History, opened, isBelow, replay, present, wordsBelow, leastFloorOf}
-use Rattle.crash.specs.Theorem.{endOf, InStep, answerBy, recoveryAnswer, Finishes, Replied, Agrees, CrashTheorem, FormerTheorem}
+use Rattle.crash.specs.Theorem.{endOf, InStep, answerBy, formatAnswer, recoveryAnswer, Finishes, Replied, Agrees, CrashTheorem, FormerTheorem}
 use Rattle.crash.specs.Theorem.{mayStore, TrailerTheorem}
 use Rattle.crash.specs.Corollaries.{World, nextWorld, worldAfter, KeptBy, Kept, goesOn, SafeTheorem}
-use Rattle.crash.specs.Corollaries.{isDone, staysIdle, othersFloor, IdleTheorem}
+use Rattle.crash.specs.Corollaries.{isDone, staysIdle, othersFloor, IdleTheorem, Within, unbounded, within, stampsIn, cutCells, LagTheorem}
 use Rattle.crash.proofs.induction.Lists.{holds-after}
 use Rattle.crash.proofs.worked.Everything.{everything}
 
@@ -81,6 +81,11 @@ unfoldable pub clockSides : History → System → Sides
 clockSides h (live m) = record { has = m .state .clock ∷ []; due = h .clock ∷ [] }
 clockSides h (down nvm j found) = noSides
 
+-- and the record's lag limit
+unfoldable pub lagSides : History → System → Sides
+lagSides h (live m) = record { has = m .state .lag ∷ []; due = h .lag ∷ [] }
+lagSides h (down nvm j found) = noSides
+
 -- an answer's number, and its timestamp where it has one
 unfoldable pub numbersIn : Answer → List ℕ
 numbersIn a = said a .number ∷ said a .stamp
@@ -92,15 +97,21 @@ answerSides z h c (live m) (failed b) = noSides
 answerSides z h c (live m) ignored = noSides
 answerSides z h c (down nvm j found) r = noSides
 
+unfoldable pub formatSides : Sizes → (lag : ℕ) → (start : List ℕ) → Reply → Sides
+formatSides z lag start (answered a) = record { has = numbersIn a; due = numbersIn (formatAnswer z (trailer z) lag start) }
+formatSides z lag start (recovered r) = noSides
+formatSides z lag start (failed b) = noSides
+formatSides z lag start ignored = noSides
+
 -- how many entries recovery answers to have undone and how many torn slots it answers to have found, of the cells before it
 unfoldable pub countsIn : Recovered → List ℕ
 countsIn r = told r .undone ++ told r .torn
 
-unfoldable pub countSides : Sizes → (limit : ℕ) → (cells : List ℕ) → Reply → Sides
-countSides z limit cells (answered a) = noSides
-countSides z limit cells (recovered r) = record { has = countsIn r; due = countsIn (recoveryAnswer z limit cells) }
-countSides z limit cells (failed b) = noSides
-countSides z limit cells ignored = noSides
+unfoldable pub countSides : Sizes → (lag limit : ℕ) → (cells : List ℕ) → Reply → Sides
+countSides z lag limit cells (answered a) = noSides
+countSides z lag limit cells (recovered r) = record { has = countsIn r; due = countsIn (recoveryAnswer z lag limit cells) }
+countSides z lag limit cells (failed b) = noSides
+countSides z lag limit cells ignored = noSides
 
 -- the data words in non-volatile memory after a finished recovery, of the history before it and the cut cells
 unfoldable pub finishedSides : Sizes → History → (found : List ℕ) → System → Recovered → Sides
@@ -126,7 +137,20 @@ unfolding clockSides
 clock-due z h (live m) v = ap (λ (t : ℕ). t ∷ []) (v .0 .clock)
 clock-due z h (down nvm j found) v = refl
 
+lag-due : (z : Sizes) (h : History) (y : System) → InStep z (trailer z) h y → lagSides h y .has ≡ lagSides h y .due
+unfolding lagSides
+lag-due z h (live m) v = ap (λ (t : ℕ). t ∷ []) (v .0 .lag)
+lag-due z h (down nvm j found) v = refl
+
 module _ (z : Sizes) (h : History) (was is : System) (found : List ℕ) where
+  format-due : (lag : ℕ) (start : List ℕ) (r : Reply) → Replied z (trailer z) h (format lag start) was found is r
+      → formatSides z lag start r .has ≡ formatSides z lag start r .due
+  unfolding formatSides
+  format-due lag start (answered a) v = ap numbersIn v
+  format-due lag start (recovered r) v = refl
+  format-due lag start (failed b) v = refl
+  format-due lag start ignored v = refl
+
   answer-due : (c : Call) (y : System) (r : Reply) → Replied z (trailer z) h (call c) y found is r → answerSides z h c y r .has ≡ answerSides z h c y r .due
   unfolding answerSides
   answer-due c (live m) (answered a) v = ap numbersIn (v .gives)
@@ -135,9 +159,9 @@ module _ (z : Sizes) (h : History) (was is : System) (found : List ℕ) where
   answer-due c (live m) ignored v = refl
   answer-due c (down nvm j f) r v = refl
 
-  module _ (limit : ℕ) (j : Junk) where
-    count-due : (r : Reply) → Replied z (trailer z) h (recover limit j) was found is r
-        → countSides z limit (nvmOf was) r .has ≡ countSides z limit (nvmOf was) r .due
+  module _ (lag limit : ℕ) (j : Junk) where
+    count-due : (r : Reply) → Replied z (trailer z) h (recover lag limit j) was found is r
+        → countSides z lag limit (nvmOf was) r .has ≡ countSides z lag limit (nvmOf was) r .due
     unfolding countSides
     count-due (answered a) v = refl
     count-due (recovered r) v = ap countsIn (v .gives)
@@ -151,7 +175,7 @@ module _ (z : Sizes) (h : History) (was is : System) (found : List ℕ) where
     finished-due (live m) (Finished a) v = v .nvm
     finished-due (down nvm k f) (Finished a) v = refl
 
-    recovered-due : (r : Reply) → Replied z (trailer z) h (recover limit j) was found is r
+    recovered-due : (r : Reply) → Replied z (trailer z) h (recover lag limit j) was found is r
         → recoveredSides z h found is r .has ≡ recoveredSides z h found is r .due
     unfolding recoveredSides
     recovered-due (answered a) v = refl
@@ -178,30 +202,33 @@ end-due z h (down nvm j found) v = v .ends
 unfoldable pub blank : Sizes → Machine
 blank z =
     let n = imageLength z in
-    record { state = startRecord 0; cache = replicate n 0; nvm = replicate n 0; flags = replicate n 0 }
+    record { state = blankRecord; cache = replicate n 0; nvm = replicate n 0; flags = replicate n 0 }
 
--- the store before Format; the history before it does not matter
+-- the history before Format, which does not matter, and the store with it
+abbrev before : Sizes → History
+before z = opened z 2 [] 0
+
 abbrev unformatted : Sizes → World
-unformatted z = record { system = live (blank z); history = opened z [] 0 }
+unformatted z = record { system = live (blank z); history = before z }
 
 -- ---- refutations: store d, formatted with these start words, after the events es and one more
-module _ (d : Design) (z : Sizes) (start : List ℕ) (es : List Event) where
+module _ (d : Design) (z : Sizes) (lag : ℕ) (start : List ℕ) (es : List Event) where
   unfoldable pub was : World
-  was = worldAfter d z (unformatted z) (format start ∷ es)
+  was = worldAfter d z (unformatted z) (format lag start ∷ es)
 
   -- Format takes the start words, and the two sides differ
   unfoldable pub differs : Sides → (has due : List ℕ) → Bool
-  differs s has due = eqb (formatRefusal z start (blank z)) 0 && differ s has due
+  differs s has due = eqb (formatRefusal z lag start (blank z)) 0 && differ s has due
 
   agrees : (e : Event) (s : Sides) (has due : List ℕ) → differs s has due ≡ true → CrashTheorem d → Agrees d z (trailer z) (was .history) e (was .system)
   unfolding differs CrashTheorem was
   agrees e s has due t c =
-      holds-after d z (trailer z) (unformatted z) (format start ∷ es) (e ∷ [])
-      (c z start (blank z) (opened z [] 0) (eqb-true (formatRefusal z start (blank z)) 0 (and-left _ _ t)) (es ++ (e ∷ []))) .0
+      holds-after d z (trailer z) (unformatted z) (format lag start ∷ es) (e ∷ [])
+      (c z lag start (blank z) (before z) (eqb-true (formatRefusal z lag start (blank z)) 0 (and-left _ _ t)) (es ++ (e ∷ []))) .0
 
   apart : (s : Sides) (has due : List ℕ) → differs s has due ≡ true → s .has ≡ s .due → ⊥
   unfolding differs
-  apart s has due t = differ-not s has due (and-right (eqb (formatRefusal z start (blank z)) 0) _ t)
+  apart s has due t = differ-not s has due (and-right (eqb (formatRefusal z lag start (blank z)) 0) _ t)
 
   -- after event e
   module _ (e : Event) where
@@ -220,6 +247,17 @@ module _ (d : Design) (z : Sizes) (start : List ℕ) (es : List Event) where
     unfolding is nextWorld
     wrong-clock has due t c = apart _ has due t (clock-due z _ _ (agrees e _ has due t c .store))
 
+    pub wrong-lag : (has due : List ℕ) → differs (lagSides (is .history) (is .system)) has due ≡ true → CrashTheorem d → ⊥
+    unfolding is nextWorld
+    wrong-lag has due t c = apart _ has due t (lag-due z _ _ (agrees e _ has due t c .store))
+
+  -- by the answer to another Format
+  pub wrong-format : (lag₁ : ℕ) (start₁ has due : List ℕ)
+      → differs (formatSides z lag₁ start₁ (happens d z (was .system) (format lag₁ start₁) .reply)) has due ≡ true
+      → CrashTheorem d → ⊥
+  wrong-format lag₁ start₁ has due t k =
+      apart _ has due t (format-due z (was .history) (was .system) _ _ lag₁ start₁ _ (agrees (format lag₁ start₁) _ has due t k .reply))
+
   -- by the answer to call c
   pub wrong-answer : (c : Call) (has due : List ℕ)
       → differs (answerSides z (was .history) c (was .system) (happens d z (was .system) (call c) .reply)) has due ≡ true
@@ -227,35 +265,38 @@ module _ (d : Design) (z : Sizes) (start : List ℕ) (es : List Event) where
   wrong-answer c has due t k = apart _ has due t (answer-due z _ (was .system) _ _ c (was .system) _ (agrees (call c) _ has due t k .reply))
 
   -- by what a recovery answers, and leaves
-  module _ (limit : ℕ) (j : Junk) where
+  module _ (lag₁ limit : ℕ) (j : Junk) where
     pub wrong-count : (has due : List ℕ)
-        → differs (countSides z limit (nvmOf (was .system)) (happens d z (was .system) (recover limit j) .reply)) has due ≡ true
+        → differs (countSides z lag₁ limit (nvmOf (was .system)) (happens d z (was .system) (recover lag₁ limit j) .reply)) has due ≡ true
         → CrashTheorem d → ⊥
-    wrong-count has due t k = apart _ has due t (count-due z (was .history) (was .system) _ _ limit j _ (agrees (recover limit j) _ has due t k .reply))
+    wrong-count has due t k =
+        apart _ has due t (count-due z (was .history) (was .system) _ _ lag₁ limit j _ (agrees (recover lag₁ limit j) _ has due t k .reply))
 
     unfoldable pub leftSides : Sides
     leftSides =
-        let x = happens d z (was .system) (recover limit j) in
+        let x = happens d z (was .system) (recover lag₁ limit j) in
         recoveredSides z (was .history) (x .found) (x .system) (x .reply)
 
     pub wrong-recovery : (has due : List ℕ) → differs leftSides has due ≡ true → CrashTheorem d → ⊥
     unfolding leftSides
-    wrong-recovery has due t k = apart _ has due t (recovered-due z (was .history) (was .system) _ _ limit j _ (agrees (recover limit j) _ has due t k .reply))
+    wrong-recovery has due t k =
+        apart _ has due t (recovered-due z (was .history) (was .system) _ _ lag₁ limit j _ (agrees (recover lag₁ limit j) _ has due t k .reply))
 
 -- ---- the theorem about stores of the former length: what store d answers to a recovery with sizes given, of these buffers
-unfoldable pub formerSides : Design → Sizes → (limit : ℕ) → Machine → Sides
-formerSides d z limit m = record { has = countsIn (d .recover z limit m .answer); due = countsIn (recoveryAnswer z limit (m .nvm)) }
+unfoldable pub formerSides : Design → Sizes → (lag limit : ℕ) → Machine → Sides
+formerSides d z lag limit m = record { has = countsIn (d .recover z lag limit m .answer); due = countsIn (recoveryAnswer z lag limit (m .nvm)) }
 
 -- the buffers are to be taken, the limit lets all stores through, and the two sides differ
-unfoldable pub formerDiffers : Design → Sizes → (limit : ℕ) → Machine → (has due : List ℕ) → Bool
-formerDiffers d z limit m has due = eqb (recoverRefusal z m) 0 && (allMade z limit (m .nvm) && differ (formerSides d z limit m) has due)
+unfoldable pub formerDiffers : Design → Sizes → (lag limit : ℕ) → Machine → (has due : List ℕ) → Bool
+formerDiffers d z lag limit m has due = eqb (recoverRefusal z lag m) 0 && (allMade z limit (m .nvm) && differ (formerSides d z lag limit m) has due)
 
-pub wrong-former : (d : Design) (z : Sizes) (limit : ℕ) (m : Machine) (has due : List ℕ) → formerDiffers d z limit m has due ≡ true → FormerTheorem d → ⊥
+pub wrong-former : (d : Design) (z : Sizes) (lag limit : ℕ) (m : Machine) (has due : List ℕ) → formerDiffers d z lag limit m has due ≡ true
+    → FormerTheorem d → ⊥
 unfolding formerDiffers formerSides FormerTheorem
-wrong-former d z limit m has due t c =
-    let a = and-right (eqb (recoverRefusal z m) 0) _ t in
-    differ-not (formerSides d z limit m) has due (and-right (allMade z limit (m .nvm)) _ a)
-    (ap countsIn (c z limit m (eqb-true (recoverRefusal z m) 0 (and-left _ _ t)) (and-left _ _ a) [] .0))
+wrong-former d z lag limit m has due t c =
+    let a = and-right (eqb (recoverRefusal z lag m) 0) _ t in
+    differ-not (formerSides d z lag limit m) has due (and-right (allMade z limit (m .nvm)) _ a)
+    (ap countsIn (c z lag limit m (eqb-true (recoverRefusal z lag m) 0 (and-left _ _ t)) (and-left _ _ a) [] .0))
 
 -- ---- the theorem about who stores to the trailer: what stands there after an event that is not to store to it
 unfoldable pub trailerSides : Design → Sizes → Machine → Event → Sides
@@ -314,41 +355,51 @@ module _ (z : Sizes) (h : History) (f : Timestamp) (all : areBelow f (h .commits
   kept-due y ignored v = refl
 
 -- the words that a recovery leaves, and those that are due
-unfoldable pub lastSides : Design → Sizes → World → (limit : ℕ) → Junk → Sides
-lastSides d z w limit j =
-    let x = happens d z (w .system) (recover limit j) in
+unfoldable pub lastSides : Design → Sizes → World → (lag limit : ℕ) → Junk → Sides
+lastSides d z w lag limit j =
+    let x = happens d z (w .system) (recover lag limit j) in
     keptSides z (w .history) (x .system) (x .reply)
 
 -- a commit that can no longer be lost: after the events es the floors are above s, and recovery comes after fs
-module _ (d : Design) (z : Sizes) (start : List ℕ) (es fs : List Event) (s limit : ℕ) (j : Junk) where
+module _ (d : Design) (z : Sizes) (lag : ℕ) (start : List ℕ) (es fs : List Event) (s lag₁ limit : ℕ) (j : Junk) where
   unfoldable pub atLast : World
-  atLast = worldAfter d z (was d z start es) fs
+  atLast = worldAfter d z (was d z lag start es) fs
 
   -- Format is taken, s was given, the floors are above it, nothing starts anew, every commit is one of those up to s, and the two sides differ
   unfoldable pub safeDiffers : (has due : List ℕ) → Bool
   safeDiffers has due =
-      eqb (formatRefusal z start (blank z)) 0
-      && (leb s (was d z start es .history .clock)
-      && (isBelow (leastFloorOf (was d z start es .history .pages)) s
-      && (goesOn d z (was d z start es) fs && (areBelow (At (s + 1)) (atLast .history .commits) && differ (lastSides d z atLast limit j) has due))))
+      eqb (formatRefusal z lag start (blank z)) 0
+      && (leb s (was d z lag start es .history .clock)
+      && (isBelow (leastFloorOf (was d z lag start es .history .pages)) s
+      && (goesOn d z (was d z lag start es) fs && (areBelow (At (s + 1)) (atLast .history .commits) && differ (lastSides d z atLast lag₁ limit j) has due))))
 
   pub wrong-safe : (has due : List ℕ) → safeDiffers has due ≡ true → SafeTheorem d → ⊥
   unfolding safeDiffers lastSides SafeTheorem was atLast
   wrong-safe has due t c =
-      let t₁ = and-right (eqb (formatRefusal z start (blank z)) 0) _ t in
-      let t₂ = and-right (leb s (was d z start es .history .clock)) _ t₁ in
-      let t₃ = and-right (isBelow (leastFloorOf (was d z start es .history .pages)) s) _ t₂ in
-      let t₄ = and-right (goesOn d z (was d z start es) fs) _ t₃ in
-      let x = happens d z (atLast .system) (recover limit j) in
-      differ-not (lastSides d z atLast limit j) has due (and-right (areBelow (At (s + 1)) (atLast .history .commits)) _ t₄)
+      let t₁ = and-right (eqb (formatRefusal z lag start (blank z)) 0) _ t in
+      let t₂ = and-right (leb s (was d z lag start es .history .clock)) _ t₁ in
+      let t₃ = and-right (isBelow (leastFloorOf (was d z lag start es .history .pages)) s) _ t₂ in
+      let t₄ = and-right (goesOn d z (was d z lag start es) fs) _ t₃ in
+      let x = happens d z (atLast .system) (recover lag₁ limit j) in
+      differ-not (lastSides d z atLast lag₁ limit j) has due (and-right (areBelow (At (s + 1)) (atLast .history .commits)) _ t₄)
       (kept-due z (atLast .history) (At (s + 1)) (and-left _ _ t₄) (x .system) (x .reply)
-      (c z start (blank z) (opened z [] 0) (eqb-true (formatRefusal z start (blank z)) 0 (and-left _ _ t)) es fs s
-      (leb-true s (was d z start es .history .clock) (and-left _ _ t₁)) (and-left _ _ t₂) (and-left _ _ t₃) limit j))
+      (c z lag start (blank z) (before z) (eqb-true (formatRefusal z lag start (blank z)) 0 (and-left _ _ t)) es fs s
+      (leb-true s (was d z lag start es .history .clock) (and-left _ _ t₁)) (and-left _ _ t₂) (and-left _ _ t₃) lag₁ limit j))
+
+-- a timestamp as a list of one, or of none
+unfoldable pub stampsOf : Timestamp → List ℕ
+stampsOf None = []
+stampsOf (At s) = s ∷ []
+
+within-not : (lag s : ℕ) {b : Timestamp} → Within lag s b → lagPassed lag s b ≡ false
+unfolding lagPassed
+within-not lag s unbounded = refl
+within-not lag s (within {b = b} l) = le-ltb (b + lag) s l
 
 -- an idle lane: L is marked after the events es, drained after fs, and recovery comes after gs
-module _ (d : Design) (z : Sizes) (start : List ℕ) (L : ℕ) (es fs gs : List Event) (limit : ℕ) (j : Junk) where
+module _ (d : Design) (z : Sizes) (lag : ℕ) (start : List ℕ) (L : ℕ) (es fs gs : List Event) (lag₁ limit : ℕ) (j : Junk) where
   unfoldable pub atDrain : World
-  atDrain = worldAfter d z (nextWorld d z (was d z start es) (call (mark L))) fs
+  atDrain = worldAfter d z (nextWorld d z (was d z lag start es) (call (mark L))) fs
 
   unfoldable pub atCut : World
   atCut = worldAfter d z (nextWorld d z atDrain (call (drain L))) gs
@@ -356,29 +407,55 @@ module _ (d : Design) (z : Sizes) (start : List ℕ) (L : ℕ) (es fs gs : List 
   -- Format, Mark and Drain are taken, the lane stays idle, every commit is below the others' floors, and the two sides differ
   unfoldable pub idleDiffers : (has due : List ℕ) → Bool
   idleDiffers has due =
-      eqb (formatRefusal z start (blank z)) 0
-      && (isDone (happens d z (was d z start es .system) (call (mark L)) .reply)
+      eqb (formatRefusal z lag start (blank z)) 0
+      && (isDone (happens d z (was d z lag start es .system) (call (mark L)) .reply)
       && (staysIdle L fs
       && (isDone (happens d z (atDrain .system) (call (drain L)) .reply)
-      && (staysIdle L gs && (areBelow (othersFloor L (atCut .history)) (atCut .history .commits) && differ (lastSides d z atCut limit j) has due)))))
+      && (staysIdle L gs && (areBelow (othersFloor L (atCut .history)) (atCut .history .commits) && differ (lastSides d z atCut lag₁ limit j) has due)))))
 
   pub wrong-idle : (has due : List ℕ) → idleDiffers has due ≡ true → IdleTheorem d → ⊥
   unfolding idleDiffers lastSides IdleTheorem was atDrain atCut
   wrong-idle has due t c =
-      let t₁ = and-right (eqb (formatRefusal z start (blank z)) 0) _ t in
-      let t₂ = and-right (isDone (happens d z (was d z start es .system) (call (mark L)) .reply)) _ t₁ in
+      let t₁ = and-right (eqb (formatRefusal z lag start (blank z)) 0) _ t in
+      let t₂ = and-right (isDone (happens d z (was d z lag start es .system) (call (mark L)) .reply)) _ t₁ in
       let t₃ = and-right (staysIdle L fs) _ t₂ in
       let t₄ = and-right (isDone (happens d z (atDrain .system) (call (drain L)) .reply)) _ t₃ in
       let t₅ = and-right (staysIdle L gs) _ t₄ in
-      let x = happens d z (atCut .system) (recover limit j) in
-      differ-not (lastSides d z atCut limit j) has due (and-right (areBelow (othersFloor L (atCut .history)) (atCut .history .commits)) _ t₅)
+      let x = happens d z (atCut .system) (recover lag₁ limit j) in
+      differ-not (lastSides d z atCut lag₁ limit j) has due (and-right (areBelow (othersFloor L (atCut .history)) (atCut .history .commits)) _ t₅)
       (kept-due z (atCut .history) (othersFloor L (atCut .history)) (and-left _ _ t₅) (x .system) (x .reply)
-      (c z start (blank z) (opened z [] 0) (eqb-true (formatRefusal z start (blank z)) 0 (and-left _ _ t)) L es fs gs
-      (and-left _ _ t₁) (and-left _ _ t₂) (and-left _ _ t₃) (and-left _ _ t₄) limit j))
+      (c z lag start (blank z) (before z) (eqb-true (formatRefusal z lag start (blank z)) 0 (and-left _ _ t)) L es fs gs
+      (and-left _ _ t₁) (and-left _ _ t₂) (and-left _ _ t₃) (and-left _ _ t₄) lag₁ limit j))
+
+-- a limit on lost work: after the events es transaction f is logged on lane L with timestamp s; after fs the boundary of the cut is b
+module _ (d : Design) (z : Sizes) (lag : ℕ) (start : List ℕ) (es : List Event) (q : Rule) (L : ℕ) (f : List ℕ) (fs : List Event) where
+  unfoldable pub atBoundary : World
+  atBoundary = worldAfter d z (nextWorld d z (was d z lag start es) (call (logBy q L f))) fs
+
+  -- Format is taken, Log answers s, nothing starts anew, the boundary is b, and it is further below s than the lag limit
+  unfoldable pub lossDiffers : (s b : ℕ) → Bool
+  lossDiffers s b =
+      eqb (formatRefusal z lag start (blank z)) 0
+      && (same (stampsIn (happens d z (was d z lag start es .system) (call (logBy q L f)) .reply)) (s ∷ [])
+      && (goesOn d z (nextWorld d z (was d z lag start es) (call (logBy q L f))) fs
+      && (same (stampsOf (boundary z (cutCells (atBoundary .system)))) (b ∷ [])
+      && lagPassed (was d z lag start es .history .lag) s (boundary z (cutCells (atBoundary .system))))))
+
+  pub wrong-loss : (s b : ℕ) → lossDiffers s b ≡ true → LagTheorem d → ⊥
+  unfolding lossDiffers LagTheorem was atBoundary
+  wrong-loss s b t c =
+      let t₁ = and-right (eqb (formatRefusal z lag start (blank z)) 0) _ t in
+      let t₂ = and-right (same (stampsIn (happens d z (was d z lag start es .system) (call (logBy q L f)) .reply)) (s ∷ [])) _ t₁ in
+      let t₃ = and-right (goesOn d z (nextWorld d z (was d z lag start es) (call (logBy q L f))) fs) _ t₂ in
+      let t₄ = and-right (same (stampsOf (boundary z (cutCells (atBoundary .system)))) (b ∷ [])) _ t₃ in
+      clash (lagPassed (was d z lag start es .history .lag) s (boundary z (cutCells (atBoundary .system)))) t₄
+      (within-not (was d z lag start es .history .lag) s
+      (c z lag start (blank z) (before z) (eqb-true (formatRefusal z lag start (blank z)) 0 (and-left _ _ t)) es fs q L f s
+      (same-true _ _ (and-left _ _ t₁)) (and-left _ _ t₂) .0))
 
 -- one name that opens all of this, for the lists that the checker computes
 unfoldable pub refuting : ℕ
 unfolding everything same differ wordsSides clockSides endSides numbersIn answerSides countsIn countSides finishedSides recoveredSides blank
     was differs is leftSides formerSides formerDiffers trailerSides trailerDiffers keptBySides keptSides areBelow
-    lastSides atLast safeDiffers atDrain atCut idleDiffers
+    lastSides atLast safeDiffers atDrain atCut idleDiffers lagSides formatSides stampsOf atBoundary lossDiffers
 refuting = 0

@@ -6,7 +6,7 @@ use mathlib.Core.Bool.{Bool, false, cond, not, _&&_, _||_}
 use mathlib.Core.List.{List, [], _∷_, _++_}
 use lib.Dec.{eqb, leb, ltb}
 use lib.ListN.{length, getD, set, take, drop, replicate}
-use Rattle.txn.specs.Txn.{Instruction, instructions, Rule, former, emit, passed, applied}
+use Rattle.txn.specs.Txn.{Instruction, instructions, Rule, current, former, emit, passed, applied}
 use Rattle.image.specs.Image.{formerLength, allAre, formatOk, sizesAtEnd, trailerOk, dataOf, logStart, baseOf}
 use Rattle.image.specs.Flush.{flushAll}
 use Rattle.image.specs.Stores.{Store, stored}
@@ -17,10 +17,10 @@ use Rattle.log.specs.declared.Latest.{Latest}
 use Rattle.log.specs.declared.Latest.the-variants.{Nothing, Is}
 use Rattle.log.specs.declared.Timestamp.{Timestamp}
 use Rattle.log.specs.declared.Timestamp.the-variants.{None, At}
-use Rattle.record.specs.Record.{startRecord, noPair, laneAt, isLogged, loggedIn, lesser, withLane}
+use Rattle.record.specs.Record.{maxLag, lagOk, blankRecord, noPair, laneAt, isLogged, loggedIn, lesser, boundOf, lagPassed, withLane}
 use Rattle.record.specs.declared.Lane.{Lane}
 use Rattle.store.specs.Machine.{Machine, Step, firstCause, said}
-use Rattle.store.specs.Calls.{startImage, started, drained, writesOn, logged}
+use Rattle.store.specs.Calls.{badLag, startImage, started, drained, wouldLag, writesOn, logged}
 use Rattle.store.specs.Calls.{formatStep, writeBackStep, drainStep, logRefusalBy, logStepBy, redoStep, validateStepBy, markStep}
 use Rattle.store.specs.declared.Answer.the-variants.{Refused, Logged, Stale}
 use Rattle.recovery.specs.Recovery.{boundary, completeOf, ordered, undoneFrom, undone, undoSequences, undoStores, newBase, tornIn, zeros, recoveredNvm}
@@ -31,17 +31,17 @@ use Rattle.recovery.specs.declared.Recovered.the-variants as recovereds
 use Rattle.crash.specs.Events.{Call, logBy, log, redo, validateBy, validate, mark, drain, Event, format, writeBack, call, recover, fails, failsInDrain}
 use Rattle.crash.specs.Events.{Design, callStep}
 use Rattle.crash.specs.Theorem.{CrashTheorem, FormerTheorem, TrailerTheorem}
-use Rattle.crash.specs.Corollaries.{SafeTheorem, IdleTheorem}
+use Rattle.crash.specs.Corollaries.{SafeTheorem, IdleTheorem, LagTheorem}
 use Rattle.crash.proofs.worked.Worked.{small, junk, set0, set1, copy, poke, pokePassed, writeBacks, twoLanes}
-use Rattle.crash.proofs.worked.Refute.{wrong-words, wrong-end, wrong-clock, wrong-answer, wrong-count, wrong-recovery}
-use Rattle.crash.proofs.worked.Refute.{wrong-former, wrong-trailer, wrong-safe, wrong-idle, refuting}
+use Rattle.crash.proofs.worked.Refute.{wrong-words, wrong-end, wrong-clock, wrong-lag, wrong-format, wrong-answer, wrong-count, wrong-recovery}
+use Rattle.crash.proofs.worked.Refute.{wrong-former, wrong-trailer, wrong-safe, wrong-idle, wrong-loss, refuting}
 
--- A refutation names the store, the sizes, the start words, the events, then the last event, and two lists: the numbers that the store has at its end,
--- and those that the theorem gives. `wrong-recovery` looks at the data words after a recovery, `wrong-count` at how many entries it says to have undone and
--- how many torn slots to have found, `wrong-words` at the cached data words, `wrong-end` at the trailer in cells and cache and at its flags, `wrong-clock` at
--- the clock, `wrong-answer` at the number and the timestamp of an answer. `wrong-former`, `wrong-trailer`, `wrong-safe` and `wrong-idle` are of the theorems
--- about images of the former length, who stores to the trailer, commits that can no longer be lost, and an idle lane. `refl` computes the
--- list and sees that they differ.
+-- A refutation names the store, the sizes, the lag limit, the start words, the events, then the last event, and two lists: the numbers that the store has at
+-- its end, and those that the theorem gives. `wrong-recovery` looks at the data words after a recovery, `wrong-count` at how many entries it says to have
+-- undone and how many torn slots to have found, `wrong-words` at the cached data words, `wrong-end` at the trailer in cells and cache and at its flags,
+-- `wrong-clock` at the clock, `wrong-lag` at the lag limit, `wrong-answer` and `wrong-format` at the number and the timestamp of an answer. `wrong-former`,
+-- `wrong-trailer`, `wrong-safe`, `wrong-idle` and `wrong-loss` are of the theorems about images of the former length, who stores to the trailer, commits that
+-- can no longer be lost, an idle lane, and lost work. `refl` computes the list and sees that they differ.
 
 -- ---- how a store differs from ours
 -- in its calls
@@ -92,7 +92,7 @@ draining f rest z (drain L) m = f z L m
 unfoldable formatting : (Sizes → (found left : Machine) → Machine) → Design
 formatting f =
     record {
-      format = λ z start m. let s = formatStep z start m in record { answer = s .answer; machine = f z m (s .machine) };
+      format = λ z lag start m. let s = formatStep z lag start m in record { answer = s .answer; machine = f z m (s .machine) };
       writeBack = writeBackStep;
       call = callStep;
       recover = recoverStep;
@@ -101,12 +101,12 @@ formatting f =
     }
 
 -- in the stores that its recovery makes
-unfoldable recoverBy : (Sizes → List ℕ → List Store) → Sizes → (limit number : ℕ) → Machine → Restarted
-recoverBy stores z limit number m =
+unfoldable recoverBy : (Sizes → List ℕ → List Store) → Sizes → (lag limit number : ℕ) → Machine → Restarted
+recoverBy stores z lag limit number m =
     let nvm = stored (take limit (stores z (m .nvm))) (m .nvm) in
     cond (eqb number 0)
     (cond (leb (length (stores z (m .nvm))) limit)
-    (record { answer = recoveredBy z limit 0 m .answer; machine = started (baseOf nvm) nvm })
+    (record { answer = recoveredBy z lag limit 0 m .answer; machine = started lag (baseOf nvm) nvm })
     (record { answer = recovereds.Cut; machine = record { state = m .state; cache = m .cache; nvm = nvm; flags = m .flags } }))
     (record { answer = recovereds.Refused number; machine = m })
 
@@ -116,8 +116,8 @@ storing stores =
       format = formatStep;
       writeBack = writeBackStep;
       call = callStep;
-      recover = λ z limit m. recoverBy stores z limit (recoverRefusal z m) m;
-      recoverRead = λ limit m. recoverBy stores (sizesAtEnd (m .nvm)) limit (recoverReadRefusal m) m;
+      recover = λ z lag limit m. recoverBy stores z lag limit (recoverRefusal z lag m) m;
+      recoverRead = λ lag limit m. recoverBy stores (sizesAtEnd (m .nvm)) lag limit (recoverReadRefusal lag m) m;
       cutShort = λ z n nvm. stored (take n (stores z nvm)) nvm;
     }
 
@@ -136,8 +136,8 @@ telling f =
       format = formatStep;
       writeBack = writeBackStep;
       call = callStep;
-      recover = λ z limit m. told-as f z m (recoverStep z limit m);
-      recoverRead = λ limit m. told-as f (sizesAtEnd (m .nvm)) m (recoverReadStep limit m);
+      recover = λ z lag limit m. told-as f z m (recoverStep z lag limit m);
+      recoverRead = λ lag limit m. told-as f (sizesAtEnd (m .nvm)) m (recoverReadStep lag limit m);
       cutShort = recoveredNvm;
     }
 
@@ -198,7 +198,7 @@ byFirstStamp = calling (redoing (λ z L m. logsKept m z (redoStep z L m)) (valid
 
 by-first-stamp : CrashTheorem byFirstStamp → ⊥
 unfolding made byFirstStamp logsKept
-by-first-stamp = wrong-recovery byFirstStamp small (0 ∷ 0 ∷ []) (twoLanes ++ allBackAndCut) 1000 junk (0 ∷ 2 ∷ []) (0 ∷ 0 ∷ []) refl
+by-first-stamp = wrong-recovery byFirstStamp small maxLag (0 ∷ 0 ∷ []) (twoLanes ++ allBackAndCut) maxLag 1000 junk (0 ∷ 2 ∷ []) (0 ∷ 0 ∷ []) refl
 
 -- 2. Appends are never refused with 9. What lane 1 logged at 2 is the boundary; lane 0's third transaction of 16 additions is logged over its first one,
 -- which recovery then cannot undo: word 0 is left at 16
@@ -225,7 +225,9 @@ threeOnLane0 =
 
 never-full : CrashTheorem (calling neverFull) → ⊥
 unfolding made neverFull additions
-never-full = wrong-recovery (calling neverFull) small (0 ∷ 0 ∷ []) (call (log 1 copy) ∷ threeOnLane0 ++ allBackAndCut) 1000 junk (16 ∷ 0 ∷ []) (0 ∷ 0 ∷ []) refl
+never-full =
+    wrong-recovery (calling neverFull) small maxLag (0 ∷ 0 ∷ []) (call (log 1 copy) ∷ threeOnLane0 ++ allBackAndCut)
+    maxLag 1000 junk (16 ∷ 0 ∷ []) (0 ∷ 0 ∷ []) refl
 
 -- 3. A second attempt is logged over the first, which was drained; 9, which would keep it from that, is never answered. The wrap bits are the same: with its
 -- first word alone stored, the first slot passes for an entry of word 1 with the old value of word 0, and word 1 becomes 0
@@ -242,14 +244,14 @@ overFirst =
 over-first : CrashTheorem overFirst → ⊥
 unfolding made neverFull overFirst
 over-first =
-    wrong-recovery overFirst small (0 ∷ 6 ∷ [])
+    wrong-recovery overFirst small maxLag (0 ∷ 6 ∷ [])
     (call (log 0 (set0 5))
     ∷ call (drain 0)
     ∷ call (validate 0 (set1 7))
     ∷ call (log 0 (set1 7))
     ∷ failsInDrain (drain 0) (3 ∷ []) junk
     ∷ [])
-    1000 junk (0 ∷ 0 ∷ []) (0 ∷ 6 ∷ []) refl
+    maxLag 1000 junk (0 ∷ 0 ∷ []) (0 ∷ 6 ∷ []) refl
 
 -- 4. Odd timestamps in the log: their low bit sits in the wrap bit's place, the slot is torn, and the sequence is not found.
 -- Half of a commit is stored, and nothing undoes it
@@ -267,8 +269,9 @@ oddStamps =
 odd-stamps : CrashTheorem oddStamps → ⊥
 unfolding made oddStamps oddAt
 odd-stamps =
-    wrong-recovery oddStamps small (0 ∷ 0 ∷ []) (call (log 0 (1 ∷ 0 ∷ 0 ∷ 2 ∷ 1 ∷ 1 ∷ 0 ∷ 3 ∷ [])) ∷ call (redo 0) ∷ failsInDrain (drain 0) (1 ∷ []) junk ∷ [])
-    1000 junk (2 ∷ 0 ∷ []) (2 ∷ 3 ∷ []) refl
+    wrong-recovery oddStamps small maxLag (0 ∷ 0 ∷ [])
+    (call (log 0 (1 ∷ 0 ∷ 0 ∷ 2 ∷ 1 ∷ 1 ∷ 0 ∷ 3 ∷ [])) ∷ call (redo 0) ∷ failsInDrain (drain 0) (1 ∷ []) junk ∷ [])
+    maxLag 1000 junk (2 ∷ 0 ∷ []) (2 ∷ 3 ∷ []) refl
 
 -- 5. A Mark leaves the transaction open, and it commits behind the mark. The lane's newest sequence is the mark, which gives no boundary, and nothing is
 -- undone: word 0, written back, keeps the 2 of a transaction that was dropped
@@ -285,8 +288,8 @@ markOpen =
 mark-open : CrashTheorem markOpen → ⊥
 unfolding made markOpen
 mark-open =
-    wrong-recovery markOpen small (0 ∷ 0 ∷ [])
-    (call (log 0 (set0 2)) ∷ call (mark 0) ∷ call (redo 0) ∷ writeBack 1 ∷ fails junk ∷ []) 1000 junk (2 ∷ 0 ∷ []) (0 ∷ 0 ∷ []) refl
+    wrong-recovery markOpen small maxLag (0 ∷ 0 ∷ [])
+    (call (log 0 (set0 2)) ∷ call (mark 0) ∷ call (redo 0) ∷ writeBack 1 ∷ fails junk ∷ []) maxLag 1000 junk (2 ∷ 0 ∷ []) (0 ∷ 0 ∷ []) refl
 
 -- 6. The logs are cleared before the base timestamp is stored. Recovery of the two-lane scenario is cut when lane 0's log, 68 words, is cleared: the next one
 -- takes lane 1's newest timestamp, 10, for the boundary, and word 1 becomes 2
@@ -296,7 +299,8 @@ logsFirst = storing (λ z image. undoStores z image ++ (clearing z ++ base z ima
 logs-first : CrashTheorem logsFirst → ⊥
 unfolding made logsFirst
 logs-first =
-    wrong-recovery logsFirst small (0 ∷ 0 ∷ []) (twoLanes ++ (writeBacks 0 139 ++ (fails junk ∷ recover 71 junk ∷ []))) 1000 junk (0 ∷ 2 ∷ []) (0 ∷ 0 ∷ []) refl
+    wrong-recovery logsFirst small maxLag (0 ∷ 0 ∷ []) (twoLanes ++ (writeBacks 0 139 ++ (fails junk ∷ recover maxLag 71 junk ∷ [])))
+    maxLag 1000 junk (0 ∷ 2 ∷ []) (0 ∷ 0 ∷ []) refl
 
 -- 7. A sequence sets no floor before it is drained. Lane 1's first sequence, at 2, was written back and is the boundary, but keeps nobody from
 -- overwriting: lane 0's third transaction is logged over its first one, and word 0 is left at 16
@@ -313,7 +317,7 @@ noFirstFloor =
 no-first-floor : CrashTheorem noFirstFloor → ⊥
 unfolding made noFirstFloor additions
 no-first-floor =
-    wrong-recovery noFirstFloor small (0 ∷ 0 ∷ []) (call (log 1 copy) ∷ threeOnLane0 ++ allBackAndCut) 1000 junk (16 ∷ 0 ∷ []) (0 ∷ 0 ∷ []) refl
+    wrong-recovery noFirstFloor small maxLag (0 ∷ 0 ∷ []) (call (log 1 copy) ∷ threeOnLane0 ++ allBackAndCut) maxLag 1000 junk (16 ∷ 0 ∷ []) (0 ∷ 0 ∷ []) refl
 
 -- ---- too little, or too much
 -- 8. Recovery undoes every transaction: a commit that was drained and marked is lost
@@ -323,8 +327,8 @@ undoesEvery = storing (λ z image. undoSequences (ordered (completeOf z image z.
 undoes-every : CrashTheorem undoesEvery → ⊥
 unfolding made undoesEvery
 undoes-every =
-    wrong-recovery undoesEvery small (0 ∷ 0 ∷ [])
-    (call (log 0 (set0 2)) ∷ call (redo 0) ∷ call (mark 0) ∷ call (drain 0) ∷ fails junk ∷ []) 1000 junk (0 ∷ 0 ∷ []) (2 ∷ 0 ∷ []) refl
+    wrong-recovery undoesEvery small maxLag (0 ∷ 0 ∷ [])
+    (call (log 0 (set0 2)) ∷ call (redo 0) ∷ call (mark 0) ∷ call (drain 0) ∷ fails junk ∷ []) maxLag 1000 junk (0 ∷ 0 ∷ []) (2 ∷ 0 ∷ []) refl
 
 -- 9. Recovery undoes none: a commit whose timestamp did not reach the log stays
 unfoldable undoesNone : Design
@@ -333,8 +337,8 @@ undoesNone = storing (λ z image. base z image ++ clearing z)
 undoes-none : CrashTheorem undoesNone → ⊥
 unfolding made undoesNone
 undoes-none =
-    wrong-recovery undoesNone small (0 ∷ 0 ∷ [])
-    (call (log 0 (set0 2)) ∷ call (redo 0) ∷ writeBack 1 ∷ fails junk ∷ []) 1000 junk (2 ∷ 0 ∷ []) (0 ∷ 0 ∷ []) refl
+    wrong-recovery undoesNone small maxLag (0 ∷ 0 ∷ [])
+    (call (log 0 (set0 2)) ∷ call (redo 0) ∷ writeBack 1 ∷ fails junk ∷ []) maxLag 1000 junk (2 ∷ 0 ∷ []) (0 ∷ 0 ∷ []) refl
 
 -- 10. Sequences are undone in rising order: of two that name word 0, the later one's old value is left
 unfoldable reversed : List Complete → List Complete
@@ -347,9 +351,9 @@ risingOrder = storing (λ z image. undoSequences (reversed (undone z image)) ++ 
 rising-order : CrashTheorem risingOrder → ⊥
 unfolding made risingOrder reversed
 rising-order =
-    wrong-recovery risingOrder small (0 ∷ 0 ∷ [])
+    wrong-recovery risingOrder small maxLag (0 ∷ 0 ∷ [])
     (call (log 1 copy) ∷ call (log 0 (set0 2)) ∷ call (redo 0) ∷ call (log 0 (set0 3)) ∷ call (redo 0) ∷ allBackAndCut)
-    1000 junk (2 ∷ 0 ∷ []) (0 ∷ 0 ∷ []) refl
+    maxLag 1000 junk (2 ∷ 0 ∷ []) (0 ∷ 0 ∷ []) refl
 
 -- 11. A sequence's entries are undone first to last: of two that name word 0, the second one's old value is left
 unfoldable entriesForward : List Old → List Store
@@ -366,8 +370,8 @@ undoesForward = storing (λ z image. sequencesForward (undone z image) ++ (base 
 undoes-forward : CrashTheorem undoesForward → ⊥
 unfolding made undoesForward sequencesForward entriesForward additions
 undoes-forward =
-    wrong-recovery undoesForward small (0 ∷ 0 ∷ [])
-    (call (log 0 (additions 2)) ∷ call (redo 0) ∷ writeBack 1 ∷ fails junk ∷ []) 1000 junk (1 ∷ 0 ∷ []) (0 ∷ 0 ∷ []) refl
+    wrong-recovery undoesForward small maxLag (0 ∷ 0 ∷ [])
+    (call (log 0 (additions 2)) ∷ call (redo 0) ∷ writeBack 1 ∷ fails junk ∷ []) maxLag 1000 junk (1 ∷ 0 ∷ []) (0 ∷ 0 ∷ []) refl
 
 -- 12. An invented count of undone entries
 unfoldable inventedCount : Design
@@ -375,7 +379,7 @@ inventedCount = telling (λ z m left a. record { boundary = a .boundary; undone 
 
 invented-count : CrashTheorem inventedCount → ⊥
 unfolding made inventedCount
-invented-count = wrong-count inventedCount small (0 ∷ 0 ∷ []) (fails junk ∷ []) 1000 junk (1 ∷ 0 ∷ []) (0 ∷ 0 ∷ []) refl
+invented-count = wrong-count inventedCount small maxLag (0 ∷ 0 ∷ []) (fails junk ∷ []) maxLag 1000 junk (1 ∷ 0 ∷ []) (0 ∷ 0 ∷ []) refl
 
 -- 13. A Redo stamps without writing
 unfoldable stampsOnly : Design
@@ -383,7 +387,7 @@ stampsOnly = calling (redoing (λ z L m. let s = redoStep z L m in withCache (jo
 
 stamps-only : CrashTheorem stampsOnly → ⊥
 unfolding made stampsOnly
-stamps-only = wrong-words stampsOnly small (0 ∷ 0 ∷ []) (call (log 0 (set0 2)) ∷ []) (call (redo 0)) (0 ∷ 0 ∷ []) (2 ∷ 0 ∷ []) refl
+stamps-only = wrong-words stampsOnly small maxLag (0 ∷ 0 ∷ []) (call (log 0 (set0 2)) ∷ []) (call (redo 0)) (0 ∷ 0 ∷ []) (2 ∷ 0 ∷ []) refl
 
 -- 14. A Log answers 9 on a lane without a floor. Here its log is empty, while another lane has a floor
 unfoldable refusedIfNone : Timestamp → Machine → Step → Step
@@ -395,7 +399,7 @@ nineOnEmpty = calling (logging (λ r z L f m. refusedIfNone (laneAt (m .state) L
 
 nine-on-empty : CrashTheorem nineOnEmpty → ⊥
 unfolding made nineOnEmpty refusedIfNone
-nine-on-empty = wrong-answer nineOnEmpty small (0 ∷ 0 ∷ []) (call (mark 1) ∷ []) (log 0 (set0 2)) (9 ∷ []) (0 ∷ 4 ∷ []) refl
+nine-on-empty = wrong-answer nineOnEmpty small maxLag (0 ∷ 0 ∷ []) (call (mark 1) ∷ []) (log 0 (set0 2)) (9 ∷ []) (0 ∷ 4 ∷ []) refl
 
 -- 15. A Redo is always stale
 unfoldable alwaysStale : Design
@@ -403,7 +407,7 @@ alwaysStale = calling (redoing (λ z L m. record { answer = Stale; machine = dra
 
 always-stale : CrashTheorem alwaysStale → ⊥
 unfolding made alwaysStale
-always-stale = wrong-answer alwaysStale small (0 ∷ 0 ∷ []) (call (log 0 (set0 2)) ∷ []) (redo 0) (0 ∷ []) (0 ∷ 4 ∷ []) refl
+always-stale = wrong-answer alwaysStale small maxLag (0 ∷ 0 ∷ []) (call (log 0 (set0 2)) ∷ []) (redo 0) (0 ∷ []) (0 ∷ 4 ∷ []) refl
 
 -- 16. The first transaction is committed; afterwards commits only move the clock
 unfoldable commitsOnce : Design
@@ -413,7 +417,7 @@ commitsOnce =
 commits-once : CrashTheorem commitsOnce → ⊥
 unfolding made commitsOnce
 commits-once =
-    wrong-words commitsOnce small (0 ∷ 0 ∷ []) (call (log 0 (set0 2)) ∷ call (redo 0) ∷ call (log 0 (set0 3)) ∷ [])
+    wrong-words commitsOnce small maxLag (0 ∷ 0 ∷ []) (call (log 0 (set0 2)) ∷ call (redo 0) ∷ call (log 0 (set0 3)) ∷ [])
     (call (redo 0)) (2 ∷ 0 ∷ []) (3 ∷ 0 ∷ []) refl
 
 -- 17. A step answers as it should, and leaves all unaltered
@@ -422,7 +426,7 @@ unaltered = calling (λ z c m. record { answer = callStep z c m .answer; machine
 
 unaltering : CrashTheorem unaltered → ⊥
 unfolding made unaltered
-unaltering = wrong-clock unaltered small (0 ∷ 0 ∷ []) [] (call (log 0 (set0 2))) (0 ∷ []) (2 ∷ []) refl
+unaltering = wrong-clock unaltered small maxLag (0 ∷ 0 ∷ []) [] (call (log 0 (set0 2))) (0 ∷ []) (2 ∷ []) refl
 
 -- 18. A Format that leaves the logs as they were: a sequence of before it is undone over the new start words
 unfoldable keepsLogs : Design
@@ -432,8 +436,8 @@ keepsLogs =
 keeps-logs : CrashTheorem keepsLogs → ⊥
 unfolding made keepsLogs
 keeps-logs =
-    wrong-recovery keepsLogs small (0 ∷ 0 ∷ []) (call (log 0 (set0 2)) ∷ call (redo 0) ∷ call (drain 0) ∷ format (5 ∷ 6 ∷ []) ∷ fails junk ∷ [])
-    1000 junk (0 ∷ 6 ∷ []) (5 ∷ 6 ∷ []) refl
+    wrong-recovery keepsLogs small maxLag (0 ∷ 0 ∷ []) (call (log 0 (set0 2)) ∷ call (redo 0) ∷ call (drain 0) ∷ format maxLag (5 ∷ 6 ∷ []) ∷ fails junk ∷ [])
+    maxLag 1000 junk (0 ∷ 6 ∷ []) (5 ∷ 6 ∷ []) refl
 
 -- 19. Torn slots are counted in the cache. Of a logged entry only the address word, word 3, has reached the cells, and the cache holds junk by then
 unfoldable tornCached : Design
@@ -442,7 +446,7 @@ tornCached = telling (λ z m left a. withTorn (tornIn z (m .cache)) a)
 torn-cached : CrashTheorem tornCached → ⊥
 unfolding made tornCached
 torn-cached =
-    wrong-count tornCached small (0 ∷ 0 ∷ []) (call (log 0 (set0 2)) ∷ writeBack 3 ∷ fails junk ∷ []) 1000 junk (0 ∷ 0 ∷ []) (0 ∷ 1 ∷ []) refl
+    wrong-count tornCached small maxLag (0 ∷ 0 ∷ []) (call (log 0 (set0 2)) ∷ writeBack 3 ∷ fails junk ∷ []) maxLag 1000 junk (0 ∷ 0 ∷ []) (0 ∷ 1 ∷ []) refl
 
 -- 20. Torn slots are counted in the cells that recovery leaves, where it has cleared them
 unfoldable tornLeft : Design
@@ -451,7 +455,7 @@ tornLeft = telling (λ z m left a. withTorn (tornIn z (left .nvm)) a)
 torn-left : CrashTheorem tornLeft → ⊥
 unfolding made tornLeft
 torn-left =
-    wrong-count tornLeft small (0 ∷ 0 ∷ []) (call (log 0 (set0 2)) ∷ writeBack 3 ∷ fails junk ∷ []) 1000 junk (0 ∷ 0 ∷ []) (0 ∷ 1 ∷ []) refl
+    wrong-count tornLeft small maxLag (0 ∷ 0 ∷ []) (call (log 0 (set0 2)) ∷ writeBack 3 ∷ fails junk ∷ []) maxLag 1000 junk (0 ∷ 0 ∷ []) (0 ∷ 1 ∷ []) refl
 
 -- ---- the withdrawn POKE
 -- 21. Log refuses a POKE only where its run comes to it, and takes one that is passed over, as by the former rule
@@ -468,7 +472,7 @@ pokePassedOver =
 
 poke-passed-over : CrashTheorem pokePassedOver → ⊥
 unfolding made pokePassedOver pokes
-poke-passed-over = wrong-answer pokePassedOver small (3 ∷ 0 ∷ []) [] (log 0 pokePassed) (0 ∷ 2 ∷ []) (5 ∷ []) refl
+poke-passed-over = wrong-answer pokePassedOver small maxLag (3 ∷ 0 ∷ []) [] (log 0 pokePassed) (0 ∷ 2 ∷ []) (5 ∷ []) refl
 
 -- 22. Validate takes the POKE that its lane holds
 unfoldable validatesPoke : Design
@@ -476,7 +480,7 @@ validatesPoke = calling (validating (λ r z L f m. validateStepBy former z L f m
 
 validates-poke : CrashTheorem validatesPoke → ⊥
 unfolding made validatesPoke
-validates-poke = wrong-answer validatesPoke small (3 ∷ 0 ∷ []) (call (logBy former 0 poke) ∷ []) (validate 0 poke) (0 ∷ 4 ∷ []) (5 ∷ []) refl
+validates-poke = wrong-answer validatesPoke small maxLag (3 ∷ 0 ∷ []) (call (logBy former 0 poke) ∷ []) (validate 0 poke) (0 ∷ 4 ∷ []) (5 ∷ []) refl
 
 -- 23. Redo refuses a transaction whose first instruction is a POKE. What a lane holds does not tell, so this store notes the first code of a transaction of
 -- fewer than 16 writes in the lane's last pair, which those leave free
@@ -501,7 +505,7 @@ redoRefuses =
 
 redo-refuses : CrashTheorem redoRefuses → ⊥
 unfolding made redoRefuses noted isNoted
-redo-refuses = wrong-answer redoRefuses small (3 ∷ 0 ∷ []) (call (logBy former 0 poke) ∷ []) (redo 0) (5 ∷ []) (0 ∷ 4 ∷ []) refl
+redo-refuses = wrong-answer redoRefuses small maxLag (3 ∷ 0 ∷ []) (call (logBy former 0 poke) ∷ []) (redo 0) (5 ∷ []) (0 ∷ 4 ∷ []) refl
 
 -- ---- the trailer
 -- 24. A Format that writes the trailer to the cache alone: in the cells stands what stood there
@@ -512,7 +516,7 @@ trailerCached =
 
 trailer-cached : CrashTheorem trailerCached → ⊥
 unfolding made trailerCached
-trailer-cached = wrong-end trailerCached small (0 ∷ 0 ∷ []) [] (fails junk) (0 ∷ 0 ∷ 0 ∷ 0 ∷ []) (2 ∷ 2 ∷ 34 ∷ 139 ∷ []) refl
+trailer-cached = wrong-end trailerCached small maxLag (0 ∷ 0 ∷ []) [] (fails junk) (0 ∷ 0 ∷ 0 ∷ 0 ∷ []) (2 ∷ 2 ∷ 34 ∷ 139 ∷ []) refl
 
 -- 25. To the cells alone: a write-back of its first word, word 139, stores what the cache holds there
 unfoldable trailerStored : Design
@@ -523,7 +527,7 @@ trailerStored =
 trailer-stored : CrashTheorem trailerStored → ⊥
 unfolding made trailerStored
 trailer-stored =
-    wrong-end trailerStored small (0 ∷ 0 ∷ []) (writeBack 139 ∷ []) (fails junk) (0 ∷ 2 ∷ 34 ∷ 139 ∷ []) (2 ∷ 2 ∷ 34 ∷ 139 ∷ []) refl
+    wrong-end trailerStored small maxLag (0 ∷ 0 ∷ []) (writeBack 139 ∷ []) (fails junk) (0 ∷ 2 ∷ 34 ∷ 139 ∷ []) (2 ∷ 2 ∷ 34 ∷ 139 ∷ []) refl
 
 -- 26. Recovery clears all words from the first log on, to the end of the cells
 unfoldable trailerCleared : Design
@@ -532,7 +536,8 @@ trailerCleared = storing (λ z image. undoStores z image ++ (base z image ++ zer
 trailer-cleared : CrashTheorem trailerCleared → ⊥
 unfolding made trailerCleared
 trailer-cleared =
-    wrong-end trailerCleared small (0 ∷ 0 ∷ []) (fails junk ∷ recover 1000 junk ∷ []) (fails junk) (0 ∷ 0 ∷ 0 ∷ 0 ∷ []) (2 ∷ 2 ∷ 34 ∷ 139 ∷ []) refl
+    wrong-end trailerCleared small maxLag (0 ∷ 0 ∷ []) (fails junk ∷ recover maxLag 1000 junk ∷ []) (fails junk)
+    (0 ∷ 0 ∷ 0 ∷ 0 ∷ []) (2 ∷ 2 ∷ 34 ∷ 139 ∷ []) refl
 
 -- 27. A Mark that flushes the trailer too: the lane's next drain would store to it, though only what stands there
 unfoldable trailerFlushed : Design
@@ -550,7 +555,7 @@ trailerFlushed =
 trailer-flushed : CrashTheorem trailerFlushed → ⊥
 unfolding made trailerFlushed
 trailer-flushed =
-    wrong-end trailerFlushed small (0 ∷ 0 ∷ []) [] (call (mark 1))
+    wrong-end trailerFlushed small maxLag (0 ∷ 0 ∷ []) [] (call (mark 1))
     (2 ∷ 2 ∷ 34 ∷ 139 ∷ 2 ∷ 2 ∷ 34 ∷ 139 ∷ 2 ∷ 2 ∷ 2 ∷ 2 ∷ []) (2 ∷ 2 ∷ 34 ∷ 139 ∷ 2 ∷ 2 ∷ 34 ∷ 139 ∷ 0 ∷ 0 ∷ 0 ∷ 0 ∷ []) refl
 
 -- 28. Recovery reads the sizes from the end of the cache, in which a failure may leave anything: it is refused
@@ -561,21 +566,22 @@ readsCache =
       writeBack = writeBackStep;
       call = callStep;
       recover = recoverStep;
-      recoverRead = λ limit m.
+      recoverRead = λ lag limit m.
           let n = length (m .nvm) in
           let number =
           firstCause
           (record { number = 1; holds = not (allAre n (length (m .cache)) n (length (m .flags))) }
           ∷ record { number = 14; holds = not (trailerOk (m .cache)) }
+          ∷ badLag lag
           ∷ oddBase m
           ∷ []) in
-          recoveredBy (sizesAtEnd (m .cache)) limit number m;
+          recoveredBy (sizesAtEnd (m .cache)) lag limit number m;
       cutShort = recoveredNvm;
     }
 
 reads-cache : CrashTheorem readsCache → ⊥
 unfolding made readsCache
-reads-cache = wrong-count readsCache small (0 ∷ 0 ∷ []) (fails junk ∷ []) 1000 junk [] (0 ∷ 0 ∷ []) refl
+reads-cache = wrong-count readsCache small maxLag (0 ∷ 0 ∷ []) (fails junk ∷ []) maxLag 1000 junk [] (0 ∷ 0 ∷ []) refl
 
 -- 29. Recovery with sizes given takes images with a trailer alone: no store that was there before could be taken over
 unfoldable takesSized : Design
@@ -584,9 +590,9 @@ takesSized =
       format = formatStep;
       writeBack = writeBackStep;
       call = callStep;
-      recover = λ z limit m.
+      recover = λ z lag limit m.
           let fits = formatOk z (length (m .cache)) (length (m .nvm)) (length (m .flags)) in
-          recoveredBy z limit (firstCause (record { number = 1; holds = not fits } ∷ oddBase m ∷ [])) m;
+          recoveredBy z lag limit (firstCause (record { number = 1; holds = not fits } ∷ badLag lag ∷ oddBase m ∷ [])) m;
       recoverRead = recoverReadStep;
       cutShort = recoveredNvm;
     }
@@ -594,8 +600,8 @@ takesSized =
 takes-sized : FormerTheorem takesSized → ⊥
 unfolding made takesSized
 takes-sized =
-    wrong-former takesSized small 1000
-    (record { state = startRecord 0; cache = replicate 139 0; nvm = replicate 139 0; flags = replicate 139 0 }) [] (0 ∷ 0 ∷ []) refl
+    wrong-former takesSized small maxLag 1000
+    (record { state = blankRecord; cache = replicate 139 0; nvm = replicate 139 0; flags = replicate 139 0 }) [] (0 ∷ 0 ∷ []) refl
 
 -- 30. A call that writes the trailer back with its drain: that shows where the cache holds something else there
 unfoldable trailerDrained : Design
@@ -611,7 +617,7 @@ trailer-drained : TrailerTheorem trailerDrained → ⊥
 unfolding made trailerDrained
 trailer-drained =
     wrong-trailer trailerDrained small
-    (record { state = startRecord 0; cache = replicate 143 0; nvm = startImage small (0 ∷ 0 ∷ []); flags = replicate 143 0 })
+    (record { state = blankRecord; cache = replicate 143 0; nvm = startImage small (0 ∷ 0 ∷ []); flags = replicate 143 0 })
     (call (drain 0)) (0 ∷ 0 ∷ 0 ∷ 0 ∷ []) (2 ∷ 2 ∷ 34 ∷ 139 ∷ []) refl
 
 -- ---- marked lanes
@@ -623,9 +629,9 @@ endsAtMark = calling (marking (λ z L m. unfloored L (markStep z L m)) callStep)
 ends-at-mark : CrashTheorem endsAtMark → ⊥
 unfolding made endsAtMark additions
 ends-at-mark =
-    wrong-recovery endsAtMark small (0 ∷ 0 ∷ [])
+    wrong-recovery endsAtMark small maxLag (0 ∷ 0 ∷ [])
     (call (log 1 (set1 9)) ∷ call (redo 1) ∷ call (mark 1) ∷ threeOnLane0 ++ (writeBacks 0 71 ++ (fails junk ∷ [])))
-    1000 junk (16 ∷ 0 ∷ []) (0 ∷ 0 ∷ []) refl
+    maxLag 1000 junk (16 ∷ 0 ∷ []) (0 ∷ 0 ∷ []) refl
 
 -- 32. A marked lane's sequences are not undone. Lane 0 has logged at 2 and drained, so the boundary is 2; lane 1's commit at 6 stays
 unfoldable whereGiven : Timestamp → List Complete → List Complete
@@ -642,9 +648,9 @@ markedStay = storing (λ z image. undoSequences (undoneFrom (boundary z image) (
 marked-stay : CrashTheorem markedStay → ⊥
 unfolding made markedStay givers whereGiven
 marked-stay =
-    wrong-recovery markedStay small (0 ∷ 0 ∷ [])
+    wrong-recovery markedStay small maxLag (0 ∷ 0 ∷ [])
     (call (log 0 (set0 2)) ∷ call (drain 0) ∷ call (log 1 (set1 9)) ∷ call (redo 1) ∷ call (mark 1) ∷ call (drain 1) ∷ fails junk ∷ [])
-    1000 junk (0 ∷ 9 ∷ []) (0 ∷ 0 ∷ []) refl
+    maxLag 1000 junk (0 ∷ 9 ∷ []) (0 ∷ 0 ∷ []) refl
 
 -- 33. Drain takes the newest sequence of every lane that holds nothing, a commit's too, for a mark, and ends the floor. Lane 1's commit at 4 is the
 -- boundary, and lane 0's third transaction is logged over its first one
@@ -654,8 +660,8 @@ endsAtCommit = calling (draining (λ z L m. let s = drainStep z L m in cond (isL
 ends-at-commit : CrashTheorem endsAtCommit → ⊥
 unfolding made endsAtCommit additions
 ends-at-commit =
-    wrong-recovery endsAtCommit small (0 ∷ 0 ∷ [])
-    (call (log 1 (set1 9)) ∷ call (redo 1) ∷ call (drain 1) ∷ threeOnLane0 ++ allBackAndCut) 1000 junk (16 ∷ 0 ∷ []) (0 ∷ 0 ∷ []) refl
+    wrong-recovery endsAtCommit small maxLag (0 ∷ 0 ∷ [])
+    (call (log 1 (set1 9)) ∷ call (redo 1) ∷ call (drain 1) ∷ threeOnLane0 ++ allBackAndCut) maxLag 1000 junk (16 ∷ 0 ∷ []) (0 ∷ 0 ∷ []) refl
 
 -- recovery by another boundary: the least of what the lanes below k give by g
 unfoldable leastBy : (Latest → Timestamp) → Sizes → List ℕ → (k : ℕ) → Timestamp
@@ -677,8 +683,8 @@ oneAsMark = boundedBy givesOverOne
 one-as-mark : CrashTheorem oneAsMark → ⊥
 unfolding made oneAsMark boundedBy leastBy givesOverOne
 one-as-mark =
-    wrong-recovery oneAsMark small (0 ∷ 0 ∷ [])
-    (call (log 0 (set0 2)) ∷ call (redo 0) ∷ writeBack 1 ∷ fails junk ∷ []) 1000 junk (2 ∷ 0 ∷ []) (0 ∷ 0 ∷ []) refl
+    wrong-recovery oneAsMark small maxLag (0 ∷ 0 ∷ [])
+    (call (log 0 (set0 2)) ∷ call (redo 0) ∷ writeBack 1 ∷ fails junk ∷ []) maxLag 1000 junk (2 ∷ 0 ∷ []) (0 ∷ 0 ∷ []) refl
 
 -- 35. A mark gives a boundary. Lane 1 is marked at 2 and drained and stays idle; lane 0 commits at 6, is marked and drained, and its commit is lost
 unfoldable givesAlways : Latest → Timestamp
@@ -691,9 +697,9 @@ marksGive = boundedBy givesAlways
 marks-give : IdleTheorem marksGive → ⊥
 unfolding made marksGive boundedBy leastBy givesAlways
 marks-give =
-    wrong-idle marksGive small (0 ∷ 0 ∷ []) 1 [] []
+    wrong-idle marksGive small maxLag (0 ∷ 0 ∷ []) 1 [] []
     (call (log 0 (set0 2)) ∷ call (redo 0) ∷ call (mark 0) ∷ call (drain 0) ∷ fails junk ∷ [])
-    1000 junk (0 ∷ 0 ∷ []) (2 ∷ 0 ∷ []) refl
+    maxLag 1000 junk (0 ∷ 0 ∷ []) (2 ∷ 0 ∷ []) refl
 
 -- ---- commits that can no longer be lost
 -- 36. The boundary is the oldest timestamp over entries, not the least of the lanes' newest. Lane 0 commits at 4, is marked and drained, so no lane has a
@@ -710,5 +716,162 @@ byOldest =
 by-oldest : SafeTheorem byOldest → ⊥
 unfolding made byOldest oldest
 by-oldest =
-    wrong-safe byOldest small (0 ∷ 0 ∷ []) (call (log 0 (set0 2)) ∷ call (redo 0) ∷ call (mark 0) ∷ call (drain 0) ∷ []) (fails junk ∷ [])
-    4 1000 junk (0 ∷ 0 ∷ []) (2 ∷ 0 ∷ []) refl
+    wrong-safe byOldest small maxLag (0 ∷ 0 ∷ []) (call (log 0 (set0 2)) ∷ call (redo 0) ∷ call (mark 0) ∷ call (drain 0) ∷ []) (fails junk ∷ [])
+    4 maxLag 1000 junk (0 ∷ 0 ∷ []) (2 ∷ 0 ∷ []) refl
+
+-- ---- the lag limit
+unfoldable withLag : ℕ → Machine → Machine
+withLag lag m =
+    record {
+      state = record { clock = m .state .clock; last = m .state .last; lanes = m .state .lanes; lag = lag };
+      cache = m .cache;
+      nvm = m .nvm;
+      flags = m .flags;
+    }
+
+-- a store whose Log goes by a test of its own for 15. The greatest limit never binds in these lists
+unfoldable lagging : (Sizes → ℕ → List ℕ → Machine → Bool) → Design
+lagging far =
+    calling
+    (logging
+    (λ r z L f m.
+    let s = logStepBy r z L f (withLag maxLag m) in
+    let n = said (s .answer) .number in
+    cond ((eqb n 0 || eqb n 9) && far z L f m) (record { answer = Refused 15; machine = m })
+    (record { answer = s .answer; machine = withLag (m .state .lag) (s .machine) }))
+    callStep)
+
+unfoldable isWriting : Sizes → List ℕ → Machine → Bool
+isWriting z f m = leb 1 (length (writesOn z f m))
+
+-- lane 1 logs at 2, and drains, so that 2 is the boundary; lane 0 logs at 4 and commits at 6
+abbrev lane0Ahead : List Event
+lane0Ahead = call (log 1 (set1 9)) ∷ call (drain 1) ∷ call (log 0 (set0 2)) ∷ call (redo 0) ∷ []
+
+-- 37. No Log is refused with 15. With a limit of 2 lane 0 logs at 8, and the boundary is 2
+unfoldable neverLags : Design
+neverLags = lagging (λ z L f m. false)
+
+never-lags : LagTheorem neverLags → ⊥
+unfolding made neverLags lagging withLag
+never-lags = wrong-loss neverLags small 2 (0 ∷ 0 ∷ []) lane0Ahead current 0 (set0 3) (fails junk ∷ []) 8 2 refl
+
+-- 38. A timestamp at the limit is refused: 4, with a floor of 2 and a limit of 2
+unfoldable reaches : (lag s : ℕ) → Timestamp → Bool
+reaches lag s None = false
+reaches lag s (At f) = leb (f + lag) s
+
+unfoldable edgeRefused : Design
+edgeRefused = lagging (λ z L f m. isWriting z f m && reaches (m .state .lag) (m .state .clock + 2) (boundOf z (drained z L m .state)))
+
+edge-refused : CrashTheorem edgeRefused → ⊥
+unfolding made edgeRefused lagging withLag isWriting reaches
+edge-refused = wrong-answer edgeRefused small 2 (0 ∷ 0 ∷ []) (call (log 1 (set1 9)) ∷ []) (log 0 (set0 2)) (15 ∷ []) (0 ∷ 4 ∷ []) refl
+
+-- 39. The floors are those before the drain. A lane by itself, which logs at 2 and commits at 4, has a floor of 4 once its next Log has drained it
+unfoldable floorsBefore : Design
+floorsBefore = lagging (λ z L f m. isWriting z f m && lagPassed (m .state .lag) (m .state .clock + 2) (boundOf z (m .state)))
+
+floors-before : CrashTheorem floorsBefore → ⊥
+unfolding made floorsBefore lagging withLag isWriting
+floors-before =
+    wrong-answer floorsBefore small 2 (0 ∷ 0 ∷ []) (call (log 0 (set0 2)) ∷ call (redo 0) ∷ []) (log 0 (set0 3)) (15 ∷ []) (0 ∷ 6 ∷ []) refl
+
+-- 40. It binds where no lane has a floor, as if that were one of 0. Lane 0 is marked and drained twice
+unfoldable passedAlways : (lag s : ℕ) → Timestamp → Bool
+passedAlways lag s None = ltb lag s
+passedAlways lag s (At f) = ltb (f + lag) s
+
+unfoldable bindsWithout : Design
+bindsWithout = lagging (λ z L f m. isWriting z f m && passedAlways (m .state .lag) (m .state .clock + 2) (boundOf z (drained z L m .state)))
+
+binds-without : CrashTheorem bindsWithout → ⊥
+unfolding made bindsWithout lagging withLag isWriting passedAlways
+binds-without =
+    wrong-answer bindsWithout small 2 (0 ∷ 0 ∷ []) (call (mark 0) ∷ call (drain 0) ∷ call (mark 0) ∷ call (drain 0) ∷ [])
+    (log 1 (set1 9)) (15 ∷ []) (0 ∷ 6 ∷ []) refl
+
+-- 41. It binds a Log that writes nothing: word 1 is 0, so the SET is passed over
+unfoldable bindsEmpty : Design
+bindsEmpty = lagging (λ z L f m. wouldLag z L m)
+
+binds-empty : CrashTheorem bindsEmpty → ⊥
+unfolding made bindsEmpty lagging withLag
+binds-empty = wrong-answer bindsEmpty small 2 (0 ∷ 0 ∷ []) lane0Ahead (log 0 (5 ∷ 0 ∷ 1 ∷ 1 ∷ set0 3)) (15 ∷ []) (0 ∷ []) refl
+
+-- 42. It binds a Mark
+unfoldable bindsMark : Design
+bindsMark = calling (marking (λ z L m. cond (wouldLag z L m) (record { answer = Refused 15; machine = m }) (markStep z L m)) callStep)
+
+binds-mark : CrashTheorem bindsMark → ⊥
+unfolding made bindsMark
+binds-mark = wrong-answer bindsMark small 2 (0 ∷ 0 ∷ []) lane0Ahead (mark 0) (15 ∷ []) (0 ∷ 8 ∷ []) refl
+
+-- 43. 15 comes after 9. Lane 1 is marked at 2 and keeps that floor; 34 marks have filled lane 0's log
+unfoldable fullFirst : Design
+fullFirst =
+    calling
+    (logging
+    (λ r z L f m. cond (eqb (logRefusalBy r z L f (withLag maxLag m)) 9) (record { answer = Refused 9; machine = m }) (logStepBy r z L f m))
+    callStep)
+
+unfoldable marksOf : (L n : ℕ) → List Event
+marksOf L zero = []
+marksOf L (suc n) = call (mark L) ∷ marksOf L n
+
+full-first : CrashTheorem fullFirst → ⊥
+unfolding made fullFirst withLag marksOf
+full-first = wrong-answer fullFirst small 2 (0 ∷ 0 ∷ []) (call (mark 1) ∷ marksOf 0 34) (log 0 (set0 2)) (9 ∷ []) (15 ∷ []) refl
+
+-- 44. Recovery makes a record with a limit of its own, not with the one that it is given
+unfoldable forgetsLag : Design
+forgetsLag =
+    record {
+      format = formatStep;
+      writeBack = writeBackStep;
+      call = callStep;
+      recover = recoverStep;
+      recoverRead = λ lag limit m. let r = recoverReadStep lag limit m in record { answer = r .answer; machine = withLag 2 (r .machine) };
+      cutShort = recoveredNvm;
+    }
+
+forgets-lag : CrashTheorem forgetsLag → ⊥
+unfolding made forgetsLag withLag
+forgets-lag = wrong-lag forgetsLag small 6 (0 ∷ 0 ∷ []) (fails junk ∷ []) (recover 4 1000 junk) (2 ∷ []) (4 ∷ []) refl
+
+-- 45. Recovery takes any lag limit
+unfoldable recoversAny : Design
+recoversAny =
+    record {
+      format = formatStep;
+      writeBack = writeBackStep;
+      call = callStep;
+      recover = recoverStep;
+      recoverRead = λ lag limit m. let r = recoverReadStep maxLag limit m in record { answer = r .answer; machine = withLag lag (r .machine) };
+      cutShort = recoveredNvm;
+    }
+
+recovers-any : CrashTheorem recoversAny → ⊥
+unfolding made recoversAny withLag
+recovers-any = wrong-count recoversAny small maxLag (0 ∷ 0 ∷ []) (fails junk ∷ []) 3 1000 junk (0 ∷ 0 ∷ []) [] refl
+
+-- a store that differs in its Format
+unfoldable formatsBy : (Sizes → (lag : ℕ) → (start : List ℕ) → Machine → Step) → Design
+formatsBy f =
+    record { format = f; writeBack = writeBackStep; call = callStep; recover = recoverStep; recoverRead = recoverReadStep; cutShort = recoveredNvm }
+
+-- 46. Format takes any lag limit
+unfoldable formatsAny : Design
+formatsAny = formatsBy (λ z lag start m. let s = formatStep z maxLag start m in record { answer = s .answer; machine = withLag lag (s .machine) })
+
+formats-any : CrashTheorem formatsAny → ⊥
+unfolding made formatsAny formatsBy withLag
+formats-any = wrong-format formatsAny small maxLag (0 ∷ 0 ∷ []) [] 3 (0 ∷ 0 ∷ []) (0 ∷ []) (16 ∷ []) refl
+
+-- 47. Format looks at the lag limit before the start words
+unfoldable lagFirst : Design
+lagFirst = formatsBy (λ z lag start m. cond (lagOk lag) (formatStep z lag start m) (record { answer = Refused 16; machine = m }))
+
+lag-first : CrashTheorem lagFirst → ⊥
+unfolding made lagFirst formatsBy
+lag-first = wrong-format lagFirst small maxLag (0 ∷ 0 ∷ []) [] 3 (0 ∷ []) (16 ∷ []) (1 ∷ []) refl

@@ -29,6 +29,19 @@ returns-2 : tie.Need-returns-2 Inv-loop μ-loop
 unfolding recordOk
 returns-2 c = rw (eq-eqb _ _ (c .before .before .if1 .left), sym (c .before .stamp-ok .ensures) ∙ not-true _ (c .if2 .taken))
 
+lag-ok-requires : tie.Need-lag-ok-requires Inv-loop μ-loop
+lag-ok-requires c κs = search needs
+
+returns-3 : tie.Need-returns-3 Inv-loop μ-loop
+unfolding recordOk
+returns-3 c =
+    let s = c .before .before in
+    rw (
+      eq-eqb _ _ (s .before .before .if1 .left),
+      sym (s .before .stamp-ok .ensures) ∙ not-false _ (s .if2 .left),
+      sym (c .before .lag-ok .ensures) ∙ not-true _ (c .if3 .taken),
+    )
+
 loop-holds : tie.Need-loop-holds Inv-loop μ-loop
 loop-holds c = (search needs, lanes-none _ _)
 
@@ -41,16 +54,21 @@ element-copy-out-lane c = search needs
 lane-ok-requires : tie.Need-lane-ok-requires Inv-loop μ-loop
 lane-ok-requires c κs = search needs
 
-returns-3 : tie.Need-returns-3 Inv-loop μ-loop
+returns-4 : tie.Need-returns-4 Inv-loop μ-loop
 unfolding recordOk
-returns-3 c =
+returns-4 c =
     let l = c .before .before .before .before in
-    let s = l .before .before .before .before in
+    let g = l .before .before .before in
+    let s = g .before .before .before in
     let k : l .loop .i < length (s .args .t2 .lanes) = omega (arith, lanes-eight (s .args .t2) (s .good .1 .0)) in
-    rw (eq-eqb _ _ (l .before .before .before .if1 .left), sym (l .before .before .stamp-ok .ensures) ∙ not-false _ (l .before .if2 .left))
+    rw (
+      eq-eqb _ _ (g .before .before .if1 .left),
+      sym (g .before .stamp-ok .ensures) ∙ not-false _ (g .if2 .left),
+      sym (l .before .before .lag-ok .ensures) ∙ not-false _ (l .before .if3 .left),
+    )
     (sym
     (lanes-fail _ _ (s .args .t2 .lanes) (l .loop .i) (s .args .sizes .lanes) (search needs) k
-    (sym (c .before .lane-ok .ensures) ∙ not-true _ (c .if3 .taken))))
+    (sym (c .before .lane-ok .ensures) ∙ not-true _ (c .if4 .taken))))
 
 add-i : tie.Need-add-i Inv-loop μ-loop
 add-i c = search needs
@@ -61,20 +79,25 @@ loop-less c = search needs
 loop-again : tie.Need-loop-again Inv-loop μ-loop
 loop-again c =
     let l = c .before .before .before .before in
-    let a = l .before .before .before .before .args in
-    (search needs, lanes-more _ _ (a .t2 .lanes) (l .loop .i) (l .loop .inv .1) (sym (c .before .lane-ok .ensures) ∙ not-false _ (c .if3 .left)))
+    let a = l .before .before .before .before .before .before .args in
+    (search needs, lanes-more _ _ (a .t2 .lanes) (l .loop .i) (l .loop .inv .1) (sym (c .before .lane-ok .ensures) ∙ not-false _ (c .if4 .left)))
 
-returns-4 : tie.Need-returns-4 Inv-loop μ-loop
+returns-5 : tie.Need-returns-5 Inv-loop μ-loop
 unfolding recordOk
-returns-4 c =
+returns-5 c =
     let l = c .before in
-    let s = l .before .before .before .before in
+    let g = l .before .before .before in
+    let s = g .before .before .before in
     let e : l .loop .i ≡ s .args .sizes .lanes = omega arith in
-    rw (eq-eqb _ _ (l .before .before .before .if1 .left), sym (l .before .before .stamp-ok .ensures) ∙ not-false _ (l .before .if2 .left))
+    rw (
+      eq-eqb _ _ (g .before .before .if1 .left),
+      sym (g .before .stamp-ok .ensures) ∙ not-false _ (g .if2 .left),
+      sym (l .before .before .lag-ok .ensures) ∙ not-false _ (l .before .if3 .left),
+    )
     (sym (rw e at (l .loop .inv .1)))
 
 pub record-ok-spec : {M : Type 1} → statement M
 record-ok-spec =
     tie.close
-    (tie.spec Inv-loop μ-loop returns stamp-ok-requires returns-2 loop-holds mul-lane element-copy-out-lane
-    lane-ok-requires returns-3 add-i loop-less loop-again returns-4)
+    (tie.spec Inv-loop μ-loop returns stamp-ok-requires returns-2 lag-ok-requires returns-3 loop-holds mul-lane element-copy-out-lane
+    lane-ok-requires returns-4 add-i loop-less loop-again returns-5)

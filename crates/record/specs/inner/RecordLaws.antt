@@ -9,8 +9,8 @@ use native.Mathlib.Omega.{arith}
 use lib.Dec.{leb, ltb, eqb}
 use lib.ListN.{length, getD, take}
 use lib.Seq.{set-set}
-use borrow.Author.Tests.{eqb-true, leb-true, leb-false, ltb-true}
-use Rattle.laws.specs.inner.Tests.{and-left, and-right}
+use borrow.Author.Tests.{eqb-true, leb-true, leb-false, ltb-true, ltb-false, lt-ltb, le-ltb}
+use Rattle.laws.specs.inner.Tests.{split, and-left, and-right}
 use Rattle.txn.specs.Txn.{maxWrites}
 use Rattle.txn.specs.declared.Write.{Write}
 use Rattle.image.specs.declared.Sizes.{Sizes}
@@ -22,8 +22,8 @@ use Rattle.record.specs.declared.Phase.{Phase}
 use Rattle.record.specs.declared.Phase.the-variants.{Idle, Holds}
 use Rattle.record.specs.declared.Lane.{Lane}
 use Rattle.record.specs.declared.Record.{Record}
-use Rattle.record.specs.Record.{noPair, noLane, laneAt, isLogged, loggedIn, stampOk, floorOk, pairsOk, phaseOk, laneOk, lanesOk, recordOk, spent}
-use Rattle.record.specs.Record.{lesser, withLane, withClock, pairsOf}
+use Rattle.record.specs.Record.{noPair, noLane, laneAt, isLogged, loggedIn, stampOk, floorOk, pairsOk, phaseOk, laneOk, lanesOk, lagOk, recordOk, spent}
+use Rattle.record.specs.Record.{lesser, lagPassed, withLane, withClock, pairsOf}
 use Rattle.record.specs.inner.Every.{every, every-at}
 
 -- ---- what the range check says
@@ -111,6 +111,7 @@ lane-in z clock l h =
 pub record RecordIn (z : Sizes) (r : Record) : Type 0 where
   pub clock : r .clock % 2 ≡ 0
   pub last : StampIn (r .clock) (r .last)
+  pub lag : lagOk (r .lag) ≡ true
   pub lanes : (L : ℕ) → L < z .lanes → L < length (r .lanes) → laneOk z (r .clock) (laneAt r L) ≡ true
 
 pub record-in : (z : Sizes) (r : Record) → recordOk z r ≡ true → RecordIn z r
@@ -118,16 +119,24 @@ unfolding recordOk laneAt
 record-in z r h =
     let a = eqb (r .clock % 2) 0 in
     let b = stampOk (r .clock) (r .last) in
-    let c = lanesOk z (r .clock) (take (z .lanes) (r .lanes)) in
-    let h₁ = and-right a (b && c) h in
+    let c = lagOk (r .lag) in
+    let d = lanesOk z (r .clock) (take (z .lanes) (r .lanes)) in
+    let h₁ = and-right a (b && (c && d)) h in
+    let h₂ = and-right b (c && d) h₁ in
     record {
-      clock = eqb-true (r .clock % 2) 0 (and-left a (b && c) h);
-      last = stamp-in (r .clock) (r .last) (and-left b c h₁);
+      clock = eqb-true (r .clock % 2) 0 (and-left a (b && (c && d)) h);
+      last = stamp-in (r .clock) (r .last) (and-left b (c && d) h₁);
+      lag = and-left c d h₂;
       lanes = λ L u k. every-at (laneOk z (r .clock)) (r .lanes) L (z .lanes) noLane
-          (sym (lanes-every z (r .clock) (take (z .lanes) (r .lanes))) ∙ and-right b c h₁) u k;
+          (sym (lanes-every z (r .clock) (take (z .lanes) (r .lanes))) ∙ and-right c d h₂) u k;
     }
 
--- a clock that is not spent has room for a new timestamp, clock + 2, and its wrap bit
+-- a clock that is not spent has room for a new timestamp, clock + 2
+pub clock-next : (r : Record) → spent r ≡ false → r .clock + 2 < 2 ^ 64
+unfolding spent
+clock-next r h = omega (arith, leb-false (2 ^ 64 - 2) (r .clock) h)
+
+-- and, where it is even, for its wrap bit
 pub clock-room : (r : Record) → spent r ≡ false → r .clock % 2 ≡ 0 → r .clock + 3 < 2 ^ 64
 unfolding spent
 clock-room r h e = omega (arith, leb-false (2 ^ 64 - 2) (r .clock) h)
@@ -136,7 +145,7 @@ clock-room r h e = omega (arith, leb-false (2 ^ 64 - 2) (r .clock) h)
 -- of two updates of a lane the second stays
 pub lane-twice : (r : Record) (L : ℕ) (a b : Lane) → withLane (withLane r L a) L b ≡ withLane r L b
 unfolding withLane
-lane-twice r L a b = ap (λ (ls : List Lane). record { clock = r .clock; last = r .last; lanes = ls }) (set-set (r .lanes) L a b)
+lane-twice r L a b = ap (λ (ls : List Lane). record { clock = r .clock; last = r .last; lanes = ls; lag = r .lag }) (set-set (r .lanes) L a b)
 
 pub clock-lane : (r : Record) (clock L : ℕ) (l : Lane) → withClock (withLane r L l) clock ≡ withLane (withClock r clock) L l
 unfolding withClock withLane
@@ -154,6 +163,19 @@ lesser-assoc None b c = refl
 lesser-assoc (At a) None c = refl
 lesser-assoc (At a) (At b) None = refl
 lesser-assoc (At a) (At b) (At c) = ap At (let e : min (min a b) c ≡ min a (min b c) = omega arith in e)
+
+-- ---- the lag limit
+-- a difference above the limit, where there is one
+pub lag-above : (lag s f : ℕ) → f < s → ltb lag (s - f) ≡ lagPassed lag s (At f)
+unfolding lagPassed
+lag-above lag s f h =
+    split (ltb (f + lag) s) (λ e. lt-ltb lag (s - f) (omega (arith, ltb-true (f + lag) s e)) ∙ sym e)
+    (λ e. le-ltb lag (s - f) (omega (arith, ltb-false (f + lag) s e)) ∙ sym e)
+
+-- a bound that is not below the timestamp is not in its way
+pub lag-below : (lag s f : ℕ) → s ≤ f → ltb f s ≡ lagPassed lag s (At f)
+unfolding lagPassed
+lag-below lag s f h = le-ltb f s h ∙ sym (le-ltb (f + lag) s (omega arith))
 
 -- ---- the redo log
 -- the first pairs of a longer redo log

@@ -21,12 +21,12 @@ same-length-3 : tie.Need-same-length-3
 same-length-3 c = search needs
 
 returns : tie.Need-returns
-returns c = rw (c .refused .ensures) (recover-refused _ _ _ _ (c .before .before .recover-refusal .ensures) (c .before .if1 .taken))
+returns c = rw (c .refused .ensures) (recover-refused _ _ _ _ _ (c .before .before .recover-refusal .ensures) (c .before .if1 .taken))
 
 recover-by-requires : tie.Need-recover-by-requires
 recover-by-requires c κs =
     let e = c .before .before .before in
-    let k = recover-checked _ _ (sym (e .before .recover-refusal .ensures) ∙ e .if1 .left) in
+    let k = recover-checked _ _ _ (sym (e .before .recover-refusal .ensures) ∙ e .if1 .left) in
     (k .image, (k .same-cache, k .same-flags))
 
 same-length-4 : tie.Need-same-length-4
@@ -42,7 +42,7 @@ returns-2 : tie.Need-returns-2
 returns-2 c =
     let b = c .before .before .before .before .before .before in
     let e = b .before .before .before .before in
-    b .recover-by .ensures ∙ recover-taken _ _ _ (sym (e .before .recover-refusal .ensures) ∙ e .if1 .left)
+    b .recover-by .ensures ∙ recover-taken _ _ _ _ (sym (e .before .recover-refusal .ensures) ∙ e .if1 .left)
 
 pub recover-spec : {M : Type 1} → statement M
 recover-spec =

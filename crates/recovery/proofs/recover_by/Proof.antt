@@ -10,8 +10,8 @@ use Rattle.recovery.proofs.recover_by.Tie as tie
 recover-nvm-requires : tie.Need-recover-nvm-requires
 recover-nvm-requires c κs = search needs
 
-start-record-requires : tie.Need-start-record-requires
-start-record-requires c κs = search needs
+blank-record-requires : tie.Need-blank-record-requires
+blank-record-requires c κs = search needs
 
 same-length : tie.Need-same-length
 same-length c = search needs
@@ -21,7 +21,7 @@ returns c =
     let t = c .before in
     let m = t .before .before .before .before in
     let d = m .recover-nvm .ensures in
-    rw (c .start-record .ensures) (by-cut _ _ _ _ (d .1 .1 .0) _ (d .1 .1 .1 .1) (t .if1 .taken))
+    rw (c .blank-record .ensures) (by-cut _ _ _ _ _ (d .1 .1 .0) _ (d .1 .1 .1 .1) (t .if1 .taken))
 
 refill-requires : tie.Need-refill-requires
 refill-requires c κs = search needs
@@ -32,8 +32,8 @@ slice-read-start-record c =
     let s = m .before .before .before .before .before in
     rw (recovered-long _ _ _ _ (m .recover-nvm .ensures .1 .1 .1 .1)) (image-filled _ _ (s .pre .0 .in-image))
 
-start-record-requires-2 : tie.Need-start-record-requires-2
-start-record-requires-2 c κs = search needs
+start-record-requires : tie.Need-start-record-requires
+start-record-requires c κs = search needs
 
 same-length-2 : tie.Need-same-length-2
 same-length-2 c = search needs
@@ -51,12 +51,12 @@ returns-2 c =
     let m = n .before .before .before .before in
     let s = m .before .before .before .before .before in
     let d = m .recover-nvm .ensures in
-    by-finished _ _ _ _ (d .1 .1 .0) _ _ _ _ _ _ _ (d .0) (d .1 .0) (d .1 .1 .1 .0) (d .1 .1 .1 .1)
-    (c .start-record2 .ensures) (f .refill .ensures .0)
+    by-finished _ (s .args .lag) _ _ _ (d .1 .1 .0) _ _ _ _ _ _ _ (d .0) (d .1 .0) (d .1 .1 .1 .0) (d .1 .1 .1 .1)
+    (c .start-record .ensures) (f .refill .ensures .0)
     (f .refill .ensures .1 ∙ ap (λ n. replicate n 0) (s .pre .1 .0 ∙ sym (recovered-long _ _ _ _ (d .1 .1 .1 .1)))) (n .if1 .left)
 
 pub recover-by-spec : {M : Type 1} → statement M
 recover-by-spec =
     tie.close
-    (tie.spec recover-nvm-requires start-record-requires same-length returns refill-requires slice-read-start-record
-    start-record-requires-2 same-length-2 same-length-3 same-length-4 returns-2)
+    (tie.spec recover-nvm-requires blank-record-requires same-length returns refill-requires slice-read-start-record
+    start-record-requires same-length-2 same-length-3 same-length-4 returns-2)

@@ -22,18 +22,18 @@ same-length-3 : tie.Need-same-length-3
 same-length-3 c = search needs
 
 returns : tie.Need-returns
-returns c = rw (c .refused .ensures) (read-refused _ _ _ (c .before .before .recover-read-refusal .ensures) (c .before .if1 .taken))
+returns c = rw (c .refused .ensures) (read-refused _ _ _ _ (c .before .before .recover-read-refusal .ensures) (c .before .if1 .taken))
 
 sizes-at-end-requires : tie.Need-sizes-at-end-requires
 sizes-at-end-requires c κs =
     let e = c .before in
-    read-long _ (sym (e .before .recover-read-refusal .ensures) ∙ e .if1 .left)
+    read-long _ _ (sym (e .before .recover-read-refusal .ensures) ∙ e .if1 .left)
 
 recover-by-requires : tie.Need-recover-by-requires
 recover-by-requires c κs =
     let s = c .before .before .before in
     let e = s .before .before in
-    let k = read-checked _ (sym (e .before .recover-read-refusal .ensures) ∙ e .if1 .left) in
+    let k = read-checked _ _ (sym (e .before .recover-read-refusal .ensures) ∙ e .if1 .left) in
     rw (s .sizes-at-end .ensures) (k .image, (k .same-cache, k .same-flags))
 
 same-length-4 : tie.Need-same-length-4
@@ -50,7 +50,7 @@ returns-2 c =
     let b = c .before .before .before .before .before .before in
     let s = b .before .before .before .before in
     let e = s .before .before in
-    b .recover-by .ensures ∙ read-taken _ _ _ (s .sizes-at-end .ensures) (sym (e .before .recover-read-refusal .ensures) ∙ e .if1 .left)
+    b .recover-by .ensures ∙ read-taken _ _ _ _ (s .sizes-at-end .ensures) (sym (e .before .recover-read-refusal .ensures) ∙ e .if1 .left)
 
 pub recover-read-spec : {M : Type 1} → statement M
 recover-read-spec =

@@ -1,13 +1,13 @@
--- `recovery::refused` meets its contract: the record is the start record of base 0. Assumes nothing.
+-- `recovery::refused` meets its contract: the record is the blank one. Assumes nothing.
 use borrow.Author.Needs.{needs}
 use Rattle.recovery.proofs.refused.Statement.{statement}
 use Rattle.recovery.proofs.refused.Tie as tie
 
-start-record-requires : tie.Need-start-record-requires
-start-record-requires c κs = search needs
+blank-record-requires : tie.Need-blank-record-requires
+blank-record-requires c κs = search needs
 
 returns : tie.Need-returns
-returns c = rw (c .start-record .ensures)
+returns c = rw (c .blank-record .ensures)
 
 pub refused-spec : {M : Type 1} → statement M
-refused-spec = tie.close (tie.spec start-record-requires returns)
+refused-spec = tie.close (tie.spec blank-record-requires returns)

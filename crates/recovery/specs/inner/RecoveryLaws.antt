@@ -65,9 +65,9 @@ pub record Recoverable (z : Sizes) (cache nvm flags : List ℕ) : Type 0 where
   pub same-cache : length cache ≡ length nvm
   pub same-flags : length flags ≡ length nvm
 
-pub recover-checked : (z : Sizes) (m : Machine) → recoverRefusal z m ≡ 0 → Recoverable z (m .cache) (m .nvm) (m .flags)
+pub recover-checked : (z : Sizes) (lag : ℕ) (m : Machine) → recoverRefusal z lag m ≡ 0 → Recoverable z (m .cache) (m .nvm) (m .flags)
 unfolding recoverRefusal
-recover-checked z m e =
+recover-checked z lag m e =
     let b = former-buffers z _ _ _ (not-false _ (first-none _ _ (λ t. omega arith) e .0)) in
     record {
       image = record { sizes-ok = b .sizes-ok; in-image = rw (b .same-nvm) (b .fits); small = rw (b .same-nvm) (b .small) };
@@ -75,15 +75,15 @@ recover-checked z m e =
       same-flags = b .same-flags ∙ sym (b .same-nvm);
     }
 
-pub read-long : (m : Machine) → recoverReadRefusal m ≡ 0 → 4 ≤ length (m .nvm)
+pub read-long : (lag : ℕ) (m : Machine) → recoverReadRefusal lag m ≡ 0 → 4 ≤ length (m .nvm)
 unfolding recoverReadRefusal
-read-long m e =
+read-long lag m e =
     let b = first-none _ _ (λ t. omega arith) (first-none _ _ (λ t. omega arith) e .1) in
     trailer-four _ (not-false _ (b .0))
 
-pub read-checked : (m : Machine) → recoverReadRefusal m ≡ 0 → Recoverable (sizesAtEnd (m .nvm)) (m .cache) (m .nvm) (m .flags)
+pub read-checked : (lag : ℕ) (m : Machine) → recoverReadRefusal lag m ≡ 0 → Recoverable (sizesAtEnd (m .nvm)) (m .cache) (m .nvm) (m .flags)
 unfolding recoverReadRefusal
-read-checked m e =
+read-checked lag m e =
     let a = first-none _ _ (λ t. omega arith) e in
     let b = first-none _ _ (λ t. omega arith) (a .1) in
     let l = all-in _ _ _ _ (not-false _ (a .0)) in
@@ -91,41 +91,41 @@ read-checked m e =
 
 -- ---- the outcomes of both
 -- refused, with a number that is not 0
-by-refused : (z : Sizes) (limit number : ℕ) (m : Machine) → (number ≡ 0 → ⊥)
-    → record { answer = Refused number; machine = m } ≡ recoveredBy z limit number m
+by-refused : (z : Sizes) (lag limit number : ℕ) (m : Machine) → (number ≡ 0 → ⊥)
+    → record { answer = Refused number; machine = m } ≡ recoveredBy z lag limit number m
 unfolding recoveredBy
-by-refused z limit number m h = rw (ne-eqb number 0 h)
+by-refused z lag limit number m h = rw (ne-eqb number 0 h)
 
-module _ (z : Sizes) (limit : ℕ) (m : Machine) (all : ℕ) (a : all ≡ length (recoveryStores z (m .nvm))) where
+module _ (z : Sizes) (lag limit : ℕ) (m : Machine) (all : ℕ) (a : all ≡ length (recoveryStores z (m .nvm))) where
   pub by-cut : (nvm : List ℕ) → nvm ≡ recoveredNvm z limit (m .nvm) → limit < all
-      → record { answer = Cut; machine = machineOf (m .state) (m .cache) nvm (m .flags) } ≡ recoveredBy z limit 0 m
+      → record { answer = Cut; machine = machineOf (m .state) (m .cache) nvm (m .flags) } ≡ recoveredBy z lag limit 0 m
   unfolding recoveredBy allMade
   by-cut nvm n l = rw (n, ← a, lt-leb all limit l)
 
   pub by-finished : (state : Record) (cache nvm flags : List ℕ) (b : Timestamp) (undone torn : ℕ)
       → b ≡ boundary z (m .nvm) → undone ≡ length (undoStores z (m .nvm)) → torn ≡ tornIn z (m .nvm) → nvm ≡ recoveredNvm z limit (m .nvm)
-      → state ≡ startRecord (getD nvm 0 0) → cache ≡ nvm → flags ≡ replicate (length nvm) 0 → all ≤ limit
+      → state ≡ startRecord lag (getD nvm 0 0) → cache ≡ nvm → flags ≡ replicate (length nvm) 0 → all ≤ limit
       → record { answer = Finished (record { boundary = b; undone = undone; torn = torn }); machine = machineOf state cache nvm flags }
-      ≡ recoveredBy z limit 0 m
+      ≡ recoveredBy z lag limit 0 m
   unfolding recoveredBy allMade started baseOf tornIn
   by-finished state cache nvm flags b undone torn e₁ e₂ e₀ e₃ e₄ e₅ e₆ l = rw (e₁, e₂, e₀, e₄, e₅, e₆, e₃, ← a, le-leb all limit l)
 
 -- ---- as each call says it
-pub recover-refused : (z : Sizes) (limit number : ℕ) (m : Machine) → number ≡ recoverRefusal z m → (number ≡ 0 → ⊥)
-    → record { answer = Refused number; machine = m } ≡ recoverStep z limit m
+pub recover-refused : (z : Sizes) (lag limit number : ℕ) (m : Machine) → number ≡ recoverRefusal z lag m → (number ≡ 0 → ⊥)
+    → record { answer = Refused number; machine = m } ≡ recoverStep z lag limit m
 unfolding recoverStep
-recover-refused z limit number m e h = rw (← e) (by-refused z limit number m h)
+recover-refused z lag limit number m e h = rw (← e) (by-refused z lag limit number m h)
 
-pub recover-taken : (z : Sizes) (limit : ℕ) (m : Machine) → recoverRefusal z m ≡ 0 → recoveredBy z limit 0 m ≡ recoverStep z limit m
+pub recover-taken : (z : Sizes) (lag limit : ℕ) (m : Machine) → recoverRefusal z lag m ≡ 0 → recoveredBy z lag limit 0 m ≡ recoverStep z lag limit m
 unfolding recoverStep
-recover-taken z limit m e = rw e
+recover-taken z lag limit m e = rw e
 
-pub read-refused : (limit number : ℕ) (m : Machine) → number ≡ recoverReadRefusal m → (number ≡ 0 → ⊥)
-    → record { answer = Refused number; machine = m } ≡ recoverReadStep limit m
+pub read-refused : (lag limit number : ℕ) (m : Machine) → number ≡ recoverReadRefusal lag m → (number ≡ 0 → ⊥)
+    → record { answer = Refused number; machine = m } ≡ recoverReadStep lag limit m
 unfolding recoverReadStep
-read-refused limit number m e h = rw (← e) (by-refused (sizesAtEnd (m .nvm)) limit number m h)
+read-refused lag limit number m e h = rw (← e) (by-refused (sizesAtEnd (m .nvm)) lag limit number m h)
 
-pub read-taken : (z : Sizes) (limit : ℕ) (m : Machine) → z ≡ sizesAtEnd (m .nvm) → recoverReadRefusal m ≡ 0
-    → recoveredBy z limit 0 m ≡ recoverReadStep limit m
+pub read-taken : (z : Sizes) (lag limit : ℕ) (m : Machine) → z ≡ sizesAtEnd (m .nvm) → recoverReadRefusal lag m ≡ 0
+    → recoveredBy z lag limit 0 m ≡ recoverReadStep lag limit m
 unfolding recoverReadStep
-read-taken z limit m s e = rw (s, e)
+read-taken z lag limit m s e = rw (s, e)

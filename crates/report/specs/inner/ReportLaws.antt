@@ -16,6 +16,7 @@ use Rattle.image.specs.inner.Facts.{IsImage}
 use Rattle.image.specs.inner.ImageLaws.{sizes-in, length-small, all-good, trailer-image}
 use Rattle.image.specs.declared.Sizes.{Sizes}
 use Rattle.log.specs.declared.Timestamp.{Timestamp}
+use Rattle.record.specs.Record.{maxLag}
 use Rattle.store.specs.Interface.{blankOf}
 use Rattle.store.specs.inner.StoreLaws.{first-holds, first-fails}
 use Rattle.recovery.specs.Recovery.{recoveredBy, recoverRefusal, recoverStep, recoverReadRefusal, recoverReadStep, told}
@@ -81,18 +82,18 @@ module _ (p : SizesAt) (input : List ℕ) where
 -- ---- refusals by recovery
 -- the number that refuses recovery of the image of an input, or 0
 unfoldable pub recoveryRefusal : SizesAt → List ℕ → ℕ
-recoveryRefusal Start input = recoverRefusal (sizesIn Start input) (nvmOnly (imageIn Start input))
-recoveryRefusal End input = recoverReadRefusal (nvmOnly (imageIn End input))
+recoveryRefusal Start input = recoverRefusal (sizesIn Start input) maxLag (nvmOnly (imageIn Start input))
+recoveryRefusal End input = recoverReadRefusal maxLag (nvmOnly (imageIn End input))
 
 pub report-by : (p : SizesAt) (input : List ℕ) (number : ℕ) → inputRefusal p input ≡ 0 → recoveryRefusal p input ≡ number
-    → reportOf p input ≡ restartText (sizesIn p input) (recoveredBy (sizesIn p input) noLimit number (nvmOnly (imageIn p input)))
+    → reportOf p input ≡ restartText (sizesIn p input) (recoveredBy (sizesIn p input) maxLag noLimit number (nvmOnly (imageIn p input)))
 unfolding recoveredFrom recoveryRefusal recoverStep recoverReadStep sizesIn imageIn nvmOnly
 report-by Start input number t e =
     sym (report-taken Start input t)
-    ∙ ap (λ k. restartText (sizesIn Start input) (recoveredBy (sizesIn Start input) noLimit k (nvmOnly (imageIn Start input)))) e
+    ∙ ap (λ k. restartText (sizesIn Start input) (recoveredBy (sizesIn Start input) maxLag noLimit k (nvmOnly (imageIn Start input)))) e
 report-by End input number t e =
     sym (report-taken End input t)
-    ∙ ap (λ k. restartText (sizesIn End input) (recoveredBy (sizesIn End input) noLimit k (nvmOnly (imageIn End input)))) e
+    ∙ ap (λ k. restartText (sizesIn End input) (recoveredBy (sizesIn End input) maxLag noLimit k (nvmOnly (imageIn End input)))) e
 
 pub report-stopped : (p : SizesAt) (input : List ℕ) (number : ℕ) → inputRefusal p input ≡ 0 → recoveryRefusal p input ≡ number → number ≢ 0
     → reportOf p input ≡ refusedLine number
@@ -112,14 +113,14 @@ module _ (input cache nvm flags image : List ℕ) where
     start-read = m ∙ ap (wordsIn input 3) (b .in-nvm)
 
     pub report-given : (z : Sizes) (r : Restart) (cache₁ nvm₁ flags₁ : List ℕ) → z ≡ sizesIn Start input
-        → restartedOf r cache₁ nvm₁ flags₁ ≡ recoverStep z noLimit (blankOf cache image flags)
+        → restartedOf r cache₁ nvm₁ flags₁ ≡ recoverStep z maxLag noLimit (blankOf cache image flags)
         → answerText z nvm₁ (r .answer) ≡ reportOf Start input
     unfolding restartText recoveredFrom
     report-given z r cache₁ nvm₁ flags₁ s e =
         let found = blank-nvm _ cache nvm flags image b (ap length m ∙ length-words input 3 (length nvm) ∙ b .in-nvm) in
-        let same : restartText z (recoverStep z noLimit (nvmOnly image)) ≡ restartText (sizesIn Start input) (recoveredFrom Start input) =
+        let same : restartText z (recoverStep z maxLag noLimit (nvmOnly image)) ≡ restartText (sizesIn Start input) (recoveredFrom Start input) =
         rw (s, start-read) in
-        ap (restartText z) (e ∙ ap (recoverStep z noLimit) found) ∙ same ∙ report-taken Start input t
+        ap (restartText z) (e ∙ ap (recoverStep z maxLag noLimit) found) ∙ same ∙ report-taken Start input t
 
   module _ (t : inputRefusal End input ≡ 0) (b : Blanks (imageWords End input) cache nvm flags) (m : image ≡ wordsIn input 0 (length nvm)) where
     end-read : image ≡ allWords input
@@ -127,14 +128,14 @@ module _ (input cache nvm flags image : List ℕ) where
     end-read = m ∙ ap (wordsIn input 0) (b .in-nvm)
 
     pub report-told : (z : Sizes) (r : Restart) (cache₁ nvm₁ flags₁ : List ℕ) → z ≡ sizesAtEnd image
-        → restartedOf r cache₁ nvm₁ flags₁ ≡ recoverReadStep noLimit (blankOf cache image flags)
+        → restartedOf r cache₁ nvm₁ flags₁ ≡ recoverReadStep maxLag noLimit (blankOf cache image flags)
         → answerText z nvm₁ (r .answer) ≡ reportOf End input
     unfolding restartText recoveredFrom sizesIn imageIn
     report-told z r cache₁ nvm₁ flags₁ s e =
         let found = blank-nvm _ cache nvm flags image b (ap length m ∙ length-words input 0 (length nvm) ∙ b .in-nvm) in
-        let same : restartText z (recoverReadStep noLimit (nvmOnly image)) ≡ restartText (sizesIn End input) (recoveredFrom End input) =
+        let same : restartText z (recoverReadStep maxLag noLimit (nvmOnly image)) ≡ restartText (sizesIn End input) (recoveredFrom End input) =
         rw (s, end-read) in
-        ap (restartText z) (e ∙ ap (recoverReadStep noLimit) found) ∙ same ∙ report-taken End input t
+        ap (restartText z) (e ∙ ap (recoverReadStep maxLag noLimit) found) ∙ same ∙ report-taken End input t
 
     pub report-untold : trailerOk image ≡ false → refusedLine 14 ≡ reportOf End input
     unfolding imageIn

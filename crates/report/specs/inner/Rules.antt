@@ -1,6 +1,6 @@
 -- Inner: how the code goes, need not be believed. The rules for programs `recover` and `recover_read`, as theorems about their reports: refused with 1, 14
 -- or 10, or the boundary and the data words after all of recovery's stores. So neither is ever cut. Assumes nothing.
-use mathlib.Core.Path.{_≡_, sym, ap, _∙_}
+use mathlib.Core.Path.{_≡_, refl, sym, ap, _∙_}
 use mathlib.Core.Logic.{_≢_}
 use mathlib.Core.Bool.{true, false}
 use mathlib.Core.List.{List, [], _∷_}
@@ -13,7 +13,8 @@ use Rattle.image.specs.Image.{sizesOk, formerLength, trailerOk, baseOf}
 use Rattle.image.specs.inner.ImageLaws.{sizes-in, former-good, trailer-in}
 use Rattle.image.specs.Stores.{stored}
 use Rattle.image.specs.declared.Sizes.{Sizes}
-use Rattle.store.specs.Calls.{started}
+use Rattle.record.specs.Record.{maxLag, lagOk}
+use Rattle.store.specs.Calls.{badLag, started}
 use Rattle.store.specs.Machine.{firstCause}
 use Rattle.store.specs.inner.StoreLaws.{first-holds, first-fails, first-end}
 use Rattle.recovery.specs.Recovery.{boundary, recoveryStores, recoveredNvm, allMade, recoveredBy, oddBase, recoverRefusal, recoverReadRefusal, told}
@@ -28,6 +29,11 @@ use Rattle.report.specs.inner.NoLimitLaws.{no-limit}
 -- the report of a finished recovery: the words after all its stores
 unfoldable pub allStored : Sizes → List ℕ → List ℕ
 allStored z image = finishedText z (stored (recoveryStores z image) image) (boundary z image)
+
+-- the lag limit that recovery is given is one
+any-lag : badLag maxLag .holds ≡ false
+unfolding badLag lagOk
+any-lag = refl
 
 -- an image with its sizes, where nothing but an odd base refuses recovery
 module _ (p : SizesAt) (input : List ℕ) (t : inputRefusal p input ≡ 0) (s : sizesOk (sizesIn p input) ≡ true)
@@ -59,6 +65,7 @@ module _ (input : List ℕ) (w : wellFormed input ≡ true) where
       let blank-long = length-blank (length (imageIn Start input)) ∙ long in
       first-fails _ _
       (rw (former-good (sizesIn Start input) _ _ _ (well-sized input w) (record { in-cache = blank-long; in-nvm = long; in-flags = blank-long })))
+      ∙ first-fails _ _ any-lag
 
   pub odd-base : baseOf (imageIn Start input) % 2 ≡ 1 → reportOf Start input ≡ refusedLine 10
   odd-base = odd Start input (sym (taken-form input w)) (well-sized input w) fits
@@ -81,7 +88,7 @@ module _ (input : List ℕ) (l : length input ≤ longest End) where
     module _ (t : trailerOk (imageIn End input) ≡ true) where
       told-fits : recoveryRefusal End input ≡ firstCause (oddBase (nvmOnly (imageIn End input)) ∷ [])
       unfolding recoveryRefusal recoverReadRefusal nvmOnly
-      told-fits = first-fails _ _ (rw (blanks-alike (imageIn End input))) ∙ first-fails _ _ (rw t)
+      told-fits = first-fails _ _ (rw (blanks-alike (imageIn End input))) ∙ first-fails _ _ (rw t) ∙ first-fails _ _ any-lag
 
       told-sized : sizesOk (sizesIn End input) ≡ true
       unfolding sizesIn imageIn

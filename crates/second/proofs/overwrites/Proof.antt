@@ -5,16 +5,10 @@ use Rattle.second.proofs.overwrites.Statement.{statement}
 use Rattle.second.proofs.overwrites.Tie as tie
 
 abbrev Inv-loop : tie.InvT-loop
-Inv-loop arena lane n count bound next k₀ k = Unit
+Inv-loop arena lane bound count next k₀ k = Unit
 
 abbrev μ-loop : tie.MeasureT-loop
-μ-loop arena lane n count bound next k₀ k = count - k
-
-floor-after-requires : tie.Need-floor-after-requires Inv-loop μ-loop
-floor-after-requires c κs = search needs
-
-least-floor-requires : tie.Need-least-floor-requires Inv-loop μ-loop
-least-floor-requires c κs = search needs
+μ-loop arena lane bound count next k₀ k = count - k
 
 field-requires : tie.Need-field-requires Inv-loop μ-loop
 field-requires c κs = search needs
@@ -46,5 +40,5 @@ returns-2 c = search needs
 pub overwrites-spec : {M : Type 1} → statement M
 overwrites-spec =
     tie.close
-    (tie.spec Inv-loop μ-loop floor-after-requires least-floor-requires field-requires loop-holds ahead-requires
-    is-owned-requires returns add-k loop-less loop-again returns-2)
+    (tie.spec Inv-loop μ-loop field-requires loop-holds ahead-requires is-owned-requires returns add-k loop-less
+    loop-again returns-2)

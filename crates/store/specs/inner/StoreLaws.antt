@@ -17,12 +17,12 @@ use Rattle.image.specs.inner.ImageLaws.{sizes-in, AllAre, format-in, Buffers, b
 use Rattle.image.specs.Flush.{drainedNvm, drainedFlags}
 use Rattle.image.specs.declared.Sizes.{Sizes}
 use Rattle.log.specs.Log.{latestIn}
-use Rattle.record.specs.Record.{noLane, laneAt, withLane, drainedLane}
+use Rattle.record.specs.Record.{noLane, laneAt, lagOk, withLane, drainedLane}
 use Rattle.record.specs.declared.Lane.{Lane}
 use Rattle.record.specs.declared.Record.{Record}
 use Rattle.store.specs.declared.Answer.the-variants.{Refused}
 use Rattle.store.specs.Machine.{Machine, Step, Cause, firstCause, unless}
-use Rattle.store.specs.Calls.{badBuffers, badRecord, badLane, badTxn, formatRefusal, writeBackRefusal, drainRefusal, drained}
+use Rattle.store.specs.Calls.{badBuffers, badRecord, badLane, badTxn, badLag, formatRefusal, writeBackRefusal, drainRefusal, drained}
 use Rattle.store.specs.Interface.{machineOf}
 use Rattle.store.specs.inner.Checked.{Checked, drainedState}
 
@@ -113,14 +113,16 @@ module _ (z : Sizes) (L : ℕ) (m : Machine) (cs : List Cause) where
 
 -- ---- what Format and write-back know where they are not refused
 module _ (z : Sizes) (m : Machine) where
-  pub format-checked : (start : List ℕ) → formatRefusal z start m ≡ 0
+  pub format-checked : (lag : ℕ) (start : List ℕ) → formatRefusal z lag start m ≡ 0
       → (sizesOk z ≡ true) × AllAre (imageLength z) (length (m .cache)) (length (m .nvm)) (length (m .flags)) × (length start ≡ z .words)
-  unfolding formatRefusal
-  format-checked start e =
+      × (lagOk lag ≡ true)
+  unfolding formatRefusal badLag
+  format-checked lag start e =
       let a = first-none _ _ (λ q. omega arith) e in
       let b = first-none _ _ (λ q. omega arith) (a .1) in
+      let c = first-none _ _ (λ q. omega arith) (b .1) in
       let f = format-in z _ _ _ (not-false _ (a .0)) in
-      (f .0, f .1, eqb-true (length start) (z .words) (not-false _ (b .0)))
+      (f .0, f .1, eqb-true (length start) (z .words) (not-false _ (b .0)), not-false _ (c .0))
 
   pub writeBack-checked : (i : ℕ) → writeBackRefusal z i m ≡ 0
       → Buffers z (length (m .cache)) (length (m .nvm)) (length (m .flags)) × (i < length (m .cache))

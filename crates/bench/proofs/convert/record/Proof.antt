@@ -42,6 +42,9 @@ get-requires c κs = search needs
 get-requires-2 : tie.Need-get-requires-2 Inv-loop μ-loop
 get-requires-2 c κs = search needs
 
+get-requires-3 : tie.Need-get-requires-3 Inv-loop μ-loop
+get-requires-3 c κs = search needs
+
 returns : tie.Need-returns Inv-loop μ-loop
 returns c = search needs
 
@@ -49,4 +52,4 @@ pub record-spec : {M : Type 1} → statement M
 record-spec =
     tie.close
     (tie.spec Inv-loop μ-loop lane-from-requires loop-holds lane-from-requires-2 mul-lanes array-set-from-lanes add-l
-    loop-less loop-again get-requires get-requires-2 returns)
+    loop-less loop-again get-requires get-requires-2 get-requires-3 returns)

@@ -34,6 +34,12 @@ loop-again c = search needs
 refusal-requires-2 : tie.Need-refusal-requires-2 Inv-loop μ-loop
 refusal-requires-2 c κs = search needs
 
+refusal-requires-3 : tie.Need-refusal-requires-3 Inv-loop μ-loop
+refusal-requires-3 c κs = search needs
+
+refusal-requires-4 : tie.Need-refusal-requires-4 Inv-loop μ-loop
+refusal-requires-4 c κs = search needs
+
 slice-aggregate-text-2 : tie.Need-slice-aggregate-text-2 Inv-loop μ-loop
 slice-aggregate-text-2 c = search needs
 
@@ -47,4 +53,4 @@ pub refusals-spec : {M : Type 1} → statement M
 refusals-spec =
     tie.close
     (tie.spec Inv-loop μ-loop slice-aggregate-text text-requires loop-holds refusal-requires add-n loop-less loop-again
-    refusal-requires-2 slice-aggregate-text-2 text-requires-2 returns)
+    refusal-requires-2 refusal-requires-3 refusal-requires-4 slice-aggregate-text-2 text-requires-2 returns)

@@ -5,22 +5,16 @@ use Rattle.benchlists.proofs.any.fill_record.Statement.{statement}
 use Rattle.benchlists.proofs.any.fill_record.Tie as tie
 
 abbrev Inv-loop : tie.InvT-loop
-Inv-loop arena₀ clock last lane₀ arena lane = Unit
+Inv-loop arena₀ lane₀ arena lane = Unit
 
 abbrev μ-loop : tie.MeasureT-loop
-μ-loop arena₀ clock last lane₀ arena lane = 8 - lane
+μ-loop arena₀ lane₀ arena lane = 8 - lane
 
 clear-requires : tie.Need-clear-requires Inv-loop μ-loop
 clear-requires c κs = search needs
 
-clock-requires : tie.Need-clock-requires Inv-loop μ-loop
-clock-requires c κs = search needs
-
-about-stamp-requires : tie.Need-about-stamp-requires Inv-loop μ-loop
-about-stamp-requires c κs = search needs
-
-set-time-requires : tie.Need-set-time-requires Inv-loop μ-loop
-set-time-requires c κs = search needs
+fill-time-requires : tie.Need-fill-time-requires Inv-loop μ-loop
+fill-time-requires c κs = search needs
 
 loop-holds : tie.Need-loop-holds Inv-loop μ-loop
 loop-holds c = search needs
@@ -43,5 +37,5 @@ returns c = search needs
 pub fill-record-spec : {M : Type 1} → statement M
 fill-record-spec =
     tie.close
-    (tie.spec Inv-loop μ-loop clear-requires clock-requires about-stamp-requires set-time-requires loop-holds
-    fill-lane-requires add-lane loop-less loop-again returns)
+    (tie.spec Inv-loop μ-loop clear-requires fill-time-requires loop-holds fill-lane-requires add-lane loop-less
+    loop-again returns)

@@ -13,8 +13,8 @@ abbrev μ-loop : tie.MeasureT-loop
 clear-requires : tie.Need-clear-requires Inv-loop μ-loop
 clear-requires c κs = search needs
 
-format-requires : tie.Need-format-requires Inv-loop μ-loop
-format-requires c κs = search needs
+new-store-requires : tie.Need-new-store-requires Inv-loop μ-loop
+new-store-requires c κs = search needs
 
 loop-holds : tie.Need-loop-holds Inv-loop μ-loop
 loop-holds c = search needs
@@ -37,5 +37,5 @@ returns c = search needs
 pub list-spec : {M : Type 1} → statement M
 list-spec =
     tie.close
-    (tie.spec Inv-loop μ-loop clear-requires format-requires loop-holds event-requires add-counter loop-less loop-again
-    returns)
+    (tie.spec Inv-loop μ-loop clear-requires new-store-requires loop-holds event-requires add-counter loop-less
+    loop-again returns)
