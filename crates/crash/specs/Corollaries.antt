@@ -10,7 +10,8 @@ use Rattle.txn.specs.Txn.{Rule}
 use Rattle.image.specs.Image.{dataOf}
 use Rattle.image.specs.declared.Sizes.{Sizes}
 use Rattle.log.specs.declared.Timestamp.{Timestamp}
-use Rattle.log.specs.declared.Timestamp.the-variants.{None, At}
+use Rattle.log.specs.declared.Timestamp.the-variants.{At}
+use Rattle.record.specs.Record.{lagPassed}
 use Rattle.store.specs.Machine.{Machine, said}
 use Rattle.store.specs.Calls.{formatRefusal}
 use Rattle.recovery.specs.Recovery.{boundary, told}
@@ -150,13 +151,8 @@ unfoldable pub cutCells : System → List ℕ
 cutCells (live m) = m .nvm
 cutCells (down nvm j found) = foundOr nvm found
 
--- timestamp s is at most the lag limit above a boundary, if there is one
-pub data Within (lag s : ℕ) : (boundary : Timestamp) → Type 0 where
-  unbounded : Within lag s None
-  within : {b : ℕ} → s ≤ b + lag → Within lag s (At b)
-
--- a Log has answered timestamp s: whatever happens until the next start and wherever power is cut, the boundary of the cut is at most the lag limit below s,
--- and a recovery that then finishes keeps every commit that is further below
+-- a Log has answered timestamp s: whatever happens until the next start and wherever power is cut, s is not more than the lag limit above the boundary of
+-- the cut, if there is one, by the very test that Log makes of the lower bound; and a recovery that then finishes keeps every commit that is further below
 unfoldable pub LagTheorem : Design → Type 0
 LagTheorem d =
     (z : Sizes) (lag : ℕ) (start : List ℕ) (m : Machine) (h : History) → formatRefusal z lag start m ≡ 0
@@ -165,6 +161,6 @@ LagTheorem d =
     let b = nextWorld d z a (call (logBy q L f)) in
     let c = worldAfter d z b fs in
     stampsIn (happens d z (a .system) (call (logBy q L f)) .reply) ≡ s ∷ [] → goesOn d z b fs ≡ true
-    → Within (a .history .lag) s (boundary z (cutCells (c .system)))
+    → (lagPassed (a .history .lag) s (boundary z (cutCells (c .system))) ≡ false)
     × ((lag₁ limit : ℕ) (j : Junk) → let r = happens d z (c .system) (recover lag₁ limit j) in
     Kept z (c .history) (At (s - a .history .lag)) (r .system) (r .reply))

@@ -113,7 +113,7 @@ leastFloor (l ∷ ls) = lesser l.floor (leastFloor ls)
 unfoldable pub boundOf : Sizes → Record → Timestamp
 boundOf z r = leastFloor (take z.lanes r.lanes)
 
--- is timestamp s more than the lag limit above the lower bound; never where there is none
+-- is timestamp s more than the lag limit above a bound, in whole numbers; never where there is none, nor where it is above s
 unfoldable pub lagPassed : (lag s : ℕ) → Timestamp → Bool
 lagPassed lag s None = false
 lagPassed lag s (At f) = ltb (f + lag) s

@@ -31,7 +31,7 @@ use Rattle.crash.specs.Events.{Reply, answered, recovered, failed, ignor
 use Rattle.crash.specs.History.{closingAt, History, isBelow, settled, stamped, isCounted, taken, afterCall, fedAnswer, fed}
 use Rattle.crash.specs.History.{writesNow, causesBy, takenAnswer, wouldLag, leastFloorOf}
 use Rattle.crash.specs.Theorem.{CrashTheorem, NotBelow, noBoundary, atLeast, Finishes, recoveryAnswer, Replied, Holds, refusalBy, answerBy}
-use Rattle.crash.specs.Corollaries.{World, nextWorld, worldAfter, Within, unbounded, within, stampsIn, cutCells, LagTheorem}
+use Rattle.crash.specs.Corollaries.{World, nextWorld, worldAfter, stampsIn, cutCells, LagTheorem}
 use Rattle.crash.proofs.induction.Lists.{holds-next, holds-after}
 use Rattle.crash.proofs.induction.Moves.{none-holds, positive}
 use Rattle.crash.proofs.induction.Pages.{closes, after-keeps}
@@ -51,13 +51,12 @@ unfolding lagPassed isBelow
 not-passed lag s None e u l = refl
 not-passed lag s (At f) e u l = lt-ltb u f (omega (arith, ltb-false (f + lag) s e))
 
-within-by : (lag s : ℕ) {f b : Timestamp} → NotBelow f b → ((u : ℕ) → u + lag < s → isBelow f u ≡ true) → Within lag s b
-unfolding isBelow
-within-by lag s noBoundary low = unbounded
-within-by lag s (atLeast {f = f} {b = b} l) low =
-    split (ltb (b + lag) s)
-    (λ e. absurd (omega (arith, ltb-true b f (low b (ltb-true (b + lag) s e)))))
-    (λ e. within (ltb-false (b + lag) s e))
+-- and it does not pass it over a boundary that is not below such a bound
+near-boundary : (lag s : ℕ) {f b : Timestamp} → NotBelow f b → ((u : ℕ) → u + lag < s → isBelow f u ≡ true) → lagPassed lag s b ≡ false
+unfolding lagPassed isBelow
+near-boundary lag s noBoundary low = refl
+near-boundary lag s (atLeast {f = f} {b = b} l) low =
+    split (ltb (b + lag) s) (λ e. absurd (omega (arith, ltb-true b f (low b (ltb-true (b + lag) s e))))) (λ e. e)
 
 -- ---- a Log that answers a timestamp
 module _ (z : Sizes) (q : Rule) (L : ℕ) (f : List ℕ) (h : History) (s : ℕ) where
@@ -175,7 +174,7 @@ lag-from d theorem z lag start m h ok es fs q L f s stamps goes =
     above-least x (c .history)
     (after-keeps (AllAbove x) (λ M. Unit {0}) (above-keeping x) d z b fs (any-step fs) (inr goes)
     (subst (AllAbove x) (sym (t .2)) (above-log L f (a .history) r (t .1) x (omega (arith, t .0))))) in (
-      within-by (a .history .lag) s (cut-floors d z (trailer z) (c .system) (c .history) (u (finishing z (c .system)))) low,
+      near-boundary (a .history .lag) s (cut-floors d z (trailer z) (c .system) (c .history) (u (finishing z (c .system)))) low,
       λ lag₁ limit j. recovery-keeps d z c (At (s - a .history .lag)) (λ x p. low x (further (a .history .lag) s x p)) lag₁ limit j
           (u (recover lag₁ limit j)),
     )

@@ -6,7 +6,7 @@ use mathlib.Core.Bool.{Bool, true, false, not, _&&_}
 use mathlib.Core.List.{List, [], _∷_, _++_}
 use lib.Dec.{leb, eqb}
 use lib.ListN.{length, replicate}
-use borrow.Author.Tests.{leb-true, le-ltb, eq-eqb, eqb-true, not-true}
+use borrow.Author.Tests.{leb-true, eq-eqb, eqb-true, not-true}
 use Rattle.laws.specs.inner.Tests.{clash, and-left, and-right}
 use Rattle.txn.specs.Txn.{Rule, after}
 use Rattle.image.specs.Image.{trailer, imageLength, dataOf}
@@ -26,7 +26,7 @@ use Rattle.crash.specs.History.{Commit, History, opened, isBelow, replay
 use Rattle.crash.specs.Theorem.{endOf, InStep, answerBy, formatAnswer, recoveryAnswer, Finishes, Replied, Agrees, CrashTheorem, FormerTheorem}
 use Rattle.crash.specs.Theorem.{mayStore, TrailerTheorem}
 use Rattle.crash.specs.Corollaries.{World, nextWorld, worldAfter, KeptBy, Kept, goesOn, SafeTheorem}
-use Rattle.crash.specs.Corollaries.{isDone, staysIdle, othersFloor, IdleTheorem, Within, unbounded, within, stampsIn, cutCells, LagTheorem}
+use Rattle.crash.specs.Corollaries.{isDone, staysIdle, othersFloor, IdleTheorem, stampsIn, cutCells, LagTheorem}
 use Rattle.crash.proofs.induction.Lists.{holds-after}
 use Rattle.crash.proofs.worked.Everything.{everything}
 
@@ -391,11 +391,6 @@ unfoldable pub stampsOf : Timestamp → List ℕ
 stampsOf None = []
 stampsOf (At s) = s ∷ []
 
-within-not : (lag s : ℕ) {b : Timestamp} → Within lag s b → lagPassed lag s b ≡ false
-unfolding lagPassed
-within-not lag s unbounded = refl
-within-not lag s (within {b = b} l) = le-ltb (b + lag) s l
-
 -- an idle lane: L is marked after the events es, drained after fs, and recovery comes after gs
 module _ (d : Design) (z : Sizes) (lag : ℕ) (start : List ℕ) (L : ℕ) (es fs gs : List Event) (lag₁ limit : ℕ) (j : Junk) where
   unfoldable pub atDrain : World
@@ -449,9 +444,8 @@ module _ (d : Design) (z : Sizes) (lag : ℕ) (start : List ℕ) (es : List Even
       let t₃ = and-right (goesOn d z (nextWorld d z (was d z lag start es) (call (logBy q L f))) fs) _ t₂ in
       let t₄ = and-right (same (stampsOf (boundary z (cutCells (atBoundary .system)))) (b ∷ [])) _ t₃ in
       clash (lagPassed (was d z lag start es .history .lag) s (boundary z (cutCells (atBoundary .system)))) t₄
-      (within-not (was d z lag start es .history .lag) s
       (c z lag start (blank z) (before z) (eqb-true (formatRefusal z lag start (blank z)) 0 (and-left _ _ t)) es fs q L f s
-      (same-true _ _ (and-left _ _ t₁)) (and-left _ _ t₂) .0))
+      (same-true _ _ (and-left _ _ t₁)) (and-left _ _ t₂) .0)
 
 -- one name that opens all of this, for the lists that the checker computes
 unfoldable pub refuting : ℕ
