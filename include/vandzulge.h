@@ -12,7 +12,7 @@
  *                the lag limit. A taken call writes them all: a phase or floor word that is set becomes 1, words that say nothing 0, in lanes not in use too
  *   max_lag      the lag limit, an even number from VANDZULGE_LAG_MIN to VANDZULGE_LAG_MAX, given to Format and to each recovery
  *   answer       VANDZULGE_ANSWER_WORDS words
- *   txn          a transaction: 4 words an instruction (code, a, b, k), 1 to 16 instructions; unused fields are 0, a and b are data word numbers
+ *   txn          a transaction: 4 words an instruction (code, a, b, k), 1 to 16 instructions; unused fields are 0, a and b are data word numbers. Log also takes the empty one
  *                1 SET a := k   2 COPY a := [b]   3 ADD a := [b] + k   5 SKIP the next k (1 to 15) if [b] is 0
  *                4 was POKE, word [b] mod W := k, and is withdrawn: Log and Validate refuse it with 5 wherever it stands, also where SKIP would pass over it.
  *                A lane that holds one, logged by an earlier library: Redo commits it unless it is stale, Mark drops it, and Validate with it is refused
@@ -44,18 +44,22 @@
  * In the record each lane has a floor or none: at no cut does the lane give less than its floor, and without one it gives nothing. So a commit is safe from then on, at every later
  * cut, once each lane that has a floor has it above the commit's timestamp. (This and what follows in this paragraph is proved of stores from Format on.)
  *   A drain of the lane, also the one that each of its steps begins with, makes the floor the newest timestamp in the lane's log, where there is one, and ends the floor where that
- *   is a mark. Where a lane has no floor, the next timestamp that Log or Mark appends sets it; a Mark's own is then the floor until it is drained.
+ *   is a mark. Where a lane has no floor, the next timestamp that Log or Mark appends sets it; a mark's own is then the floor until it is drained.
  *   A drain alone does not make a commit safe: the floor of its lane is then the commit's own timestamp, and what is at the boundary is undone. A Mark and then a Drain of the lane
  *   end the floor; a later logged transaction and then a Drain raise it above the commit.
- *   A lane that is drained after a Mark, and of which no step was called in between or since, delays nobody: from that drain on the commits of the other lanes become safe by those
+ *   A lane that is drained after a Mark, or after a Log of the empty transaction (below), and of which no step was called in between or since, delays nobody: from that drain on the commits of the other lanes become safe by those
  *   lanes' own steps and drains alone. The next timestamp that is appended to its log gives it a floor again.
+ *   A Log of the empty transaction settles its lane: it drains the lane and appends a mark, as Mark does on an idle lane. Use it where a piece of work is done, and then Drain: from
+ *   one later drain of that lane on, also the one that a step of it begins with, a cut loses nothing that was committed before the lane was settled, by whichever lane, as long as
+ *   every other lane that has a floor at the cut has it above the commit's timestamp. It differs from Mark in that it drops nothing: where the lane holds a transaction it is refused
+ *   with 6. And the lag limit binds it, with 15.
  *
  * The lag limit, max_lag, is how far a cut can go back. Timestamps go up in steps of 2. When a Log is taken with timestamp s, no cut before the next start (Format, or a finished
  * recovery) has a boundary below s - max_lag: every commit with a timestamp below that is kept. So a cut takes at most max_lag / 2 of the commits made before the last Log that took
  * a timestamp. Those made since then come on top: they are of transactions that lanes held at that time, at most one a lane.
  *   Log sees to it: it is refused with 15 where its timestamp, the clock plus 2, would be more than max_lag above the least floor, floors as after a drain of its own lane. Where no
- *   lane has a floor the limit does not bind, and a cut loses nothing: after a start, or after Mark and Drain of every lane. It never stops a Log that writes nothing, nor Redo,
- *   Validate, Mark or Drain.
+ *   lane has a floor the limit does not bind, and a cut loses nothing: after a start, or after Mark and Drain of every lane. It binds a Log that settles its lane, which takes a
+ *   timestamp too. It never stops a Log of instructions that write nothing, nor Redo, Validate, Mark or Drain.
  *   What to do on 15: Drain the lane of that Log, so that the floors in the record are those that count. Then Mark and Drain the lane with the least floor, and call Log again; where
  *   it is still 15, do so with the lane that has the least floor now. Each time a floor ends, so T times are enough. Mark drops a transaction that its lane holds: where it is to be
  *   committed, Redo or Validate comes first. (Proved, from Format on, is the bound by s - max_lag; the two counts
@@ -67,9 +71,9 @@
  *    2 a record field out of range                            7 Redo or Validate on an idle lane
  *    3 lane not below T                                       8 the clock is spent
  *    4 word not in the image                                  9 the append would overwrite a sequence that recovery may need
- *    5 transaction not as above                              10 recovery finds an odd base word
+ *    5 transaction not as above; the empty one in Validate   10 recovery finds an odd base word
  *   14 recovery without sizes: fewer than four words, a size in the trailer out of range, or a fourth word or a length of nvm that does not agree with these sizes
- *   15 Log would take a timestamp more than the lag limit above the least floor
+ *   15 Log, also one that settles its lane, would take a timestamp more than the lag limit above the least floor
  *   16 Format or recovery is given a lag limit that is odd, below 2 or above 2^32
  * What recovery may need, for 9: the sequences that are not below the least floor, floors as after the drain that Log or Mark begins with; none where no lane has a floor.
  *
@@ -117,8 +121,10 @@ uint64_t vandzulge_drain(size_t words, size_t lanes, size_t slots,
     uint64_t *record, size_t record_len, size_t lane);
 
 /* Log: runs the transaction, leaves no change, and appends an entry a write and a timestamp to the lane's log.
- * Answer: count, timestamp, 0, 0; or 0, 0, 0, 0 where it writes nothing, and the lane stays idle. Refusals 1 to 3, 5, 6, 8, 15, 9, the first of them in this order.
- * A drain, and a look at up to 33 slots of the lane's log. */
+ * Answer: count, timestamp, 0, 0; or 0, 0, 0, 0 where it writes nothing, and the lane stays idle. Refusals 1 to 3, 5, 6, 8, 15, 9, the first of them in this order; 8, 15 and 9
+ * not where it writes nothing. A drain, and a look at up to 33 slots of the lane's log.
+ * Where txn_len is 0 it settles the lane: it appends a timestamp over no entries, and the lane stays idle. txn is not read then, but must not be null.
+ * Answer: 0, timestamp, 0, 0; no timestamp is 0. Refusals 1 to 3, 6, 8, 15, 9, the first of them in this order. A drain, and a look at 17 slots of the lane's log. */
 uint64_t vandzulge_log(size_t words, size_t lanes, size_t slots,
     uint64_t *cache, size_t cache_len, uint64_t *nvm, size_t nvm_len, uint8_t *flags, size_t flags_len,
     uint64_t *record, size_t record_len, uint64_t *answer, size_t answer_len, size_t lane, const uint64_t *txn, size_t txn_len);
@@ -129,7 +135,7 @@ uint64_t vandzulge_redo(size_t words, size_t lanes, size_t slots,
     uint64_t *cache, size_t cache_len, uint64_t *nvm, size_t nvm_len, uint8_t *flags, size_t flags_len,
     uint64_t *record, size_t record_len, uint64_t *answer, size_t answer_len, size_t lane);
 
-/* Validate: runs the transaction and commits it if it writes the words that were logged, over the values that were logged.
+/* Validate: runs the transaction and commits it if it writes the words that were logged, over the values that were logged. The empty one is refused with 5.
  * Answer: 1, timestamp, 0, 0; or 0, 0, 0, 0 where it does not (changed), and the lane is idle. Refusals 1 to 3, 5, 7, 8. A drain. */
 uint64_t vandzulge_validate(size_t words, size_t lanes, size_t slots,
     uint64_t *cache, size_t cache_len, uint64_t *nvm, size_t nvm_len, uint8_t *flags, size_t flags_len,

@@ -13,7 +13,8 @@
 //!
 //! After a power cut a lane gives its newest timestamp, or nothing where that is a mark; the least that is given is the *boundary*, and commits at or above it are undone. A lane's
 //! *floor* in the record bounds from below what it gives; without one it gives nothing. So a commit is safe once each lane that has a floor has it above the commit's timestamp. A
-//! lane that was marked and then drained has none until its log is appended to again, and delays no other lane. `include/vandzulge.h` says more.
+//! lane that was marked and then drained has none until its log is appended to again, and delays no other lane. [`Store::settle`] is a Mark that drops no transaction: its lane must
+//! be idle. `include/vandzulge.h` says more.
 //!
 //! The *lag limit*, given to Format and to each recovery, is how far a cut can go back: a Log is refused where its timestamp would be more than that above the least floor. So of the
 //! commits made before the last Log that took a timestamp a cut takes at most half the limit, timestamps being even, and of those since then at most one a lane.
@@ -70,9 +71,9 @@ pub enum Refusal {
     Lane,
     /// 4: no such word in the image
     Word,
-    /// 5: no well-formed transaction; one with the withdrawn POKE (code 4) is none, wherever it stands
+    /// 5: no well-formed transaction; one with the withdrawn POKE (code 4) is none, wherever it stands, and for Validate the empty one is none
     Txn,
-    /// 6: Log on a lane that holds a transaction
+    /// 6: Log, also one that settles, on a lane that holds a transaction
     Logged,
     /// 7: Redo or Validate on an idle lane
     Idle,
@@ -84,7 +85,7 @@ pub enum Refusal {
     OddBase,
     /// 14: recovery without sizes finds no trailer that agrees with the length and the ranges
     Trailer,
-    /// 15: Log would take a timestamp further above the least floor than the lag limit
+    /// 15: Log, also one that settles, would take a timestamp further above the least floor than the lag limit
     LagPassed,
     /// 16: Format or recovery is given a lag limit that is odd, below 2 or above [`GREATEST_LAG`]
     LagRange,
@@ -137,8 +138,12 @@ impl Refusal {
 /// What Log answers.
 #[derive(Debug, Clone, Copy, PartialEq, Eq)]
 pub enum Log {
+    /// The transaction writes nothing. The lane is drained and stays idle, and no timestamp was taken.
     NoWrites,
+    /// So many writes are logged, and the lane holds the transaction.
     Logged { count: u64, stamp: u64 },
+    /// The transaction was the empty one: the lane is drained and marked, with this timestamp, and stays idle.
+    Settled { stamp: u64 },
 }
 
 /// What Redo answers.
@@ -215,16 +220,27 @@ impl Store<'_> {
         taken(raw::drain(words, lanes, slots, self.cache, self.nvm, self.flags, self.record, lane))
     }
 
-    /// Runs a transaction without leaving a change, and logs its writes. Where it is refused with [`Refusal::LagPassed`], drain this lane, mark and drain the lane with the least floor,
-    /// and try again; each time a floor ends.
+    /// Runs a transaction without leaving a change, and logs its writes; the empty one settles the lane, as [`Store::settle`] does. Where it is refused with [`Refusal::LagPassed`],
+    /// drain this lane, mark and drain the lane with the least floor, and try again; each time a floor ends.
     pub fn log(&mut self, lane: usize, txn: &[u64]) -> Result<Log, Refusal> {
         let Sizes { words, lanes, slots } = self.sizes;
         let mut answer: Answer = [0; ANSWER_WORDS];
         taken(raw::log(words, lanes, slots, self.cache, self.nvm, self.flags, self.record, &mut answer, lane, txn))?;
         Ok(match answer {
-            [0, ..] => Log::NoWrites,
+            [0, 0, ..] => Log::NoWrites,
+            [0, stamp, ..] => Log::Settled { stamp },
             [count, stamp, ..] => Log::Logged { count, stamp },
         })
+    }
+
+    /// Log of the empty transaction: drains the lane and appends a mark, whose timestamp it answers. After one later drain of the lane, that of a step of it too, no cut loses what any
+    /// lane had committed before, as long as each other lane that has a floor has it above those commits' timestamps. Unlike [`Store::mark`] it drops nothing, and is refused where the
+    /// lane holds a transaction; and the lag limit binds it.
+    pub fn settle(&mut self, lane: usize) -> Result<u64, Refusal> {
+        let Sizes { words, lanes, slots } = self.sizes;
+        let mut answer: Answer = [0; ANSWER_WORDS];
+        taken(raw::log(words, lanes, slots, self.cache, self.nvm, self.flags, self.record, &mut answer, lane, &[]))?;
+        Ok(answer[1])
     }
 
     /// Commits the lane's logged transaction with the values that Log computed; also one with a POKE, logged before that was withdrawn.

@@ -207,7 +207,7 @@ pub fn drain(words: usize, lanes: usize, slots: usize, cache: &[u64], nvm: &mut 
     }
 }
 
-/// Log of a transaction. Answer: count, timestamp, 0, 0; all 0 where it writes nothing.
+/// Log of a transaction. Answer: count, timestamp, 0, 0; all 0 where it writes nothing; 0, timestamp, 0, 0 of the empty one, which settles the lane.
 pub fn log(
     words: usize,
     lanes: usize,

@@ -32,6 +32,34 @@ fn same_on_pseudo_random_calls() {
     every_outcome(300, 5, both);
 }
 
+/// On every state a Log of no words that is taken leaves and answers what Mark does. It is refused wherever Mark is, and beyond that only with 6 and 15.
+#[test]
+fn settled_as_by_a_mark() {
+    // taken, and refused with 6 and with 15 where Mark is taken
+    let mut seen = [0; 3];
+    every_outcome(100, 1, |world, call, place| {
+        let lane = call.drains().unwrap_or(0);
+        let (mut settled, mut marked) = (world.clone(), world.clone());
+        let numbers = (settled.call(&LIBRARY, &Call::Log(lane, vec![])), marked.call(&LIBRARY, &Call::Mark(lane)));
+        match numbers {
+            (0, 0) => {
+                assert!(settled == marked, "{place}, lane {lane}");
+                seen[0] += 1;
+            }
+            (6, 0) => {
+                assert_eq!(marked.answer[0], 1, "{place}, lane {lane}");
+                seen[1] += 1;
+            }
+            (15, 0) => seen[2] += 1,
+            (6, 8 | 9) | (15, 9) => {}
+            (number, mark) => assert_eq!(number, mark, "{place}, lane {lane}"),
+        }
+        world.call(&PLAIN, call)
+    });
+    println!("taken: {}; with Mark taken, refused with 6: {}, with 15: {}", seen[0], seen[1], seen[2]);
+    assert!(seen.iter().all(|&times| times > 500));
+}
+
 /// A store after a power cut, with this non-volatile memory: anything in cache, flags and record.
 fn cut(sizes: Sizes, nvm: Vec<u64>) -> World {
     let mut world = World::of_length(sizes.words, sizes.lanes, sizes.slots, nvm.len());
@@ -174,6 +202,7 @@ fn mixed_lengths_are_refused() {
         Call::WriteBack(3),
         Call::Drain(0),
         Call::Log(0, vec![1, 0, 0, 7]),
+        Call::Log(0, vec![]),
         Call::Redo(1),
         Call::Validate(1, vec![1, 1, 0, 7]),
         Call::Mark(0),
@@ -291,7 +320,9 @@ fn lag_limits_of_a_damaged_record() {
             world.record[LAG_WORD] = max_lag;
             both(&mut world, &call, "damaged lag limit")
         };
-        for call in [Call::Drain(0), Call::Log(0, set.clone()), Call::Redo(1), Call::Validate(1, set.clone()), Call::Mark(0), Call::Mark(2)] {
+        for call in
+            [Call::Drain(0), Call::Log(0, set.clone()), Call::Log(2, vec![]), Call::Redo(1), Call::Validate(1, set.clone()), Call::Mark(0), Call::Mark(2)]
+        {
             assert_eq!(number(call), 2, "{max_lag}");
         }
         for call in [Call::WriteBack(0), Call::Format(vec![1; 2]), Call::RecoverRead(usize::MAX)] {
@@ -317,7 +348,11 @@ fn the_lag_limit_stands_between_the_clock_and_the_slots() {
     let nothing = || Call::Log(0, vec![5, 0, 0, 1, 1, 0, 0, 7]);
     assert_eq!((with(68, 70, log(0)), with(70, 70, log(0))), (15, 9));
     assert_eq!(with(2, u64::MAX - 1, log(0)), 8);
-    assert_eq!((with(2, 70, log(2)), with(2, 70, Call::Log(0, vec![]))), (3, 5));
+    assert_eq!((with(2, 70, log(2)), with(2, 70, Call::Log(0, vec![1]))), (3, 5));
+    // what settles a lane takes a timestamp as well, and one slot
+    let settle = |lane: usize| Call::Log(lane, vec![]);
+    assert_eq!((with(68, 70, settle(0)), with(70, 70, settle(0)), with(2, u64::MAX - 1, settle(0)), with(2, u64::MAX - 1, settle(2))), (15, 9, 8, 3));
+    assert_eq!((with(2, 70, settle(1)), with(2, 72, settle(1))), (0, 15));
     // neither where nothing is written, nor for Mark; and lane 1's own drain leaves lane 0's floor, 70
     assert_eq!((with(2, 70, nothing()), with(2, 70, Call::Mark(0)), with(2, 70, Call::Mark(1)), with(2, 70, Call::Drain(1))), (0, 9, 0, 0));
     assert_eq!((with(2, 70, log(1)), with(2, 72, log(1))), (0, 15));
@@ -341,8 +376,10 @@ fn the_lag_limit_stops_no_commit() {
     start.record[LAG_WORD] = 6;
     let number = |call: Call| both(&mut start.clone(), &call, "lag limit");
     assert_eq!((number(Call::Log(1, set.clone())), number(Call::Log(0, set.clone()))), (15, 6));
+    assert_eq!((number(Call::Log(1, vec![])), number(Call::Log(0, vec![]))), (15, 6));
     assert_eq!((number(Call::Redo(0)), number(Call::Validate(0, set.clone())), number(Call::Mark(0)), number(Call::Drain(0))), (0, 0, 0, 0));
     start.record[LAG_WORD] = 8;
+    assert_eq!(both(&mut start.clone(), &Call::Log(1, vec![]), "at the limit"), 0);
     assert_eq!(both(&mut start, &Call::Log(1, set), "at the limit"), 0);
 }
 
@@ -354,6 +391,7 @@ fn a_floor_above_the_clock_does_not_bind() {
     world.record[LAG_WORD] = 2;
     // slots 10 and 11 of lane 0: an entry, and the timestamp 1,000 that closes it
     world.cache[23..27].copy_from_slice(&[9, 1, 32_777, 1_001]);
+    assert_eq!(both(&mut world.clone(), &Call::Log(0, vec![]), "a floor of 1,000"), 0);
     assert_eq!(both(&mut world, &Call::Log(0, vec![1, 0, 0, 7]), "a floor of 1,000"), 0);
     assert_eq!((world.record[0], world.record[8], world.record[9]), (2, 1, 1_000));
 }

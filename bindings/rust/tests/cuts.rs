@@ -1,6 +1,6 @@
 //! Power cuts after every call of pseudo-random runs, with write-backs in between: recovery leaves the commits below its boundary, no boundary is below the least floor, and a
-//! commit that is safe, as `include/vandzulge.h` says, or ever was, stays; and no boundary is further below a timestamp that Log took than the lag limit. Now one lane is at work,
-//! now another; the others rest, marked and drained or not.
+//! commit that is safe, as `include/vandzulge.h` says, or ever was, stays; a lane that is settled and drained keeps what was committed before; and no boundary is further below a
+//! timestamp that Log took than the lag limit. Now one lane is at work, now another; the others rest, marked and drained or not.
 
 mod common;
 
@@ -12,7 +12,7 @@ const LANES: usize = 3;
 const SLOTS: usize = 34;
 
 /// A store, and what a caller knows of it: the words at its start, the timestamp that Log took last, the timestamp and transaction of each commit since the start, and of each
-/// lane the transaction handed to Log last and the timestamp of its last Mark.
+/// lane the transaction handed to Log last and the timestamp of its last mark.
 struct Run {
     world: World,
     start: Vec<u64>,
@@ -20,6 +20,10 @@ struct Run {
     commits: Vec<(u64, Vec<u64>)>,
     held: [Vec<u64>; LANES],
     marks: [Option<u64>; LANES],
+    /// of each lane, when it was settled last, if it was not drained since
+    settled: [Option<u64>; LANES],
+    /// and when it was settled before that, with a drain since: the timestamp, and whether the drain was a step's
+    kept_below: [Option<(u64, bool)>; LANES],
     /// the greatest timestamp of a commit that was safe at some time
     safe: u64,
 }
@@ -43,7 +47,17 @@ fn run_on(words: &mut [u64], txn: &[u64]) {
 
 impl Run {
     fn at_start(world: World, start: Vec<u64>) -> Run {
-        Run { world, start, last_log: None, commits: vec![], held: Default::default(), marks: [None; LANES], safe: 0 }
+        Run {
+            world,
+            start,
+            last_log: None,
+            commits: vec![],
+            held: Default::default(),
+            marks: [None; LANES],
+            settled: [None; LANES],
+            kept_below: [None; LANES],
+            safe: 0,
+        }
     }
 
     fn floor(&self, lane: usize) -> Option<u64> {
@@ -58,8 +72,17 @@ impl Run {
             return number;
         }
         let [first, stamp] = [self.world.answer[0], self.world.answer[1]];
+        if let Some(lane) = call.drains() {
+            if let Some(stamp) = self.settled[lane].take() {
+                self.kept_below[lane] = Some((stamp, !matches!(call, Call::Drain(_))));
+            }
+        }
         match call {
             Call::Log(lane, txn) => {
+                if txn.is_empty() {
+                    self.settled[lane] = Some(stamp);
+                    self.marks[lane] = Some(stamp);
+                }
                 self.held[lane] = txn;
                 self.last_log = Some(stamp);
             }
@@ -78,6 +101,7 @@ impl Run {
             2 => Call::Mark(lane),
             3 | 4 if logged => Call::Redo(lane),
             _ if logged => Call::Validate(lane, self.held[lane].clone()),
+            3 if random.one_in(2) => Call::Log(lane, vec![]),
             _ => Call::Log(lane, txn(random)),
         };
         let number = self.make(call.clone());
@@ -162,10 +186,58 @@ fn no_cut_loses_a_safe_commit() {
     assert!(lost > 1_000 && safe_beside_rest > 1_000);
 }
 
+/// From its next drain on, that of a later step too, a settled lane keeps each commit made before, whichever lane's, at every cut at which each other lane that has a floor has it
+/// above the commit.
+#[test]
+fn a_settled_lane_keeps_what_was_committed() {
+    // for each lane, cuts at which it kept a commit so: all, those with a boundary, and those where the drain was a step's
+    let mut kept = [0; 3];
+    let (mut lost_without_drain, mut lost_by_other_floors) = (0, 0);
+    for seed in 1..=60 {
+        let random = &mut Random::new(2_000 + seed);
+        let mut run = Run::at_start(World::new(WORDS, LANES, SLOTS), vec![0; WORDS]);
+        assert_eq!(run.make(Call::Format(vec![0; WORDS])), 0);
+        let mut lane = 0;
+        for step in 0..200 {
+            if random.one_in(8) {
+                lane = random.index(LANES);
+            }
+            run.step(random, lane);
+            run.write_back(random);
+            let (cut, boundary) = run.cut();
+            for lane in 0..LANES {
+                let others_above = |commit: u64| (0..LANES).all(|other| other == lane || run.floor(other).is_none_or(|floor| floor > commit));
+                let lost = |commit: u64| boundary.is_some_and(|boundary| commit >= boundary);
+                let before = |stamp: u64| run.commits.iter().map(|commit| commit.0).filter(move |&commit| commit < stamp);
+                if let Some((stamp, by_step)) = run.kept_below[lane] {
+                    let (above, not_above): (Vec<u64>, Vec<u64>) = before(stamp).partition(|&commit| others_above(commit));
+                    let place = format!("seed {seed}, step {step}, lane {lane} settled at {stamp}, boundary {boundary:?}");
+                    assert!(!above.iter().any(|&commit| lost(commit)), "of {above:?} one is lost: {place}");
+                    if !above.is_empty() {
+                        kept[0] += 1;
+                        kept[1] += boundary.is_some() as u64;
+                        kept[2] += by_step as u64;
+                    }
+                    lost_by_other_floors += not_above.iter().any(|&commit| lost(commit)) as u64;
+                }
+                if let Some(stamp) = run.settled[lane] {
+                    lost_without_drain += before(stamp).any(|commit| others_above(commit) && lost(commit)) as u64;
+                }
+            }
+            if random.one_in(60) {
+                let words = cut.nvm[1..=WORDS].to_vec();
+                run = Run::at_start(cut, words);
+            }
+        }
+    }
+    println!("kept: {kept:?}; lost without the drain: {lost_without_drain}, with another lane's floor not above: {lost_by_other_floors}");
+    assert!(kept.iter().all(|&cuts| cuts > 500) && lost_without_drain > 100 && lost_by_other_floors > 100);
+}
+
 /// After a Log that took a timestamp, as long as no start comes after it: at most limit / 2 of the commits before it are lost, and at most one a lane of those since then.
 #[test]
 fn no_cut_goes_further_back_than_the_lag_limit() {
-    let (mut refused, mut marked_and_taken, mut bounded, mut at_the_limit, mut lost) = (0, 0, 0, 0, 0);
+    let (mut refused, mut refused_to_settle, mut marked_and_taken, mut bounded, mut bounded_by_settling, mut at_the_limit, mut lost) = (0, 0, 0, 0, 0, 0, 0);
     for seed in 1..=60 {
         let random = &mut Random::new(1_000 + seed);
         let world = World { max_lag: small_lag(random), ..World::new(WORDS, LANES, SLOTS) };
@@ -178,6 +250,7 @@ fn no_cut_goes_further_back_than_the_lag_limit() {
             }
             if let (log, 15) = run.step(random, lane) {
                 refused += 1;
+                refused_to_settle += matches!(&log, Call::Log(_, txn) if txn.is_empty()) as u64;
                 if random.one_in(2) {
                     marked_and_taken += (run.make_room(lane, &log) == 0) as u64;
                 }
@@ -192,6 +265,8 @@ fn no_cut_goes_further_back_than_the_lag_limit() {
                 let place = format!("seed {seed}, step {step}, lag limit {max_lag}, Log at {stamp}, boundary {boundary}");
                 assert!(stamp <= boundary + max_lag, "{place}");
                 bounded += 1;
+                // a Log whose timestamp is a mark's
+                bounded_by_settling += run.marks.contains(&Some(stamp)) as u64;
                 at_the_limit += (stamp == boundary + max_lag) as u64;
                 let (before, since): (Vec<u64>, Vec<u64>) =
                     run.commits.iter().map(|commit| commit.0).filter(|&commit| commit >= boundary).partition(|&commit| commit < stamp);
@@ -204,6 +279,8 @@ fn no_cut_goes_further_back_than_the_lag_limit() {
             }
         }
     }
-    println!("Logs refused with 15: {refused}, taken after marks: {marked_and_taken}; cuts with a boundary: {bounded}, at the limit: {at_the_limit}; commits lost: {lost}");
-    assert!(refused > 500 && marked_and_taken > 300 && bounded > 5_000 && at_the_limit > 100 && lost > 1_000);
+    println!("Logs refused with 15: {refused}, to settle {refused_to_settle}, taken after marks: {marked_and_taken}; commits lost: {lost}");
+    println!("cuts with a boundary: {bounded}, where the last Log settled a lane {bounded_by_settling}, at the limit {at_the_limit}");
+    assert!(refused > 500 && refused_to_settle > 50 && marked_and_taken > 300 && lost > 1_000);
+    assert!(bounded > 5_000 && bounded_by_settling > 500 && at_the_limit > 100);
 }

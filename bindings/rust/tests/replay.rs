@@ -125,7 +125,7 @@ impl Replay<'_> {
                 let lane = input.word()? as usize;
                 let txn = input.counted(80)?.to_vec();
                 match self.call(Call::Log(lane, txn)) {
-                    (0, [0, ..]) => line(out, "log 0"),
+                    (0, [0, 0, ..]) => line(out, "log 0"),
                     (0, [count, stamp, ..]) => line(out, format_args!("log {count} {stamp}")),
                     (number, _) => line(out, format_args!("log refused {number}")),
                 }

@@ -33,6 +33,11 @@ fn commit(store: &mut Store, lane: usize, txn: &[u64], stamp: u64) {
     assert_eq!(store.redo(lane), Ok(Redo::Committed { stamp }));
 }
 
+/// All words that the store is lent, one after another.
+fn all_words(store: &Store) -> Vec<u64> {
+    [&*store.cache, &*store.nvm, &*store.record].concat().into_iter().chain(store.flags.iter().map(|&flag| flag as u64)).collect()
+}
+
 /// Marks a lane that holds no transaction, with this timestamp.
 fn mark(store: &mut Store, lane: usize, stamp: u64) {
     assert_eq!(store.mark(lane), Ok(Mark { stamp, dropped: false }));
@@ -106,6 +111,152 @@ fn marks_drains_and_changes() {
     });
 }
 
+/// What settles a lane takes a timestamp and answers it; what writes nothing takes none. A floor is set, and ends with the next drain, as by a Mark.
+#[test]
+fn the_empty_transaction_settles_a_lane() {
+    with_store(SIZES, |store| {
+        assert_eq!(store.format(GREATEST_LAG, &[0, 5]), Ok(()));
+        assert_eq!(store.log(0, &[]), Ok(Log::Settled { stamp: 2 }));
+        assert_eq!((store.record[0], store.record[1], floor(store, 0)), (2, 0, Some(2)));
+        // slot 0 of lane 0: a timestamp of 2 over no entries, with wrap bit 1, flushed and not yet drained
+        assert_eq!((&store.cache[..5], &store.flags[..5], &store.nvm[..5]), (&[0, 0, 5, 32_769, 3][..], &[0, 0, 0, 1, 1][..], &[0, 0, 5, 0, 0][..]));
+        // the second one drains the first, and its floor is its own
+        assert_eq!(store.settle(0), Ok(4));
+        assert_eq!((store.nvm[3], store.nvm[4], floor(store, 0)), (32_769, 3, Some(4)));
+        assert_eq!(store.log(0, &PASS_OVER), Ok(Log::NoWrites));
+        assert_eq!((store.record[0], floor(store, 0), store.nvm[6]), (4, None, 5));
+        assert_eq!((store.settle(1), store.settle(0)), (Ok(6), Ok(8)));
+        assert_eq!((store.drain(0), store.drain(1)), (Ok(()), Ok(())));
+        assert_eq!((floor(store, 0), floor(store, 1)), (None, None));
+        // the lane is idle, and goes on
+        assert_eq!(store.redo(0), Err(Refusal::Idle));
+        commit(store, 0, &SET_0_TO_2, 12);
+        assert_eq!(store.settle(0), Ok(14));
+        // Redo's words are drained, and the last commit stays the commit's
+        assert_eq!((store.nvm[1], store.record[1], floor(store, 0)), (2, 12, Some(12)));
+    });
+}
+
+/// Settles or marks lane 0 of a store on which these calls were made. Its timestamp, and all words.
+fn settled_or_marked(calls: fn(&mut Store), step: fn(&mut Store) -> u64) -> (u64, Vec<u64>) {
+    let mut left = (0, vec![]);
+    with_store(SIZES, |store| {
+        assert_eq!(store.format(GREATEST_LAG, &[0, 5]), Ok(()));
+        calls(store);
+        left = (step(store), all_words(store));
+    });
+    left
+}
+
+/// On a lane that holds nothing: new, with a commit that is not drained, with pairs of a transaction that changed, with a mark, in the last slot of its log, in the first one again,
+/// and beside a lane that is not drained.
+#[test]
+fn a_settled_lane_is_as_a_marked_one() {
+    let states: [(fn(&mut Store), u64); 7] = [
+        (|_| {}, 2),
+        (|store| commit(store, 0, &SET_0_TO_2, 4), 6),
+        (
+            |store| {
+                assert_eq!(store.log(0, &SET_1_TO_7), Ok(Log::Logged { count: 1, stamp: 2 }));
+                assert_eq!(store.validate(0, &SET_0_TO_2), Ok(Validate::Changed));
+                // the pair of the Log stays, word 1 and 7
+                assert_eq!(store.record[10..12], [1, 7]);
+            },
+            4,
+        ),
+        (|store| mark(store, 0, 2), 4),
+        (|store| (1..34).for_each(|number| mark(store, 0, 2 * number)), 68),
+        (|store| (1..35).for_each(|number| mark(store, 0, 2 * number)), 70),
+        (|store| commit(store, 1, &SET_1_TO_7, 4), 6),
+    ];
+    for (calls, stamp) in states {
+        let settled = settled_or_marked(calls, |store| store.settle(0).expect("settled"));
+        let marked = settled_or_marked(calls, |store| store.mark(0).expect("marked").stamp);
+        assert!(settled == marked && settled.0 == stamp, "{} and {}, not {stamp}", settled.0, marked.0);
+    }
+}
+
+/// 6 is what tells it from a Mark: nothing is dropped, and the transaction can still be committed.
+#[test]
+fn a_lane_that_holds_a_transaction_is_not_settled() {
+    with_store(SIZES, |store| {
+        assert_eq!(store.format(GREATEST_LAG, &[0, 0]), Ok(()));
+        assert_eq!(store.log(0, &SET_0_TO_2), Ok(Log::Logged { count: 1, stamp: 2 }));
+        let before = all_words(store);
+        assert_eq!((store.settle(0), store.log(0, &[])), (Err(Refusal::Logged), Err(Refusal::Logged)));
+        assert!(all_words(store) == before);
+        assert_eq!(store.settle(1), Ok(4));
+        assert_eq!(store.redo(0), Ok(Redo::Committed { stamp: 6 }));
+        assert_eq!(store.settle(0), Ok(8));
+    });
+}
+
+/// Only Log takes the empty transaction, and no other that is too short.
+#[test]
+fn validate_refuses_the_empty_transaction() {
+    with_store(SIZES, |store| {
+        assert_eq!(store.format(GREATEST_LAG, &[0, 0]), Ok(()));
+        assert_eq!(store.validate(0, &[]), Err(Refusal::Txn));
+        for length in 1..4 {
+            assert_eq!(store.log(0, &SET_0_TO_2[..length]), Err(Refusal::Txn));
+        }
+        assert_eq!(store.log(0, &SET_0_TO_2), Ok(Log::Logged { count: 1, stamp: 2 }));
+        let before = all_words(store);
+        assert_eq!(store.validate(0, &[]), Err(Refusal::Txn));
+        assert!(all_words(store) == before);
+    });
+}
+
+/// Refused in the order 1 2 3 6 8 15 9. Lane 0 holds a transaction logged at 2, its floor, and lane 1 goes once around its log, with marks at 4 to 70; in the last slot there is no
+/// room for an entry and a timestamp.
+#[test]
+fn what_stops_a_lane_from_being_settled() {
+    with_store(SIZES, |store| {
+        assert_eq!(store.format(GREATEST_LAG, &[0, 0]), Ok(()));
+        assert_eq!(store.log(0, &SET_0_TO_2), Ok(Log::Logged { count: 1, stamp: 2 }));
+        for number in 2..35 {
+            mark(store, 1, 2 * number);
+        }
+        assert_eq!(store.log(1, &SET_1_TO_7), Err(Refusal::Overwrite));
+        assert_eq!(store.settle(1), Ok(70));
+        let mut refused = |clock: u64, max_lag: u64, lane: usize| {
+            (store.record[0], store.record[RECORD_WORDS - 1]) = (clock, max_lag);
+            let before = all_words(store);
+            let number = store.settle(lane).expect_err("refused");
+            assert!(all_words(store) == before, "{number:?}");
+            number
+        };
+        const LAST: u64 = u64::MAX - 1;
+        assert_eq!((refused(LAST, 3, 2), refused(LAST, 2, 2), refused(LAST, 2, 0)), (Refusal::Record, Refusal::Lane, Refusal::Logged));
+        assert_eq!((refused(70, GREATEST_LAG, 0), refused(70, 2, 0)), (Refusal::Logged, Refusal::Logged));
+        // 72 is 70 above lane 0's floor
+        assert_eq!((refused(LAST, 2, 1), refused(70, 68, 1), refused(70, 70, 1)), (Refusal::Spent, Refusal::LagPassed, Refusal::Overwrite));
+        assert_eq!(store.mark(1), Err(Refusal::Overwrite));
+        assert_eq!((store.mark(0), store.drain(0)), (Ok(Mark { stamp: 72, dropped: true }), Ok(())));
+        assert_eq!((store.settle(1), floor(store, 1)), (Ok(74), Some(74)));
+        (store.sizes.slots, store.record[RECORD_WORDS - 1]) = (33, 3);
+        assert_eq!(store.settle(1), Err(Refusal::Size));
+    });
+}
+
+/// The limit is 4, lane 1's floor 4, and the next timestamp 10: both lanes can be marked, and neither settled, until lane 1's mark is drained.
+#[test]
+fn the_lag_limit_binds_what_settles_a_lane() {
+    with_lane_1_idle(|store| {
+        let before = all_words(store);
+        assert_eq!((store.settle(0), store.settle(1)), (Err(Refusal::LagPassed), Err(Refusal::LagPassed)));
+        assert!(all_words(store) == before);
+        mark(store, 1, 10);
+        assert_eq!(store.settle(0), Err(Refusal::LagPassed));
+        assert_eq!(store.drain(1), Ok(()));
+        // the floor is lane 0's commit, at 8
+        assert_eq!((store.settle(0), floor(store, 0)), (Ok(12), Some(8)));
+        assert_eq!(store.drain(0), Ok(()));
+        assert_eq!((floor(store, 0), floor(store, 1)), (None, None));
+    });
+    with_lane_1_idle(|store| mark(store, 0, 10));
+}
+
 /// Power is cut, and recovery answers this.
 fn cut_and_recover(store: &mut Store, boundary: Option<u64>, undone: u64) {
     cut_power(store);
@@ -155,7 +306,7 @@ fn beside_a_lane_at_rest_a_lane_needs_its_own_drains_alone() {
 
 /// A commit can be lost as long as its own lane's floor is not above it: after a drain alone the floor is the commit's timestamp, and after a Mark still.
 #[test]
-fn a_mark_and_its_drain_settle_a_commit() {
+fn a_mark_and_its_drain_make_a_commit_safe() {
     with_lane_1_at_rest(|store| {
         commit(store, 0, &SET_0_TO_2, 10);
         assert_eq!(store.drain(0), Ok(()));
@@ -178,6 +329,67 @@ fn a_mark_and_its_drain_settle_a_commit() {
         assert_eq!(floor(store, 0), None);
         cut_and_recover(store, None, 0);
         assert_eq!(store.nvm[1..3], [2, 7]);
+    });
+}
+
+/// The same by what settles a lane, whose drain may be that of a later step too.
+#[test]
+fn a_settled_lane_keeps_its_commits_from_its_next_drain_on() {
+    with_lane_1_at_rest(|store| {
+        commit(store, 0, &SET_0_TO_2, 10);
+        assert_eq!(store.settle(0), Ok(12));
+        cut_and_recover(store, Some(10), 1);
+        assert_eq!(store.nvm[1..3], [0, 7]);
+    });
+    let drains: [fn(&mut Store); 4] = [
+        |store| assert_eq!(store.drain(0), Ok(())),
+        |store| assert_eq!(store.log(0, &SET_0_TO_5), Ok(Log::Logged { count: 1, stamp: 14 })),
+        |store| mark(store, 0, 14),
+        |store| assert_eq!(store.settle(0), Ok(14)),
+    ];
+    for drain in drains {
+        with_lane_1_at_rest(|store| {
+            commit(store, 0, &SET_0_TO_2, 10);
+            assert_eq!(store.settle(0), Ok(12));
+            drain(store);
+            cut_and_recover(store, None, 0);
+            assert_eq!(store.nvm[..3], [12, 2, 7]);
+        });
+    }
+}
+
+/// The commit at 6 is lost, since lane 1's floor is 2. The one at 4 stays, where the other lane's floor is 8; and where lane 1 is the one that is settled, and lane 0's floor is 6.
+#[test]
+fn a_settled_commit_needs_the_other_lanes_floors_above_it() {
+    with_store(SIZES, |store| {
+        assert_eq!(store.format(GREATEST_LAG, &[0, 0]), Ok(()));
+        assert_eq!(store.log(1, &SET_1_TO_7), Ok(Log::Logged { count: 1, stamp: 2 }));
+        assert_eq!(store.drain(1), Ok(()));
+        commit(store, 0, &SET_0_TO_2, 6);
+        assert_eq!((store.settle(0), store.drain(0)), (Ok(8), Ok(())));
+        assert_eq!((floor(store, 0), floor(store, 1)), (None, Some(2)));
+        cut_and_recover(store, Some(2), 2);
+        assert_eq!(store.nvm[..3], [8, 0, 0]);
+    });
+    with_store(SIZES, |store| {
+        assert_eq!(store.format(GREATEST_LAG, &[0, 0]), Ok(()));
+        commit(store, 0, &SET_0_TO_2, 4);
+        assert_eq!((store.settle(0), store.drain(0)), (Ok(6), Ok(())));
+        assert_eq!(store.log(1, &SET_1_TO_7), Ok(Log::Logged { count: 1, stamp: 8 }));
+        assert_eq!(store.drain(1), Ok(()));
+        assert_eq!((floor(store, 0), floor(store, 1)), (None, Some(8)));
+        cut_and_recover(store, Some(8), 1);
+        assert_eq!(store.nvm[..3], [8, 2, 0]);
+    });
+    with_store(SIZES, |store| {
+        assert_eq!(store.format(GREATEST_LAG, &[0, 0]), Ok(()));
+        commit(store, 0, &SET_0_TO_2, 4);
+        assert_eq!(store.log(0, &SET_0_TO_5), Ok(Log::Logged { count: 1, stamp: 6 }));
+        assert_eq!((store.settle(1), store.drain(1), store.drain(0)), (Ok(8), Ok(()), Ok(())));
+        // lane 0, not settled itself, has its floor above 4
+        assert_eq!((floor(store, 0), floor(store, 1)), (Some(6), None));
+        cut_and_recover(store, Some(6), 1);
+        assert_eq!(store.nvm[..3], [8, 2, 0]);
     });
 }
 
@@ -471,7 +683,7 @@ fn refusals_have_their_numbers() {
         assert_eq!(store.format(GREATEST_LAG, &[0, 0]), Ok(()));
         assert_eq!(store.drain(2), Err(Refusal::Lane));
         assert_eq!(store.write_back(image_words(SIZES)), Err(Refusal::Word));
-        assert_eq!(store.log(0, &[]), Err(Refusal::Txn));
+        assert_eq!(store.log(0, &[1]), Err(Refusal::Txn));
         assert_eq!(store.redo(0), Err(Refusal::Idle));
         assert_eq!(store.log(0, &SET_0_TO_2), Ok(Log::Logged { count: 1, stamp: 2 }));
         assert_eq!(store.log(0, &SET_0_TO_2), Err(Refusal::Logged));

@@ -81,7 +81,7 @@ fn library(world: &mut World, call: &Call, place: &str) -> u64 {
 
 #[test]
 fn every_call_stores_in_order() {
-    every_outcome(30, 1, |world, call, place| match call {
+    every_outcome(50, 1, |world, call, place| match call {
         // Format may store as it likes
         Call::Format(_) => world.call(&LIBRARY, call),
         _ => library(world, call, place),

@@ -1,11 +1,13 @@
-// The calls that append a sequence to a lane's log: Log and Mark.
+// The calls that append a sequence to a lane's log: Log, which settles the lane where it is given no words, and Mark.
 ghost use mathlib.Core.Path.{_≡_};
+ghost use mathlib.Core.Bool.{true};
 ghost use mathlib.Core.List.{List, []};
 ghost use Prim.Native.Nat.{ℕ, _+_};
-ghost use lib.ListN.{take};
-ghost use Rattle.txn.specs.Txn.{maxWrites};
+ghost use lib.ListN.{length, take};
+ghost use Rattle.txn.specs.Txn.{maxWrites, txnOk, run};
 ghost use Rattle.txn.specs.inner.Writes.{writesOf};
-ghost use Rattle.image.specs.Image.{logStart};
+ghost use Rattle.image.specs.Image.{dataOf, logStart};
+ghost use Rattle.image.specs.inner.Facts.{IsImage};
 ghost use Rattle.image.specs.Flush.{flushAll};
 ghost use Rattle.image.specs.Stores.{stored, places};
 ghost use Rattle.log.specs.Log.{latestIn};
@@ -15,7 +17,7 @@ ghost use Rattle.store.specs.Calls.{writesOn, logRefusal, logStep, markRefusal,
 ghost use Rattle.store.specs.Interface.{machineOf, stepOf};
 ghost use Rattle.store.specs.inner.Checked.{drainedState};
 ghost use Rattle.append.specs.inner.Plans.{roomRefusal, logChecks, Planned, Searchable, Appendable, AfterDrain};
-ghost use Rattle.append.specs.inner.Plans.{loggedStep};
+ghost use Rattle.append.specs.inner.Plans.{loggedStep, settledStep};
 use image::Sizes;
 use log::Latest;
 use record::Lane;
@@ -91,7 +93,7 @@ fn append_refusal(
     0
 }
 
-// Log's refusals before it runs the transaction.
+// Log's refusals before it runs the transaction. No words are no transaction to be checked.
 fn log_checks(
     sizes: Sizes,
     state: Record,
@@ -108,7 +110,7 @@ fn log_checks(
     if number != 0 {
         return number;
     }
-    if !txn::txn_ok(txn, sizes.words) {
+    if txn.len() != 0 && !txn::txn_ok(txn, sizes.words) {
         return 5;
     }
     let at = state.lanes[lane];
@@ -117,6 +119,19 @@ fn log_checks(
         return 6;
     }
     0
+}
+
+// The writes of a transaction on the cached data words; no words write nothing.
+fn writes_of(sizes: Sizes, cache: &[u64], txn: &[u64]) -> Writes
+    requires { ⌜ IsImage sizes (now cache) ⌝ }
+    requires { ⌜ ((length (now txn) ≡ 0 → ⊥) → txnOk maxWrites (sizes .words) (now txn) ≡ true) ⌝ }
+    ensures { λ r. ⌜ r ≡ writesOf maxWrites
+        (run (sizes .words) (now (txn .entry)) (dataOf sizes (now (cache .entry)))) ⌝ }
+{
+    if txn.len() == 0 {
+        return none();
+    }
+    store::writes_on(sizes, cache, txn)
 }
 
 fn plan_log(
@@ -143,9 +158,9 @@ fn plan_log(
             latest: Latest::Nothing,
         };
     }
-    let writes = store::writes_on(sizes, cache, txn);
+    let writes = writes_of(sizes, cache, txn);
     let latest = store::latest_in(sizes, cache, lane);
-    if writes.count == 0 {
+    if txn.len() != 0 && writes.count == 0 {
         return Plan {
             number: 0,
             writes,
@@ -248,9 +263,38 @@ fn log_writes(
     }
 }
 
+// Log of no words, once its lane is drained: the mark that settles the lane. The record is still the one before the
+// drain.
+fn settle(
+    sizes: Sizes,
+    state: Record,
+    latest: Latest,
+    cache: &mut [u64],
+    flags: &mut [u8],
+    lane: usize,
+) -> Outcome
+    requires { ⌜ AfterDrain sizes state latest (now cache) (now flags) lane (writesOf maxWrites []) ⌝ }
+    ensures { λ r. ⌜ ((nvm : List ℕ)
+        → stepOf r (now (cache .exit)) nvm (now (flags .exit))
+        ≡ settledStep sizes lane
+        (machineOf (drainedState sizes (now (cache .entry)) lane state) (now (cache .entry)) nvm
+        (now (flags .entry)))) ⌝ }
+{
+    let old = state.lanes[lane];
+    let at = record::drained_lane(latest, old);
+    let stamp = state.clock + 2;
+    let phase = Phase::Idle;
+    let redo = at.redo;
+    let after = appended(sizes, at, cache, flags, lane, none(), stamp, phase, redo);
+    Outcome {
+        answer: Answer::Settled(stamp),
+        state: record::stamped(state, stamp, lane, after),
+    }
+}
+
 // Logs a transaction: its run on the cached words is left as undo entries in the log and as the redo log in the record.
 // One run, one pass over the flags, one over the lane's log for its latest sequence and, where the transaction writes,
-// a look at up to 33 slots for a hit.
+// a look at up to 33 slots for a hit. No words settle the lane, at a Mark's cost.
 pub fn log(
     sizes: Sizes,
     state: Record,
@@ -272,6 +316,9 @@ pub fn log(
         return store::refused(number, state);
     }
     image::flush::drain(lane, cache, nvm, flags);
+    if txn.len() == 0 {
+        return settle(sizes, state, latest, cache, flags, lane);
+    }
     if writes.count == 0 {
         return Outcome {
             answer: Answer::NoWrites,

@@ -50,6 +50,7 @@ fn put_answer(arena: &mut Arena, answer: Answer) {
             appended.count as u64,
             appended.stamp,
         ),
+        Answer::Settled(stamp) => convert::put_answer(arena, second::SETTLED, 0, stamp),
         Answer::Committed(stamp) => convert::put_answer(arena, second::COMMITTED, 0, stamp),
         Answer::Stale => convert::put_answer(arena, second::STALE, 0, 0),
         Answer::Changed => convert::put_answer(arena, second::CHANGED, 0, 0),

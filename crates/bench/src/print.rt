@@ -11,6 +11,7 @@ use second::words::LANES;
 use second::words::SLOTS;
 use second::words::STATE;
 use second::words::TRAILER;
+use second::words::USED;
 use second::words::WORDS;
 use second::words::get;
 use second::words::minus;
@@ -70,7 +71,7 @@ fn said(arena: &Arena) {
     let kind = session::kind(arena);
     match kind {
         second::REFUSED => answered(arena, b"refused "),
-        second::LOGGED => logged(arena),
+        second::LOGGED | second::SETTLED => logged(arena),
         second::COMMITTED | second::MARKED => stamped(arena, b"stamp "),
         second::RECOVERED => recovered(arena),
         second::UNBOUNDED => unbounded(arena),
@@ -99,7 +100,12 @@ fn call(code: u64) {
 
 // The call that was made.
 pub fn called(arena: &Arena) {
-    call(get(arena, STATE, CODE));
+    let code = get(arena, STATE, CODE);
+    call(code);
+    let takes = code == second::LOG || code == second::VALIDATE;
+    if takes && get(arena, STATE, USED) == 0 {
+        text(b" of no words");
+    }
 }
 
 // A floor, or none.
@@ -198,6 +204,7 @@ fn step_kinds(arena: &Arena) {
     kind(arena, b"  done ", second::DONE);
     kind(arena, b", no writes ", second::NO_WRITES);
     kind(arena, b", logged ", second::LOGGED);
+    kind(arena, b", settled ", second::SETTLED);
     kind(arena, b", committed ", second::COMMITTED);
     kind(arena, b", stale ", second::STALE);
 }

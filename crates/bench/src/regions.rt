@@ -23,7 +23,7 @@ pub const STORED_CACHE: u64 = FREE + 5;
 
 pub const STORED_NVM: u64 = FREE + 6;
 
-pub(crate) const STORED_FLAGS: u64 = FREE + 7;
+pub const STORED_FLAGS: u64 = FREE + 7;
 
 // The words of TALLY: the last one counts refusal 16.
 pub const TALLIED: u64 = 33;

@@ -1,6 +1,6 @@
-// Pseudo-random lists of calls, from a Format on: transactions, some of them damaged, commits, marks, drains,
-// write-backs, power failures and recoveries. Now and then an image loses its trailer, and is one of the former length
-// from then on. Half of the lag limits are small.
+// Pseudo-random lists of calls, from a Format on: transactions, some of them damaged and some of no words, commits,
+// marks, drains, write-backs, power failures and recoveries. Now and then an image loses its trailer, and is one of the
+// former length from then on. Half of the lag limits are small.
 use bench::generator::below;
 use bench::generator::once_in;
 use bench::generator::value;
@@ -89,7 +89,7 @@ fn damage(arena: &mut Arena) -> u64 {
     }
 }
 
-// Makes a transaction, now and then one that is damaged; its length in words.
+// Makes a transaction, now and then one that is damaged, and one in thirty of no words; its length in words.
 pub(crate) fn make_txn(arena: &mut Arena) -> u64 {
     clear(arena, TXN, START);
     let count = instructions(arena);
@@ -108,7 +108,7 @@ fn spoil_txn(arena: &mut Arena, length: u64) -> u64 {
     if once_in(arena, 50) {
         return below(arena, 70);
     }
-    length
+    only(!once_in(arena, 30), length)
 }
 
 // A lane: mostly lane 0, so that its log wraps while others lag behind, and now and then none.

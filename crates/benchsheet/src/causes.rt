@@ -48,14 +48,16 @@ const ODD: u64 = 4096;
 // The sets of thirteen causes.
 const SETS: u64 = 8192;
 
-// Each set with each of the nine calls.
-pub(crate) const CASES: u64 = 9 * SETS;
+// Each set with each call.
+pub(crate) const CASES: u64 = edges::CALLS * SETS;
 
 // The causes that a call knows. SPECIFICATION, "Calls".
-fn known(code: u64) -> u64 {
-    match code {
+fn known(call: u64) -> u64 {
+    match call {
         // 1 2 3 5 6 8 15 9
         second::LOG => 3801,
+        // 1 2 3 6 8 15 9
+        edges::NO_WORDS => 3737,
         // 1 2 3 7 8
         second::REDO => 793,
         // 1 2 3 5 7 8
@@ -101,8 +103,8 @@ fn first(set: u64) -> u64 {
 }
 
 // The lane, word or limit.
-fn number_for(code: u64, set: u64) -> u64 {
-    if edges::recovers(code) {
+fn number_for(call: u64, set: u64) -> u64 {
+    if edges::recovers(call) {
         return u64::MAX;
     }
     if has(set, NO_WORD) {
@@ -154,31 +156,28 @@ fn spoil_state(arena: &mut Arena, set: u64, lane: u64) {
 }
 
 // Is the lane to hold a transaction? Log wants none, Redo and Validate want one.
-fn held(code: u64, set: u64) -> bool {
-    has(set, HOLDS) || (edges::commits(code) && !has(set, IDLE))
+fn held(call: u64, set: u64) -> bool {
+    has(set, HOLDS) || (edges::commits(call) && !has(set, IDLE))
 }
 
 // A call in whose state and arguments just these causes hold.
-fn call_with(arena: &mut Arena, code: u64, set: u64) {
-    let number = number_for(code, set);
+pub(crate) fn call_with(arena: &mut Arena, call: u64, set: u64) {
+    let number = number_for(call, set);
     edges::start(arena);
-    edges::fit_for(arena, code);
-    edges::prepare(arena, number, held(code, set));
+    edges::fit_for(arena, call);
+    edges::prepare(arena, number, held(call, set));
     spoil_arguments(arena, set);
     spoil_state(arena, set, number);
-    let mut used = 4;
-    if code == second::FORMAT {
-        used = 2;
-    }
-    edges::probe(arena, code, number, used);
+    let used = edges::used_by(arena, call);
+    edges::probe(arena, edges::code_of(call), number, used);
     edges::expect(arena, first(set));
 }
 
 // Each call with each set of which it knows all causes.
 pub(crate) fn every_set(arena: &mut Arena, i: u64) {
-    let code = i / SETS + 1;
+    let call = i / SETS + 1;
     let set = i % SETS;
-    if set & known(code) == set {
-        call_with(arena, code, set);
+    if set & known(call) == set {
+        call_with(arena, call, set);
     }
 }

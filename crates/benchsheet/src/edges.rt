@@ -35,8 +35,26 @@ pub(crate) const LENGTH: u64 = 143;
 
 pub(crate) const FORMER: u64 = 139;
 
-// The calls.
-const CALLS: u64 = 9;
+// The calls are 1 to 9; a Log of no words, which settles its lane, is one more here.
+pub(crate) const NO_WORDS: u64 = 10;
+
+pub(crate) const CALLS: u64 = 10;
+
+pub(crate) fn code_of(call: u64) -> u64 {
+    if call == NO_WORDS {
+        return second::LOG;
+    }
+    call
+}
+
+// How many words it is given: a transaction of one instruction, none, or as many as Format wants.
+pub(crate) fn used_by(arena: &Arena, call: u64) -> u64 {
+    match call {
+        second::FORMAT => get(arena, STATE, WORDS),
+        NO_WORDS => 0,
+        _ => 4,
+    }
+}
 
 // An empty store of these sizes with the greatest lag limit, and a transaction that sets word 0 to 3.
 fn start_with(arena: &mut Arena, words: u64, lanes: u64, slots: u64) {
@@ -77,8 +95,8 @@ pub(crate) fn expect(arena: &mut Arena, number: u64) {
 }
 
 // A call at an edge, printed with what stands there.
-fn probe_at(arena: &mut Arena, code: u64, number: u64, refusal: u64, what: &[u8], n: u64) {
-    probe(arena, code, number, 4);
+fn probe_at(arena: &mut Arena, call: u64, number: u64, refusal: u64, what: &[u8], n: u64) {
+    probe(arena, code_of(call), number, used_by(arena, call));
     expect(arena, refusal);
     print::edge(arena, what, n);
 }
@@ -109,14 +127,14 @@ pub(crate) fn prepare(arena: &mut Arena, lane: u64, held: bool) {
 }
 
 // Does the call commit what the lane holds?
-pub(crate) fn commits(code: u64) -> bool {
-    code == second::REDO || code == second::VALIDATE
+pub(crate) fn commits(call: u64) -> bool {
+    call == second::REDO || call == second::VALIDATE
 }
 
 // A start with a lane prepared for a call.
-pub(crate) fn start_for(arena: &mut Arena, code: u64, lane: u64) {
+pub(crate) fn start_for(arena: &mut Arena, call: u64, lane: u64) {
     start(arena);
-    prepare(arena, lane, commits(code));
+    prepare(arena, lane, commits(call));
 }
 
 // ---- sizes. The first seven cases are in range.
@@ -156,22 +174,19 @@ fn slots_case(i: u64) -> u64 {
     }
 }
 
-pub(crate) fn recovers(code: u64) -> bool {
-    code == second::RECOVER || code == second::RECOVER_READ
+pub(crate) fn recovers(call: u64) -> bool {
+    call == second::RECOVER || call == second::RECOVER_READ
 }
 
-// Lane 0, word 0, or no limit; as many words as Format wants, or a transaction of four.
-pub(crate) fn probe_empty(arena: &mut Arena, code: u64) {
-    let mut used = 4;
-    if code == second::FORMAT {
-        used = get(arena, STATE, WORDS);
-    }
-    probe(arena, code, only(recovers(code), u64::MAX), used);
+// Lane 0, word 0, or no limit.
+pub(crate) fn probe_empty(arena: &mut Arena, call: u64) {
+    let number = only(recovers(call), u64::MAX);
+    probe(arena, code_of(call), number, used_by(arena, call));
 }
 
 // The refusal for sizes out of range: recovery without sizes finds them in the trailer.
-fn size_refusal(code: u64) -> u64 {
-    if code == second::RECOVER_READ {
+fn size_refusal(call: u64) -> u64 {
+    if call == second::RECOVER_READ {
         return 14;
     }
     1
@@ -179,14 +194,14 @@ fn size_refusal(code: u64) -> u64 {
 
 // Each size case with each call.
 pub(crate) fn sizes(arena: &mut Arena, i: u64) {
-    let code = i % CALLS + 1;
+    let call = i % CALLS + 1;
     let case = i / CALLS;
     start_with(arena, words_case(case), lanes_case(case), slots_case(case));
-    fit_for(arena, code);
-    probe_empty(arena, code);
-    let refused = session::refusal(arena) == size_refusal(code);
+    fit_for(arena, call);
+    probe_empty(arena, call);
+    let refused = session::refusal(arena) == size_refusal(call);
     session::expect(arena, refused == (7 <= case));
-    if code == second::FORMAT {
+    if call == second::FORMAT {
         print::sizes(arena);
     }
 }
@@ -204,15 +219,15 @@ fn wrong_length(arena: &mut Arena, i: u64) {
 
 pub(crate) fn buffers(arena: &mut Arena, i: u64) {
     start(arena);
-    if i < 54 {
-        let code = i % CALLS + 1;
-        fit_for(arena, code);
+    if i < 60 {
+        let call = i % CALLS + 1;
+        fit_for(arena, call);
         wrong_length(arena, i / CALLS);
-        probe_empty(arena, code);
+        probe_empty(arena, call);
         expect(arena, 1);
     } else {
-        probe(arena, second::FORMAT, 0, i - 53);
-        expect(arena, only(i != 55, 1));
+        probe(arena, second::FORMAT, 0, i - 59);
+        expect(arena, only(i != 61, 1));
     }
 }
 
@@ -249,12 +264,20 @@ fn lane_case(i: u64) -> u64 {
     }
 }
 
-// Each lane case with each call on a lane.
+// The six calls on a lane.
+fn lane_call(i: u64) -> u64 {
+    if i == 5 {
+        return NO_WORDS;
+    }
+    plus(i, 1)
+}
+
+// Each lane case with each of them.
 pub(crate) fn lanes(arena: &mut Arena, i: u64) {
-    let code = i % 5 + 1;
-    let lane = lane_case(i / 5);
-    start_for(arena, code, lane);
-    probe_at(arena, code, lane, only(5 <= i, 3), b", lane ", lane);
+    let call = lane_call(i % 6);
+    let lane = lane_case(i / 6);
+    start_for(arena, call, lane);
+    probe_at(arena, call, lane, only(6 <= i, 3), b", lane ", lane);
 }
 
 // ---- transactions
@@ -264,8 +287,9 @@ fn put_sets(arena: &mut Arena) {
     }
 }
 
-fn is_bad_length(used: u64) -> bool {
-    used % 4 != 0 || used < 4 || 64 < used
+// Log takes no words at all, too.
+fn is_bad_length(code: u64, used: u64) -> bool {
+    used % 4 != 0 || 64 < used || (used == 0 && code != second::LOG)
 }
 
 // A transaction of so many words of SETs.
@@ -273,7 +297,8 @@ fn length_of_txn(arena: &mut Arena, code: u64, used: u64) {
     start_for(arena, code, 0);
     put_sets(arena);
     probe(arena, code, 0, used);
-    session::expect(arena, (session::refusal(arena) == 5) == is_bad_length(used));
+    let refused = session::refusal(arena) == 5;
+    session::expect(arena, refused == is_bad_length(code, used));
     if used == 64 || used == 68 {
         print::edge(arena, b", instructions ", used / 4);
     }
@@ -326,12 +351,12 @@ pub(crate) fn txns(arena: &mut Arena, i: u64) {
 pub(crate) const LATE: u64 = MAX_STAMP - 2;
 
 // The lane has no floor, so that no lag limit binds: its sequence is not above the base timestamp.
-fn clock_case(arena: &mut Arena, code: u64, clock: u64, number: u64) {
-    start_for(arena, code, 0);
+fn clock_case(arena: &mut Arena, call: u64, clock: u64, number: u64) {
+    start_for(arena, call, 0);
     put(arena, CACHE, 0, 2);
     fields::set_field(arena, 0, fields::FLOOR, fields::NONE);
     put(arena, RECORD, fields::CLOCK, clock);
-    probe_at(arena, code, 0, number, b", clock ", clock);
+    probe_at(arena, call, 0, number, b", clock ", clock);
 }
 
 // A Log that writes nothing takes no timestamp: the SKIP passes over the SET.
@@ -349,13 +374,21 @@ pub(crate) fn put_skip(arena: &mut Arena) {
     set_row(arena, TXN, 1, 1, 0, 0, 3);
 }
 
+// The calls that take a timestamp.
+fn clock_call(i: u64) -> u64 {
+    if i == 4 {
+        return NO_WORDS;
+    }
+    plus(i, 1)
+}
+
 pub(crate) fn clocks(arena: &mut Arena, i: u64) {
-    if i == 8 {
+    if i == 10 {
         no_writes(arena);
     } else if i % 2 == 0 {
-        clock_case(arena, i / 2 + 1, LATE, 0);
+        clock_case(arena, clock_call(i / 2), LATE, 0);
     } else {
-        clock_case(arena, i / 2 + 1, MAX_STAMP, 8);
+        clock_case(arena, clock_call(i / 2), MAX_STAMP, 8);
     }
 }
 
@@ -433,9 +466,10 @@ fn hold_all(arena: &mut Arena) {
 
 // Each case with each call on a lane.
 pub(crate) fn records(arena: &mut Arena, i: u64) {
+    let call = lane_call(i % 6);
     start(arena);
     hold_all(arena);
-    edit(arena, i / 5);
-    probe(arena, i % 5 + 1, 0, 4);
-    session::expect(arena, (session::refusal(arena) == 2) == is_bad(i / 5));
+    edit(arena, i / 6);
+    probe(arena, code_of(call), 0, used_by(arena, call));
+    session::expect(arena, (session::refusal(arena) == 2) == is_bad(i / 6));
 }

@@ -32,9 +32,13 @@ const MARK: u64 = 6;
 
 const DRAIN: u64 = 7;
 
+const LOG_NO_WORDS: u64 = 8;
+
+const CALLS: u64 = 9;
+
 fn code_of(call: u64) -> u64 {
     match call {
-        LOG | LOG_NOTHING => second::LOG,
+        LOG | LOG_NOTHING | LOG_NO_WORDS => second::LOG,
         REDO | REDO_STALE => second::REDO,
         VALIDATE | VALIDATE_CHANGED => second::VALIDATE,
         MARK => second::MARK,
@@ -63,18 +67,26 @@ fn start(arena: &mut Arena, call: u64, own: u64) {
     vary(arena, call);
 }
 
-fn probe(arena: &mut Arena, call: u64) {
-    let mut used = 4;
-    if call == LOG_NOTHING {
-        used = 8;
+fn used_by(call: u64) -> u64 {
+    match call {
+        LOG_NOTHING => 8,
+        LOG_NO_WORDS => 0,
+        _ => 4,
     }
-    edges::probe(arena, code_of(call), 0, used);
+}
+
+fn probe(arena: &mut Arena, call: u64) {
+    edges::probe(arena, code_of(call), 0, used_by(call));
     edges::expect(arena, 0);
+}
+
+fn appends(call: u64) -> bool {
+    call == LOG || call == LOG_NO_WORDS || call == MARK
 }
 
 // The floor after a call, where the drain left this one: an append takes timestamp 10.
 fn after_call(call: u64, drained: u64) -> u64 {
-    if drained == fields::NONE && (call == LOG || call == MARK) {
+    if drained == fields::NONE && appends(call) {
         return 10;
     }
     drained
@@ -87,7 +99,7 @@ fn expect_floor(arena: &mut Arena, floor: u64) {
 
 // The lane's floor before the call: 2, or none.
 fn own_case(i: u64) -> u64 {
-    if i / 8 % 2 == 0 {
+    if i / CALLS % 2 == 0 {
         return 2;
     }
     fields::NONE
@@ -103,7 +115,7 @@ fn say(arena: &Arena, a: u64, b: u64) {
 
 // A call on a log of which a drain leaves this floor. The Drain is printed, and every call where `all` is set.
 fn call_on(arena: &mut Arena, i: u64, a: u64, b: u64, drained: u64, all: bool) {
-    let call = i % 8;
+    let call = i % CALLS;
     start(arena, call, own_case(i));
     logs::put_log(arena, 0, a, b);
     probe(arena, call);
@@ -113,11 +125,14 @@ fn call_on(arena: &mut Arena, i: u64, a: u64, b: u64, drained: u64, all: bool) {
     }
 }
 
-// Twelve logs, two floors before the call, eight calls.
-pub(crate) const CASES: u64 = 192;
+// The cases of one log: two floors before the call.
+const ON_LOG: u64 = 2 * CALLS;
+
+// Twelve logs.
+pub(crate) const CASES: u64 = 12 * ON_LOG;
 
 pub(crate) fn cases(arena: &mut Arena, i: u64) {
-    match i / 16 {
+    match i / ON_LOG {
         0 => call_on(arena, i, 0, 0, own_case(i), false),
         1 => call_on(arena, i, 20, 0, own_case(i), false),
         2 => call_on(arena, i, 61, 0, 6, false),

@@ -12,7 +12,7 @@ use second::words::put;
 use second::words::set_row;
 
 // Lane 0 adds 1 to word 0, lane 1 sets word 1 to 1.
-fn call(arena: &mut Arena, code: u64, lane: u64) {
+pub(crate) fn call(arena: &mut Arena, code: u64, lane: u64) {
     if lane == 0 {
         set_row(arena, TXN, 0, 3, 0, 0, 1);
     } else {
@@ -23,6 +23,10 @@ fn call(arena: &mut Arena, code: u64, lane: u64) {
 
 pub(crate) fn step(arena: &mut Arena, code: u64, lane: u64) {
     call(arena, code, lane);
+    say(arena, lane);
+}
+
+pub(crate) fn say(arena: &Arena, lane: u64) {
     print::called(arena);
     print::counted(b", lane ", lane);
     print::text(b": ");
@@ -34,20 +38,21 @@ pub(crate) fn commit(arena: &mut Arena, lane: u64) {
     step(arena, second::REDO, lane);
 }
 
-// Seventeen commits of lane 0, of two slots each: its log is full.
-fn fill(arena: &mut Arena) {
-    for _ in 0..17u64 {
+// So many commits of lane 0, of two slots each.
+pub(crate) fn fill(arena: &mut Arena, count: u64) {
+    for _ in 0..count {
         call(arena, second::LOG, 0);
         call(arena, second::REDO, 0);
     }
 }
 
-// Lane 1 commits, and is idle while lane 0 fills its log. Non-volatile memory is kept as it is before the mark.
+// Lane 1 commits, and is idle while lane 0 fills its log, of 34 slots. Non-volatile memory is kept as it is before the
+// mark.
 fn hold_back(arena: &mut Arena) {
     scenario::format(arena);
     commit(arena, 1);
     step(arena, second::DRAIN, 1);
-    fill(arena);
+    fill(arena, 17);
     step(arena, second::LOG, 0);
     scenario::write_all_back(arena);
     copy(arena, NVM, IMAGE, 0, edges::LENGTH);

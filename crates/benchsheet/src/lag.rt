@@ -1,5 +1,6 @@
 // The lag limit: which numbers Format, recoveries and the record take for one, where it refuses a Log, and where it
-// does not refuse. Log takes the clock plus 2, which may not be more than the limit above the least floor.
+// does not refuse. Log takes the clock plus 2, which may not be more than the limit above the least floor, with words
+// or without.
 use crate::edges;
 use crate::idle;
 use crate::logs;
@@ -113,30 +114,39 @@ fn say(arena: &Arena, clock: u64, own: u64, other: u64, sequence: u64, lag: u64)
     print::floors(arena);
 }
 
-// A Log of lane 0 in such a case, with this limit, and its refusal or 0.
-fn log(arena: &mut Arena, clock: u64, own: u64, other: u64, sequence: u64, lag: u64, number: u64) {
+// A Log of lane 0 in such a case, of so many words, with this limit, and its refusal or 0.
+fn log(
+    arena: &mut Arena,
+    used: u64,
+    clock: u64,
+    own: u64,
+    other: u64,
+    sequence: u64,
+    lag: u64,
+    number: u64,
+) {
     set_case(arena, clock, own, other, sequence);
     fields::set_lag(arena, lag);
-    edges::probe(arena, second::LOG, 0, 4);
+    edges::probe(arena, second::LOG, 0, used);
     edges::expect(arena, number);
     expect_lag(arena, lag);
     say(arena, clock, own, other, sequence, lag);
 }
 
 // The log is empty: a floor is what the record says.
-fn log_by_record(arena: &mut Arena, i: u64) {
+fn log_by_record(arena: &mut Arena, i: u64, used: u64) {
     match i {
-        0 => log(arena, 8, NONE, 2, 0, 8, 0),
-        1 => log(arena, 8, NONE, 2, 0, 6, 15),
-        2 => log(arena, 10, NONE, 2, 0, 8, 15),
-        3 => log(arena, 8, 2, NONE, 0, 8, 0),
-        4 => log(arena, 8, 2, NONE, 0, 6, 15),
-        5 => log(arena, 8, 8, 2, 0, 6, 15),
-        6 => log(arena, 8, 2, 8, 0, 6, 15),
-        7 => log(arena, 8, 8, 4, 0, 6, 0),
-        8 => log(arena, 8, 8, 8, 0, 2, 0),
-        9 => log(arena, 8, 8, 6, 0, 2, 15),
-        _ => log(arena, 8, NONE, NONE, 0, 2, 0),
+        0 => log(arena, used, 8, NONE, 2, 0, 8, 0),
+        1 => log(arena, used, 8, NONE, 2, 0, 6, 15),
+        2 => log(arena, used, 10, NONE, 2, 0, 8, 15),
+        3 => log(arena, used, 8, 2, NONE, 0, 8, 0),
+        4 => log(arena, used, 8, 2, NONE, 0, 6, 15),
+        5 => log(arena, used, 8, 8, 2, 0, 6, 15),
+        6 => log(arena, used, 8, 2, 8, 0, 6, 15),
+        7 => log(arena, used, 8, 8, 4, 0, 6, 0),
+        8 => log(arena, used, 8, 8, 8, 0, 2, 0),
+        9 => log(arena, used, 8, 8, 6, 0, 2, 15),
+        _ => log(arena, used, 8, NONE, NONE, 0, 2, 0),
     }
 }
 
@@ -144,43 +154,43 @@ fn log_by_record(arena: &mut Arena, i: u64) {
 const HIGH: u64 = MAX_STAMP - MAX_LAG;
 
 // The greatest limit, and the greatest timestamp.
-fn log_late(arena: &mut Arena, i: u64) {
+fn log_late(arena: &mut Arena, i: u64, used: u64) {
     match i {
-        0 => log(arena, MAX_LAG - 2, NONE, 0, 0, MAX_LAG, 0),
-        1 => log(arena, MAX_LAG, NONE, 0, 0, MAX_LAG, 15),
-        2 => log(arena, edges::LATE, NONE, NONE, 0, 2, 0),
-        3 => log(arena, edges::LATE, NONE, HIGH, 0, MAX_LAG, 0),
-        4 => log(arena, edges::LATE, NONE, HIGH - 2, 0, MAX_LAG, 15),
-        _ => log(arena, edges::LATE, NONE, 2, 0, MAX_LAG, 15),
+        0 => log(arena, used, MAX_LAG - 2, NONE, 0, 0, MAX_LAG, 0),
+        1 => log(arena, used, MAX_LAG, NONE, 0, 0, MAX_LAG, 15),
+        2 => log(arena, used, edges::LATE, NONE, NONE, 0, 2, 0),
+        3 => log(arena, used, edges::LATE, NONE, HIGH, 0, MAX_LAG, 0),
+        4 => log(arena, used, edges::LATE, NONE, HIGH - 2, 0, MAX_LAG, 15),
+        _ => log(arena, used, edges::LATE, NONE, 2, 0, MAX_LAG, 15),
     }
 }
 
-pub(crate) fn at_limit(arena: &mut Arena, i: u64) {
+pub(crate) fn at_limit(arena: &mut Arena, i: u64, used: u64) {
     if i < 11 {
-        log_by_record(arena, i);
+        log_by_record(arena, i, used);
     } else {
-        log_late(arena, i - 11);
+        log_late(arena, i - 11, used);
     }
 }
 
 // The lane's own floor is the one after its drain: that of its sequence, none where that is a mark, the record's where
 // it is not complete. Only a damaged log has one that is not below 10, the timestamp that comes next.
-pub(crate) fn drained(arena: &mut Arena, i: u64) {
+pub(crate) fn drained(arena: &mut Arena, i: u64, used: u64) {
     match i {
-        0 => log(arena, 8, 2, NONE, 61, 4, 0),
-        1 => log(arena, 8, 2, NONE, 61, 2, 15),
-        2 => log(arena, 8, 8, NONE, 41, 4, 15),
-        3 => log(arena, 8, NONE, NONE, 41, 4, 15),
-        4 => log(arena, 8, NONE, NONE, 41, 6, 0),
-        5 => log(arena, 8, 2, NONE, 82, 6, 15),
-        6 => log(arena, 8, 2, 6, 61, 4, 0),
-        7 => log(arena, 8, 2, NONE, 60, 2, 0),
-        8 => log(arena, 8, 2, 8, 60, 2, 0),
-        9 => log(arena, 8, 2, 6, 60, 2, 15),
-        10 => log(arena, 8, 2, NONE, 101, 2, 0),
-        11 => log(arena, 8, 2, NONE, 121, 2, 0),
-        12 => log(arena, 8, 2, 8, 121, 2, 0),
-        _ => log(arena, 8, 2, 6, 121, 2, 15),
+        0 => log(arena, used, 8, 2, NONE, 61, 4, 0),
+        1 => log(arena, used, 8, 2, NONE, 61, 2, 15),
+        2 => log(arena, used, 8, 8, NONE, 41, 4, 15),
+        3 => log(arena, used, 8, NONE, NONE, 41, 4, 15),
+        4 => log(arena, used, 8, NONE, NONE, 41, 6, 0),
+        5 => log(arena, used, 8, 2, NONE, 82, 6, 15),
+        6 => log(arena, used, 8, 2, 6, 61, 4, 0),
+        7 => log(arena, used, 8, 2, NONE, 60, 2, 0),
+        8 => log(arena, used, 8, 2, 8, 60, 2, 0),
+        9 => log(arena, used, 8, 2, 6, 60, 2, 15),
+        10 => log(arena, used, 8, 2, NONE, 101, 2, 0),
+        11 => log(arena, used, 8, 2, NONE, 121, 2, 0),
+        12 => log(arena, used, 8, 2, 8, 121, 2, 0),
+        _ => log(arena, used, 8, 2, 6, 121, 2, 15),
     }
 }
 
@@ -194,6 +204,13 @@ fn start_past(arena: &mut Arena, code: u64) {
 fn call_past(arena: &mut Arena, code: u64) {
     start_past(arena, code);
     edges::probe(arena, code, 0, 4);
+    print::edge(arena, b", lane ", 0);
+}
+
+fn no_words(arena: &mut Arena) {
+    start_past(arena, second::LOG);
+    edges::probe(arena, second::LOG, 0, 0);
+    edges::expect(arena, 15);
     print::edge(arena, b", lane ", 0);
 }
 
@@ -217,6 +234,8 @@ pub(crate) fn past_limit(arena: &mut Arena, i: u64) {
     if i < 5 {
         call_past(arena, i + 1);
     } else if i == 5 {
+        no_words(arena);
+    } else if i == 6 {
         no_writes(arena);
     } else {
         unused_lane(arena);

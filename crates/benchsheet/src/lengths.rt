@@ -36,8 +36,8 @@ fn set_case(arena: &mut Arena, i: u64) {
 
 // What the call answers about the lengths, 0 where it takes them. Recovery without sizes knows no length but that of
 // its non-volatile memory, and finds no trailer that agrees with it.
-fn refusal(code: u64, case: u64) -> u64 {
-    match code {
+fn refusal(call: u64, case: u64) -> u64 {
+    match call {
         second::RECOVER => refused_but(case, 1, 1),
         second::FORMAT => refused_but(case, 0, 1),
         second::RECOVER_READ => refused_but(case, 0, no_trailer(case)),
@@ -66,16 +66,16 @@ fn either(case: u64) -> u64 {
     1
 }
 
-// How many cases there are: twelve for each of nine calls.
-pub(crate) const CASES: u64 = 108;
+// How many cases there are: twelve for each call.
+pub(crate) const CASES: u64 = 12 * edges::CALLS;
 
 pub(crate) fn cases(arena: &mut Arena, i: u64) {
-    let code = i % 9 + 1;
-    let case = i / 9;
-    edges::start_for(arena, code, 0);
+    let call = i % edges::CALLS + 1;
+    let case = i / edges::CALLS;
+    edges::start_for(arena, call, 0);
     set_case(arena, case);
-    edges::probe_empty(arena, code);
-    edges::expect(arena, refusal(code, case));
+    edges::probe_empty(arena, call);
+    edges::expect(arena, refusal(call, case));
     if case < 2 {
         print::edge(arena, b", image of ", length_case(case));
     }

@@ -1,7 +1,8 @@
 // The bench sheet's half that is run on fixed lists of calls: both sides of the ends of each range, trailers and the
 // lengths that each call takes, the withdrawn POKE, sets of causes of a refusal, the two-lane scenario with recovery
-// cut after each store, marked lanes, the lag limit. The control, which spoils what the store left, is here too. Prints
-// what it ran, what the store answered, and how many calls differed from the second implementation.
+// cut after each store, marked lanes, the lag limit, transactions of no words. The control, which spoils what the store
+// left, is here too. Prints what it ran, what the store answered, and how many calls differed from the second
+// implementation.
 mod boundaries;
 mod causes;
 mod control;
@@ -13,6 +14,7 @@ mod lengths;
 mod logs;
 mod overwriting;
 mod scenario;
+mod settling;
 mod trailers;
 mod withdrawn;
 
@@ -96,6 +98,22 @@ const PAST_LIMIT: u64 = 34;
 
 const LAGGING: u64 = 35;
 
+const FEW_WORDS: u64 = 36;
+
+const SETTLING_ORDER: u64 = 37;
+
+const SETTLING_AT_LIMIT: u64 = 38;
+
+const SETTLING_DRAINED: u64 = 39;
+
+const SETTLING_SLOTS: u64 = 40;
+
+const SETTLED_LANE: u64 = 41;
+
+const ONE_SLOT: u64 = 42;
+
+const SETTLED_CUTS: u64 = 43;
+
 // Case i of an edge.
 fn edge(arena: &mut Arena, group: u64, i: u64) {
     match group {
@@ -143,10 +161,24 @@ fn lagging(arena: &mut Arena, group: u64, i: u64) {
     match group {
         LAGS_GIVEN => lag::given(arena, i),
         LAGS_RECORDED => lag::recorded(arena, i),
-        AT_LIMIT => lag::at_limit(arena, i),
-        AT_LIMIT_DRAINED => lag::drained(arena, i),
+        AT_LIMIT => lag::at_limit(arena, i, 4),
+        AT_LIMIT_DRAINED => lag::drained(arena, i, 4),
         PAST_LIMIT => lag::past_limit(arena, i),
         _ => lag::list(arena),
+    }
+}
+
+// Case i of transactions of no words.
+fn settled(arena: &mut Arena, group: u64, i: u64) {
+    match group {
+        FEW_WORDS => settling::words(arena, i),
+        SETTLING_ORDER => settling::order(arena, i),
+        SETTLING_AT_LIMIT => lag::at_limit(arena, i, 0),
+        SETTLING_DRAINED => lag::drained(arena, i, 0),
+        SETTLING_SLOTS => settling::slots(arena, i),
+        SETTLED_LANE => settling::list(arena),
+        ONE_SLOT => settling::one_slot(arena),
+        _ => settling::cut(arena, i),
     }
 }
 
@@ -174,8 +206,10 @@ fn cases(arena: &mut Arena, group: u64, count: u64) {
             case(arena, group, i);
         } else if group <= IDLE_CUTS {
             mark(arena, group, i);
-        } else {
+        } else if group <= LAGGING {
             lagging(arena, group, i);
+        } else {
+            settled(arena, group, i);
         }
     }
 }
@@ -188,18 +222,18 @@ fn run(arena: &mut Arena, group: u64, count: u64, name: &[u8]) {
 
 // Both sides of the ends of each range.
 fn first_edges(arena: &mut Arena) {
-    run(arena, SIZES, 144, b"sizes");
-    run(arena, BUFFERS, 57, b"buffers");
+    run(arena, SIZES, 160, b"sizes");
+    run(arena, BUFFERS, 63, b"buffers");
     run(arena, WORDS, 4, b"words, image of 143");
     run(arena, FORMER_WORDS, 4, b"words, image of 139");
-    run(arena, LANES, 15, b"lanes, T 2");
+    run(arena, LANES, 18, b"lanes, T 2");
 }
 
 fn more_edges(arena: &mut Arena) {
     run(arena, TXNS, 2156, b"transactions");
     run(arena, WITHDRAWN, 7, b"POKE withdrawn");
-    run(arena, CLOCKS, 9, b"clocks");
-    run(arena, RECORDS, 200, b"records");
+    run(arena, CLOCKS, 11, b"clocks");
+    run(arena, RECORDS, 240, b"records");
 }
 
 fn lengths_and_trailers(arena: &mut Arena) {
@@ -293,8 +327,47 @@ fn lag_limit(arena: &mut Arena) {
 }
 
 fn more_lag_limit(arena: &mut Arena) {
-    run(arena, PAST_LIMIT, 7, b"other calls past the lag limit");
+    run(arena, PAST_LIMIT, 8, b"other calls past the lag limit");
     run(arena, LAGGING, 1, b"a lane that lags behind");
+}
+
+fn no_words(arena: &mut Arena) {
+    run(
+        arena,
+        FEW_WORDS,
+        settling::WORDS,
+        b"transactions of few words",
+    );
+    run(
+        arena,
+        SETTLING_ORDER,
+        settling::ORDER,
+        b"no words, order of refusals",
+    );
+    run(arena, SETTLING_AT_LIMIT, 17, b"no words, at the lag limit");
+    run(
+        arena,
+        SETTLING_DRAINED,
+        14,
+        b"no words, at the lag limit, as after the drain",
+    );
+}
+
+fn more_no_words(arena: &mut Arena) {
+    run(
+        arena,
+        SETTLING_SLOTS,
+        settling::SLOTS,
+        b"no words, at each slot, as a Mark",
+    );
+    run(arena, SETTLED_LANE, 1, b"a lane that is settled");
+    run(arena, ONE_SLOT, 1, b"no words, one slot is free");
+    run(
+        arena,
+        SETTLED_CUTS,
+        settling::CUTS,
+        b"a lane that is settled, power fails",
+    );
 }
 
 fn main() {
@@ -310,4 +383,6 @@ fn main() {
     idle_lane(&mut arena);
     lag_limit(&mut arena);
     more_lag_limit(&mut arena);
+    no_words(&mut arena);
+    more_no_words(&mut arena);
 }

@@ -22,7 +22,7 @@ fn four_entries(arena: &mut Arena, slot: u64) {
 // Lane 0's log has a sequence of sixteen entries, the longest, at slots 10 to 25 with timestamp 4 at slot 26, and one
 // of an entry at slot 33 and timestamp 10 at slot 0, over the wrap. A mark closes no entry: that one is then no part of
 // the sequence.
-fn two_sequences(arena: &mut Arena, marked: bool) {
+pub(crate) fn two_sequences(arena: &mut Arena, marked: bool) {
     four_entries(arena, 10);
     four_entries(arena, 14);
     four_entries(arena, 18);
@@ -48,14 +48,14 @@ fn writes_older(next: u64, count: u64) -> bool {
 
 // The newer sequence is always protected, by the lane's own floor after its drain, which is 10; the older one where the
 // other lane's floor is not above 4. What lane 0's record says of its floor does not matter.
-fn hits(next: u64, count: u64, other: u64) -> bool {
+pub(crate) fn hits(next: u64, count: u64, other: u64) -> bool {
     let newer = writes_slot(next, count, 33) || writes_slot(next, count, 0);
     newer || (writes_older(next, count) && other <= 4)
 }
 
 // Where it is a mark, the drain ends the lane's own floor: only the other lane's floor protects, a sequence that is not
 // below it.
-fn hits_marked(next: u64, count: u64, other: u64) -> bool {
+pub(crate) fn hits_marked(next: u64, count: u64, other: u64) -> bool {
     (writes_slot(next, count, 0) && other <= 10) || (writes_older(next, count) && other <= 4)
 }
 
@@ -66,7 +66,7 @@ fn three_sets(arena: &mut Arena) {
 }
 
 // The state of a case: lane 0's next slot, its floor and the other lane's, at clock 20.
-fn set_case(arena: &mut Arena, next: u64, own: u64, other: u64) {
+pub(crate) fn set_case(arena: &mut Arena, next: u64, own: u64, other: u64) {
     edges::start(arena);
     three_sets(arena);
     fields::set_time(arena, 20, 20);
@@ -86,7 +86,7 @@ fn append(arena: &mut Arena, writes: u64, hit: bool) {
 }
 
 // None, below, at, and above the older sequence's timestamp; above both.
-fn floor_case(i: u64) -> u64 {
+pub(crate) fn floor_case(i: u64) -> u64 {
     match i {
         0 => fields::NONE,
         4 => 12,

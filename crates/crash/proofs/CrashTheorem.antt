@@ -1,15 +1,16 @@
 -- The crash theorem and the former theorem, from the invariant that ties logs, data words and history together; and what follows for
--- commits that are safe, for an idle lane and for lost work. Assumes nothing.
+-- commits that are safe, for an idle lane, for lost work and for a lane that is settled. Assumes nothing.
 use mathlib.Core.Path.{_≡_}
 use mathlib.Core.Bool.{true}
 use Rattle.image.specs.Image.{sizesOk}
 use Rattle.image.specs.declared.Sizes.{Sizes}
 use Rattle.crash.specs.Events.{vandzulge}
 use Rattle.crash.specs.Theorem.{CrashTheorem, FormerTheorem}
-use Rattle.crash.specs.Corollaries.{SafeTheorem, IdleTheorem, LagTheorem}
+use Rattle.crash.specs.Corollaries.{SafeTheorem, IdleTheorem, LagTheorem, SettledTheorem}
 use Rattle.crash.proofs.induction.Safe.{safe-from}
 use Rattle.crash.proofs.induction.Idle.{idle-from}
 use Rattle.crash.proofs.induction.Lag.{lag-from}
+use Rattle.crash.proofs.induction.Settled.{settled-from}
 use Rattle.crash.proofs.induction.FromLogs.{LogLaws, crash-theorem-by-logs, former-theorem-by-logs}
 use Rattle.crash.proofs.ties.Ties.{Ties}
 use Rattle.crash.proofs.ties.Logs.{ties-logs}
@@ -46,6 +47,9 @@ idle-theorem = idle-from vandzulge crash-theorem
 
 pub lag-theorem : LagTheorem vandzulge
 lag-theorem = lag-from vandzulge crash-theorem
+
+pub settled-theorem : SettledTheorem vandzulge
+settled-theorem = settled-from vandzulge crash-theorem
 
 pub former-theorem : FormerTheorem vandzulge
 former-theorem = former-theorem-by-logs Ties ties-laws

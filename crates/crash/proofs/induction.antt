@@ -9,4 +9,6 @@ pub mod Pages
 pub mod Kept
 pub mod Idle
 pub mod Safe
+pub mod Stamps
 pub mod Lag
+pub mod Settled

@@ -1,6 +1,7 @@
 -- What users are promised beside the crash theorem; it follows from that: when a commit can no longer be lost, that a lane which is marked and drained
--- and then stays idle delays nobody, and how much work a power cut can take at most. SPECIFICATION, "Corollaries". Assumes nothing.
-use Prim.Native.Nat.{ℕ, _+_, _-_, _≤_}
+-- and then stays idle delays nobody, how much work a power cut can take at most, and what a lane that is settled keeps. SPECIFICATION, "Corollaries".
+-- Assumes nothing.
+use Prim.Native.Nat.{ℕ, _+_, _-_, _≤_, _<_}
 use mathlib.Core.Bool.{Bool, true, false, not, _&&_, _||_}
 use mathlib.Core.List.{List, [], _∷_}
 use mathlib.Core.Path.{_≡_}
@@ -20,7 +21,7 @@ use Rattle.recovery.specs.declared.Recovered.the-variants.{Refused, Cut, Finish
 use Rattle.crash.specs.Events.{Call, logBy, redo, validateBy, mark, drain, laneOf, Junk, System, live, down, Design, foundOr, happens}
 use Rattle.crash.specs.Events.{Event, format, writeBack, call, recover, fails, failsInDrain, failsAfterDrain, failsInRecovery}
 use Rattle.crash.specs.Events.{Reply, answered, recovered, failed, ignored}
-use Rattle.crash.specs.History.{History, blankPage, isBelow, wordsBelow, leastFloorOf, fed}
+use Rattle.crash.specs.History.{Commit, History, blankPage, isBelow, wordsBelow, leastFloorOf, fed}
 
 -- ---- a store with its history, after an event and after a list of them
 pub record World : Type 0 where
@@ -42,6 +43,13 @@ isDone (answered a) = not (said a .refused)
 isDone (recovered r) = false
 isDone (failed d) = false
 isDone ignored = false
+
+-- did power cut a call short after its whole drain
+unfoldable pub hasDrained : Reply → Bool
+hasDrained (answered a) = false
+hasDrained (recovered r) = false
+hasDrained (failed d) = d
+hasDrained ignored = false
 
 -- ---- a recovery that has finished leaves the words with the commits below some timestamp, and every commit below `kept` is below that one
 pub record Keeps (z : Sizes) (h : History) (kept : Timestamp) (m : Machine) : Type 0 where
@@ -124,16 +132,26 @@ staysIdle L (e ∷ es) = isIdle L e && staysIdle L es
 unfoldable pub othersFloor : ℕ → History → Timestamp
 othersFloor L h = leastFloorOf (set h.pages L blankPage)
 
--- lane L is marked, and drained later, and stays idle between the two and afterwards: then a recovery that finishes, whatever happened since and wherever
+-- does a call append a mark: Mark, or a Log of no words
+unfoldable pub isMark : Call → Bool
+isMark (logBy r L []) = true
+isMark (logBy r L (w ∷ f)) = false
+isMark (redo L) = false
+isMark (validateBy r L f) = false
+isMark (mark L) = true
+isMark (drain L) = false
+
+-- a lane is marked, and drained later, and stays idle between the two and afterwards: then a recovery that finishes, whatever happened since and wherever
 -- power was cut, keeps every commit below the least floor of the other lanes, and every commit where these have none
 unfoldable pub IdleTheorem : Design → Type 0
 IdleTheorem d =
     (z : Sizes) (lag : ℕ) (start : List ℕ) (m : Machine) (h : History) → formatRefusal z lag start m ≡ 0
-    → (L : ℕ) (es fs gs : List Event) →
+    → (x : Call) (es fs gs : List Event) →
+    let L = laneOf x in
     let a = worldAfter d z (record { system = live m; history = h }) (format lag start ∷ es) in
-    let b = worldAfter d z (nextWorld d z a (call (mark L))) fs in
+    let b = worldAfter d z (nextWorld d z a (call x)) fs in
     let c = worldAfter d z (nextWorld d z b (call (drain L))) gs in
-    isDone (happens d z (a .system) (call (mark L)) .reply) ≡ true → staysIdle L fs ≡ true
+    isMark x ≡ true → isDone (happens d z (a .system) (call x) .reply) ≡ true → staysIdle L fs ≡ true
     → isDone (happens d z (b .system) (call (drain L)) .reply) ≡ true → staysIdle L gs ≡ true
     → (lag₁ limit : ℕ) (j : Junk) → let r = happens d z (c .system) (recover lag₁ limit j) in
     Kept z (c .history) (othersFloor L (c .history)) (r .system) (r .reply)
@@ -164,3 +182,43 @@ LagTheorem d =
     → (lagPassed (a .history .lag) s (boundary z (cutCells (c .system))) ≡ false)
     × ((lag₁ limit : ℕ) (j : Junk) → let r = happens d z (c .system) (recover lag₁ limit j) in
     Kept z (c .history) (At (s - a .history .lag)) (r .system) (r .reply))
+
+-- ---- a lane that is settled
+-- are all these commits below a timestamp
+unfoldable pub areBelow : Timestamp → List Commit → Bool
+areBelow b [] = true
+areBelow b (c ∷ cs) = isBelow b (c .stamp) && areBelow b cs
+
+-- does an event drain lane L: is it a call on it that is taken, or one that power cuts short after its whole drain
+unfoldable pub drainsLane : ℕ → Event → Reply → Bool
+drainsLane L (format lag start) r = false
+drainsLane L (writeBack i) r = false
+drainsLane L (call c) r = eqb (laneOf c) L && isDone r
+drainsLane L (recover lag limit j) r = false
+drainsLane L (fails j) r = false
+drainsLane L (failsInDrain c is j) r = false
+drainsLane L (failsAfterDrain c j) r = eqb (laneOf c) L && hasDrained r
+drainsLane L (failsInRecovery n j) r = false
+
+-- does one of these events
+unfoldable pub getsDrained : Design → Sizes → ℕ → World → List Event → Bool
+getsDrained d z L w [] = false
+getsDrained d z L w (e ∷ es) = drainsLane L e (happens d z (w .system) e .reply) || getsDrained d z L (nextWorld d z w e) es
+
+-- a call on a lane has answered timestamp s: a Log of no words, which settles the lane, a Mark, or any other. Every commit before it is below s; and once
+-- the lane is drained after it, whatever happens until the next start and wherever power is cut: where the floor of every other lane is above k or none, a
+-- commit at k below s is below the boundary of the cut, if there is one, and a recovery that then finishes keeps every commit up to k
+unfoldable pub SettledTheorem : Design → Type 0
+SettledTheorem d =
+    (z : Sizes) (lag : ℕ) (start : List ℕ) (m : Machine) (h : History) → formatRefusal z lag start m ≡ 0
+    → (es fs : List Event) (x : Call) (s : ℕ) →
+    let a = worldAfter d z (record { system = live m; history = h }) (format lag start ∷ es) in
+    let b = nextWorld d z a (call x) in
+    let c = worldAfter d z b fs in
+    stampsIn (happens d z (a .system) (call x) .reply) ≡ s ∷ []
+    → (areBelow (At s) (a .history .commits) ≡ true)
+    × (goesOn d z b fs ≡ true → getsDrained d z (laneOf x) b fs ≡ true
+    → (k : ℕ) → k < s → isBelow (othersFloor (laneOf x) (c .history)) k ≡ true
+    → (isBelow (boundary z (cutCells (c .system))) k ≡ true)
+    × ((lag₁ limit : ℕ) (j : Junk) → let r = happens d z (c .system) (recover lag₁ limit j) in
+    Kept z (c .history) (At (k + 1)) (r .system) (r .reply)))

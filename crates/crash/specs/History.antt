@@ -83,8 +83,8 @@ floorOnDrain (closingAt s) floor = At s
 floorOnDrain (markAt s) floor = None
 
 -- a drain of lane L: its newest timestamp, if any, becomes its floor; a mark's ends it
-unfoldable pub settled : ℕ → History → History
-settled L h =
+unfoldable pub afterDrain : ℕ → History → History
+afterDrain L h =
     let p = pageAt h L in
     record {
       start = h.start;
@@ -131,13 +131,14 @@ unfoldable pub isCounted : List ℕ → Bool
 isCounted [] = false
 isCounted (n ∷ ns) = leb 1 n
 
--- a call that was taken, by what it answered
+-- a call that was taken, by what it answered; a Log of no words is a Mark of a lane that holds nothing
 unfoldable pub taken : Call → Said → History → History
-taken (logBy r L f) t h = cond (isCounted t.count) (stamped L closingAt (some f) [] (settled L h)) (settled L h)
-taken (redo L) t h = cond t.stale (settled L h) (stamped L closingAt none (heldBy (pageAt h L .held)) (settled L h))
-taken (validateBy r L f) t h = cond t.changed (released L (settled L h)) (stamped L closingAt none (f ∷ []) (settled L h))
-taken (mark L) t h = stamped L markAt none [] (settled L h)
-taken (drain L) t h = settled L h
+taken (logBy r L []) t h = stamped L markAt none [] (afterDrain L h)
+taken (logBy r L (w ∷ f)) t h = cond (isCounted t.count) (stamped L closingAt (some (w ∷ f)) [] (afterDrain L h)) (afterDrain L h)
+taken (redo L) t h = cond t.stale (afterDrain L h) (stamped L closingAt none (heldBy (pageAt h L .held)) (afterDrain L h))
+taken (validateBy r L f) t h = cond t.changed (released L (afterDrain L h)) (stamped L closingAt none (f ∷ []) (afterDrain L h))
+taken (mark L) t h = stamped L markAt none [] (afterDrain L h)
+taken (drain L) t h = afterDrain L h
 
 -- a finished recovery that was given this lag limit and started from these cut cells
 unfoldable pub restarted : Sizes → (lag : ℕ) → List ℕ → History → History
@@ -179,7 +180,7 @@ fedFailure (call c) d h = h
 fedFailure (recover lag limit j) d h = h
 fedFailure (fails j) d h = h
 fedFailure (failsInDrain c is j) d h = h
-fedFailure (failsAfterDrain c j) d h = cond d (settled (laneOf c) h) h
+fedFailure (failsAfterDrain c j) d h = cond d (afterDrain (laneOf c) h) h
 fedFailure (failsInRecovery n j) d h = h
 
 unfoldable pub fed : Sizes → Event → Reply → (found : List ℕ) → History → History
@@ -237,16 +238,23 @@ clockSpent h = leb (2 ^ 64 - 2) h.clock
 
 -- would lane L's next timestamp be more than the lag limit above the least floor, floors as after the lane's drain
 unfoldable pub wouldLag : ℕ → History → Bool
-wouldLag L h = lagPassed h.lag (h.clock + 2) (leastFloorOf (settled L h .pages))
+wouldLag L h = lagPassed h.lag (h.clock + 2) (leastFloorOf (afterDrain L h .pages))
 
 -- a call's causes for refusal, in order; 1 and 2 never hold, and 9 is not the history's to tell, since it has no logs
 unfoldable pub causesBy : Sizes → Call → History → List Cause
-causesBy z (logBy r L f) h =
+causesBy z (logBy r L []) h =
     badLane z L
-    ∷ badTxn r z f
     ∷ record { number = 6; holds = holdsOne L h }
-    ∷ record { number = 8; holds = leb 1 (length (writesNow z f h)) && clockSpent h }
-    ∷ record { number = 15; holds = leb 1 (length (writesNow z f h)) && wouldLag L h }
+    ∷ record { number = 8; holds = clockSpent h }
+    ∷ record { number = 15; holds = wouldLag L h }
+    ∷ []
+causesBy z (logBy r L (w ∷ f)) h =
+    let n = length (writesNow z (w ∷ f) h) in
+    badLane z L
+    ∷ badTxn r z (w ∷ f)
+    ∷ record { number = 6; holds = holdsOne L h }
+    ∷ record { number = 8; holds = leb 1 n && clockSpent h }
+    ∷ record { number = 15; holds = leb 1 n && wouldLag L h }
     ∷ []
 causesBy z (redo L) h = badLane z L ∷ notHeld L h ∷ record { number = 8; holds = clockSpent h } ∷ []
 causesBy z (validateBy r L f) h = badLane z L ∷ badTxn r z f ∷ notHeld L h ∷ record { number = 8; holds = clockSpent h } ∷ []
@@ -255,7 +263,8 @@ causesBy z (drain L) h = badLane z L ∷ []
 
 -- how many slots a call appends to its lane's log
 unfoldable pub slotsBy : Sizes → Call → History → ℕ
-slotsBy z (logBy r L f) h = let n = length (writesNow z f h) in cond (eqb n 0) 0 (n + 1)
+slotsBy z (logBy r L []) h = 1
+slotsBy z (logBy r L (w ∷ f)) h = let n = length (writesNow z (w ∷ f) h) in cond (eqb n 0) 0 (n + 1)
 slotsBy z (redo L) h = 0
 slotsBy z (validateBy r L f) h = 0
 slotsBy z (mark L) h = 1
@@ -263,8 +272,9 @@ slotsBy z (drain L) h = 0
 
 -- the answer of a call that is not refused
 unfoldable pub takenAnswer : Sizes → Call → History → Answer
-takenAnswer z (logBy r L f) h =
-    let n = length (writesNow z f h) in
+takenAnswer z (logBy r L []) h = answer.Settled (h.clock + 2)
+takenAnswer z (logBy r L (w ∷ f)) h =
+    let n = length (writesNow z (w ∷ f) h) in
     cond (eqb n 0) answer.NoWrites (answer.Logged (record { count = n; stamp = h.clock + 2 }))
 takenAnswer z (redo L) h = cond (commitAbove (newestStamp (pageAt h L .newest)) h.commits) answer.Stale (answer.Committed (h.clock + 2))
 takenAnswer z (validateBy r L f) h =

@@ -22,7 +22,8 @@ use Rattle.recovery.specs.declared.Recovered.the-variants.{Refused, Cut, Finish
 use Rattle.crash.specs.Events.{Call, laneOf, System, live, down, nvmOf, Design, happens}
 use Rattle.crash.specs.Events.{Event, format, writeBack, call, recover, fails, failsInDrain, failsAfterDrain, failsInRecovery}
 use Rattle.crash.specs.Events.{Reply, answered, recovered, failed, ignored}
-use Rattle.crash.specs.History.{History, unset, opened, fed, pageAt, present, wordsBelow, leastFloorOf, settled, isSome, causesBy, slotsBy, takenAnswer}
+use Rattle.crash.specs.History.{History, unset, opened, fed, pageAt, present, wordsBelow, leastFloorOf, afterDrain, isSome}
+use Rattle.crash.specs.History.{causesBy, slotsBy, takenAnswer}
 
 -- ---- a running store
 pub record Live (z : Sizes) (h : History) (m : Machine) : Type 0 where
@@ -60,7 +61,7 @@ InStep z end h (down nvm j found) = HasEnd z end nvm
 -- the history cannot tell, since it has no logs. The slots are those of the machine's cached log
 unfoldable pub isFull : Sizes → Call → History → Machine → Bool
 isFull z c h m =
-    hits z.slots (laneAt (m .state) (laneOf c) .next) (slotsBy z c h) (leastFloorOf (settled (laneOf c) h .pages)) (completeIn z (m .cache) (laneOf c))
+    hits z.slots (laneAt (m .state) (laneOf c) .next) (slotsBy z c h) (leastFloorOf (afterDrain (laneOf c) h .pages)) (completeIn z (m .cache) (laneOf c))
 
 -- the number of the refusal, 0 where it is none
 unfoldable pub refusalBy : Sizes → Call → History → Machine → ℕ

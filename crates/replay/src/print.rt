@@ -102,6 +102,10 @@ fn put_answer(line: &mut [u8; LINE_BYTES], used: usize, answer: Answer) -> usize
             let end = put_number(line, used, appended.count as u64);
             put_number(line, end, appended.stamp)
         }
+        Answer::Settled(stamp) => {
+            let end = put_number(line, used, 0);
+            put_number(line, end, stamp)
+        }
         Answer::Committed(stamp) => put_number(line, used, stamp),
         Answer::Stale => put(line, used, b" stale"),
         Answer::Changed => put(line, used, b" changed"),

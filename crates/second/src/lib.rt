@@ -72,6 +72,9 @@ pub const FORMAT: u64 = 8;
 // Recovery without sizes: it reads them from the end of non-volatile memory.
 pub const RECOVER_READ: u64 = 9;
 
+// What a Log of no words is: it settles its lane.
+const SETTLE: u64 = 10;
+
 // An answer, behind the record: what was answered, and its numbers. ANSWER is the refusal, the count of writes, whether
 // Mark dropped a transaction, or how many entries recovery undid; STAMP the timestamp or the boundary; REFUSAL the
 // number of the refusal, or 0; TORN how many torn slots recovery found.
@@ -113,6 +116,8 @@ pub const CUT: u64 = 8;
 pub const RECOVERED: u64 = 9;
 
 pub const UNBOUNDED: u64 = 10;
+
+pub const SETTLED: u64 = 11;
 
 fn answer(arena: &mut Arena, kind: u64, number: u64, stamp: u64) {
     set_row(
@@ -279,6 +284,14 @@ pub(crate) fn winner(found: u64, number: u64, holds: bool) -> u64 {
     found
 }
 
+// The call that is meant by a call on a lane.
+fn meant(arena: &Arena, code: u64) -> u64 {
+    if code == LOG && get(arena, STATE, USED) == 0 {
+        return SETTLE;
+    }
+    code
+}
+
 // Is the call given a transaction? Does it commit one?
 fn takes_txn(code: u64) -> bool {
     code == LOG || code == VALIDATE
@@ -288,9 +301,14 @@ pub(crate) fn commits(code: u64) -> bool {
     code == REDO || code == VALIDATE
 }
 
-// Does it append? A Log that writes nothing does not.
+// Does it want a lane that holds none?
+fn wants_idle(code: u64) -> bool {
+    code == LOG || code == SETTLE
+}
+
+// Does it append? A Log that writes nothing does not, where it has words.
 fn appends(code: u64, writes: u64) -> bool {
-    code == MARK || (code == LOG && writes != 0)
+    code == MARK || code == SETTLE || (code == LOG && writes != 0)
 }
 
 fn spent(arena: &Arena) -> bool {
@@ -300,11 +318,11 @@ fn spent(arena: &Arena) -> bool {
 // Causes 5 to 7.
 fn phase_refusal(code: u64, held: bool, well_formed: bool) -> u64 {
     let number = winner(0, 7, commits(code) && !held);
-    let number = winner(number, 6, code == LOG && held);
+    let number = winner(number, 6, wants_idle(code) && held);
     winner(number, 5, takes_txn(code) && !well_formed)
 }
 
-// Causes 8, 15 and 9, where the lane's n sequences are in the table. Of the calls that append, 15 is Log's alone.
+// Causes 8, 15 and 9, where the lane's n sequences are in the table. Of the calls that append, Mark has no cause 15.
 fn append_refusal(arena: &Arena, lane: u64, code: u64, n: u64, writes: u64) -> u64 {
     let append = appends(code, writes);
     let bound = fields::least_floor(arena, lane, floor_after(arena, lane, n));
@@ -316,7 +334,7 @@ fn append_refusal(arena: &Arena, lane: u64, code: u64, n: u64, writes: u64) -> u
     let number = winner(
         number,
         15,
-        append && code == LOG && fields::lags(arena, bound),
+        append && code != MARK && fields::lags(arena, bound),
     );
     winner(number, 8, (append || commits(code)) && spent(arena))
 }
@@ -398,6 +416,12 @@ fn log(arena: &mut Arena, lane: u64, count: u64) {
     fields::set_held(arena, lane, 1, first, count, stamp);
     set_pairs(arena, lane, count);
     answer(arena, LOGGED, count, stamp);
+}
+
+// The lane is idle, and stays so.
+fn settle(arena: &mut Arena, lane: u64) {
+    let stamp = append_stamp(arena, lane, 0);
+    answer(arena, SETTLED, 0, stamp);
 }
 
 fn mark(arena: &mut Arena, lane: u64) {
@@ -482,6 +506,7 @@ fn do_step(arena: &mut Arena, code: u64, lane: u64, count: u64) {
         REDO => redo(arena, lane),
         VALIDATE => validate(arena, lane, count),
         MARK => mark(arena, lane),
+        SETTLE => settle(arena, lane),
         _ => answer(arena, DONE, 0, 0),
     }
 }
@@ -503,7 +528,7 @@ fn appending(arena: &mut Arena, code: u64, lane: u64) {
     }
 }
 
-// Log, Redo, Validate, Mark and Drain: causes 2 and 3, then 5 to 7.
+// Log, Redo, Validate, Mark and Drain, and a Log that settles: causes 2 and 3, then 5 to 7.
 fn step(arena: &mut Arena, code: u64, lane: u64) {
     let number = winner(0, 3, get(arena, STATE, LANES) <= lane);
     let number = winner(number, 2, !fields::in_range(arena));
@@ -560,7 +585,7 @@ fn act(arena: &mut Arena, code: u64, number: u64) {
         WRITE_BACK => write_back(arena, number),
         RECOVER => restart::recover(arena),
         FORMAT => format(arena),
-        _ => step(arena, code, number),
+        _ => step(arena, meant(arena, code), number),
     }
 }
 

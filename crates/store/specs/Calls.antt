@@ -20,7 +20,7 @@ use Rattle.record.specs.declared.Pair.{Pair}
 use Rattle.record.specs.declared.Phase.{Phase}
 use Rattle.record.specs.declared.Phase.the-variants.{Idle, Holds}
 use Rattle.record.specs.declared.Record.{Record}
-use Rattle.store.specs.declared.Answer.the-variants.{Done, NoWrites, Logged, Committed, Stale, Changed, Marked}
+use Rattle.store.specs.declared.Answer.the-variants.{Done, NoWrites, Logged, Settled, Committed, Stale, Changed, Marked}
 use Rattle.store.specs.Machine.{Machine, Step, Cause, firstCause, unless}
 
 -- ---- causes that calls share
@@ -104,13 +104,27 @@ drainRefusal z L m = firstCause (badBuffers z m ∷ badRecord z m ∷ badLane z 
 unfoldable pub drainStep : Sizes → ℕ → Machine → Step
 drainStep z L m = unless (drainRefusal z L m) m (record { answer = Done; machine = drained z L m })
 
--- ---- Log, by the rule that its transaction is checked by
+-- ---- appending
+-- a sequence of these writes appended to lane L, which then has this phase and redo log
+unfoldable pub appended : Sizes → ℕ → List Write → Phase → List Pair → Machine → Machine
+appended z L ws phase redo m =
+    let s = m.state .clock + 2 in
+    let l = laneAt m.state L in
+    let end = advance z.slots (length ws + 1) (cursorOf l) in
+    changed L (appendStores (logStart z L) z.slots s (cursorOf l) ws)
+    (withLane (withClock m.state s) L (appendedLane s end phase redo l)) m
+
+-- a mark appended to lane L behind its drain: the lane then holds nothing, and its pairs stay
+abbrev pub marked : Sizes → ℕ → Machine → Machine
+marked z L m = appended z L [] Idle (laneAt m.state L .redo) (drained z L m)
+
+-- ---- Log of a transaction that has words, by the rule that it is checked by
 -- the writes of a transaction on the cached data words
 unfoldable pub writesOn : Sizes → List ℕ → Machine → List Write
 writesOn z f m = run z.words f (dataOf z m.cache)
 
-unfoldable pub logRefusalBy : Rule → Sizes → ℕ → List ℕ → Machine → ℕ
-logRefusalBy r z L f m =
+unfoldable pub logTxnRefusalBy : Rule → Sizes → ℕ → List ℕ → Machine → ℕ
+logTxnRefusalBy r z L f m =
     let n = length (writesOn z f m) in
     firstCause
     (badBuffers z m
@@ -123,27 +137,43 @@ logRefusalBy r z L f m =
     ∷ record { number = 9; holds = leb 1 n && wouldHit z L (n + 1) m }
     ∷ [])
 
--- a sequence of these writes appended to lane L, which then has this phase and redo log
-unfoldable pub appended : Sizes → ℕ → List Write → Phase → List Pair → Machine → Machine
-appended z L ws phase redo m =
-    let s = m.state .clock + 2 in
-    let l = laneAt m.state L in
-    let end = advance z.slots (length ws + 1) (cursorOf l) in
-    changed L (appendStores (logStart z L) z.slots s (cursorOf l) ws)
-    (withLane (withClock m.state s) L (appendedLane s end phase redo l)) m
-
 unfoldable pub logged : Sizes → ℕ → List Write → Machine → Machine
 logged z L ws m =
     let l = laneAt m.state L in
     appended z L ws (Holds (record { first = l.next; count = length ws; stamp = m.state .clock + 2 })) (pairsOf maxWrites ws) m
 
-unfoldable pub logStepBy : Rule → Sizes → ℕ → List ℕ → Machine → Step
-logStepBy r z L f m =
+unfoldable pub logTxnStepBy : Rule → Sizes → ℕ → List ℕ → Machine → Step
+logTxnStepBy r z L f m =
     let ws = writesOn z f m in
-    unless (logRefusalBy r z L f m) m
+    unless (logTxnRefusalBy r z L f m) m
     (cond (eqb (length ws) 0)
     (record { answer = NoWrites; machine = drained z L m })
     (record { answer = Logged (record { count = length ws; stamp = m.state .clock + 2 }); machine = logged z L ws (drained z L m) }))
+
+-- ---- Log of no words settles the lane: it appends a mark where the lane holds nothing, bound by the lag limit
+unfoldable pub settleRefusal : Sizes → ℕ → Machine → ℕ
+settleRefusal z L m =
+    firstCause
+    (badBuffers z m
+    ∷ badRecord z m
+    ∷ badLane z L
+    ∷ record { number = 6; holds = isLogged (laneAt m.state L .phase) }
+    ∷ clockSpent m
+    ∷ record { number = 15; holds = wouldLag z L m }
+    ∷ record { number = 9; holds = wouldHit z L 1 m }
+    ∷ [])
+
+unfoldable pub settleStep : Sizes → ℕ → Machine → Step
+settleStep z L m = unless (settleRefusal z L m) m (record { answer = Settled (m.state .clock + 2); machine = marked z L m })
+
+-- ---- Log
+unfoldable pub logRefusalBy : Rule → Sizes → ℕ → List ℕ → Machine → ℕ
+logRefusalBy r z L [] m = settleRefusal z L m
+logRefusalBy r z L (w ∷ f) m = logTxnRefusalBy r z L (w ∷ f) m
+
+unfoldable pub logStepBy : Rule → Sizes → ℕ → List ℕ → Machine → Step
+logStepBy r z L [] m = settleStep z L m
+logStepBy r z L (w ∷ f) m = logTxnStepBy r z L (w ∷ f) m
 
 -- as it is offered, by the current rule
 abbrev pub logRefusal : Sizes → ℕ → List ℕ → Machine → ℕ
@@ -241,7 +271,4 @@ markRefusal z L m =
 unfoldable pub markStep : Sizes → ℕ → Machine → Step
 markStep z L m =
     unless (markRefusal z L m) m
-    (record {
-      answer = Marked (record { stamp = m.state .clock + 2; dropped = isLogged (laneAt m.state L .phase) });
-      machine = appended z L [] Idle (laneAt m.state L .redo) (drained z L m);
-    })
+    (record { answer = Marked (record { stamp = m.state .clock + 2; dropped = isLogged (laneAt m.state L .phase) }); machine = marked z L m })

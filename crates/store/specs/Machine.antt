@@ -6,7 +6,7 @@ use mathlib.Core.List.{List, [], _∷_}
 use lib.Dec.{eqb}
 use Rattle.record.specs.declared.Record.{Record}
 use Rattle.store.specs.declared.Answer.{Answer}
-use Rattle.store.specs.declared.Answer.the-variants.{Refused, Done, NoWrites, Logged, Committed, Stale, Changed, Marked}
+use Rattle.store.specs.declared.Answer.the-variants.{Refused, Done, NoWrites, Logged, Settled, Committed, Stale, Changed, Marked}
 
 -- record, cached image, non-volatile memory (its words are the cells), flag bytes
 pub record Machine : Type 0 where
@@ -48,12 +48,13 @@ pub record Said : Type 0 where
   pub stale : Bool
   pub changed : Bool
 
--- what each answer says; no two answers say the same (`SaidLaws.said-back`)
+-- what each answer says; no two answers of calls say the same (`SaidLaws.said-apart`)
 unfoldable pub said : Answer → Said
 said (Refused n) = record { refused = true; number = n; count = []; stamp = []; dropped = []; stale = false; changed = false }
 said Done = record { refused = false; number = 0; count = []; stamp = []; dropped = []; stale = false; changed = false }
 said NoWrites = record { refused = false; number = 0; count = 0 ∷ []; stamp = []; dropped = []; stale = false; changed = false }
 said (Logged a) = record { refused = false; number = 0; count = a.count ∷ []; stamp = a.stamp ∷ []; dropped = []; stale = false; changed = false }
+said (Settled s) = record { refused = false; number = 0; count = 0 ∷ []; stamp = s ∷ []; dropped = []; stale = false; changed = false }
 said (Committed s) = record { refused = false; number = 0; count = []; stamp = s ∷ []; dropped = []; stale = false; changed = false }
 said Stale = record { refused = false; number = 0; count = []; stamp = []; dropped = []; stale = true; changed = false }
 said Changed = record { refused = false; number = 0; count = []; stamp = []; dropped = []; stale = false; changed = true }

@@ -36,10 +36,12 @@ pub enum Answer {
     Refused(u64),
     // Format, write-back, Drain
     Done,
-    // Log of a transaction that writes nothing: count 0
+    // Log of a transaction that writes nothing: count 0, and no timestamp
     NoWrites,
     // Log
     Logged(Appended),
+    // Log of no words, which settles the lane: count 0, with the timestamp of its mark
+    Settled(u64),
     // Redo and Validate, with the timestamp of the commit
     Committed(u64),
     // Redo: there is a commit since

@@ -22,6 +22,7 @@ pub(crate) fn number_in(answer: Answer) -> u64
         Answer::Done => 0,
         Answer::NoWrites => 0,
         Answer::Logged(_) => 0,
+        Answer::Settled(_) => 0,
         Answer::Committed(_) => 0,
         Answer::Stale => 0,
         Answer::Changed => 0,
@@ -37,6 +38,7 @@ fn answer_words(answer: Answer) -> [u64; ANSWER_WORDS]
         Answer::Done => [0, 0, 0, 0],
         Answer::NoWrites => [0, 0, 0, 0],
         Answer::Logged(appended) => [appended.count as u64, appended.stamp, 0, 0],
+        Answer::Settled(stamp) => [0, stamp, 0, 0],
         Answer::Committed(stamp) => [1, stamp, 0, 0],
         Answer::Stale => [0, 0, 0, 0],
         Answer::Changed => [0, 0, 0, 0],
@@ -45,7 +47,7 @@ fn answer_words(answer: Answer) -> [u64; ANSWER_WORDS]
 }
 
 // Writes the record where the call was taken; its number.
-pub(crate) fn settle(outcome: Outcome, state: &mut [u64]) -> u64
+pub(crate) fn put_record(outcome: Outcome, state: &mut [u64]) -> u64
     requires { ⌜ length (now state) ≡ recordLength ⌝ }
     ensures number { λ r. ⌜ r ≡ said (outcome .answer) .number ⌝ }
     ensures words { λ r. ⌜ now (state .exit)

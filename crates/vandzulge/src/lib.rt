@@ -44,7 +44,7 @@ pub extern "C" fn vandzulge_format(
         slots,
     };
     let outcome = store::format(sizes, lag, start, cache, nvm, flags);
-    answers::settle(outcome, state)
+    answers::put_record(outcome, state)
 }
 
 // Copies one word of the image to non-volatile memory. It takes no record and has no answer.
@@ -100,10 +100,11 @@ pub extern "C" fn vandzulge_drain(
     };
     let before = codec::record_from(state);
     let outcome = store::drain(sizes, before, cache, nvm, flags, lane);
-    answers::settle(outcome, state)
+    answers::put_record(outcome, state)
 }
 
-// Logs a transaction. The answer: the count of its writes, its timestamp, 0; 0s where it writes nothing.
+// Logs a transaction. The answer: the count of its writes, its timestamp, 0; 0s where it writes nothing. No words
+// settle the lane: 0, the mark's timestamp, 0.
 #[no_mangle]
 pub extern "C" fn vandzulge_log(
     words: usize,
@@ -141,7 +142,7 @@ pub extern "C" fn vandzulge_log(
     let outcome = append::log(sizes, before, cache, nvm, flags, lane, txn);
     let given = outcome.answer;
     answers::reply(given, answer);
-    answers::settle(outcome, state)
+    answers::put_record(outcome, state)
 }
 
 // Commits what the lane has logged. The answer: 1, the timestamp, 0; 0s where it is stale.
@@ -181,7 +182,7 @@ pub extern "C" fn vandzulge_redo(
     let outcome = commit::redo(sizes, before, cache, nvm, flags, lane);
     let given = outcome.answer;
     answers::reply(given, answer);
-    answers::settle(outcome, state)
+    answers::put_record(outcome, state)
 }
 
 // Commits a transaction in place of the one logged. The answer: 1, the timestamp, 0; 0s where it has changed.
@@ -222,7 +223,7 @@ pub extern "C" fn vandzulge_validate(
     let outcome = commit::validate(sizes, before, cache, nvm, flags, lane, txn);
     let given = outcome.answer;
     answers::reply(given, answer);
-    answers::settle(outcome, state)
+    answers::put_record(outcome, state)
 }
 
 // Appends a mark. The answer: 1 where a logged transaction was dropped, else 0; the timestamp; 0.
@@ -262,7 +263,7 @@ pub extern "C" fn vandzulge_mark(
     let outcome = append::mark(sizes, before, cache, nvm, flags, lane);
     let given = outcome.answer;
     answers::reply(given, answer);
-    answers::settle(outcome, state)
+    answers::put_record(outcome, state)
 }
 
 // Recovers an image of the former length, making at most `limit` stores. The answer: 0s where the limit cut it short,

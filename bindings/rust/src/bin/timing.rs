@@ -211,6 +211,7 @@ fn steps(sizes: Sizes) -> Vec<Case> {
         case("Validate, 16 writes", &logged, Call::Validate(lane, adds(sizes, 16))),
         case("Validate, changed in the last write", &changed, Call::Validate(lane, adds(sizes, 16))),
         case("Mark", &idle, Call::Mark(lane)),
+        case("Log, settling", &idle, Call::Log(lane, vec![])),
         case("Log, refused with 6", &logged, Call::Log(lane, adds(sizes, 1))),
         case("Drain, every slot a timestamp, none complete", &incomplete, Call::Drain(lane)),
     ]
@@ -275,7 +276,7 @@ fn table(title: &str, sizes: Sizes) {
 
 /// The calls of the growth tables.
 fn growing(sizes: Sizes) -> Vec<Case> {
-    let shown = ["Format", "Drain, after a Log of 16 writes", "Log, 16 writes", "Redo, 16 writes", "Validate, 16 writes", "Mark"];
+    let shown = ["Format", "Drain, after a Log of 16 writes", "Log, 16 writes", "Redo, 16 writes", "Validate, 16 writes", "Mark", "Log, settling"];
     let shown_recoveries = ["recovery, empty logs", "recovery, marks and one sequence, equal timestamps", "recovery, sequences of 16, equal timestamps"];
     let steps = steps(sizes).into_iter().filter(|case| shown.contains(&case.name.as_str()));
     let recoveries = recoveries(sizes).into_iter().filter(|case| shown_recoveries.contains(&case.name.as_str()));

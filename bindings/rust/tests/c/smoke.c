@@ -1,4 +1,5 @@
-/* Every call from C, with the header: the two-lane scenario of the specification, a mark, a drain, the lag limit, an image of the former length taken over, and a few refusals.
+/* Every call from C, with the header: the two-lane scenario of the specification, a mark, a drain, the lag limit, a settled lane, an image of the former length taken over, and a
+ * few refusals.
  * Prints the line that failed, or `ok`. */
 #include "vandzulge.h"
 
@@ -60,7 +61,7 @@ static void lose(void)
 int main(void)
 {
     const uint64_t start[WORDS] = {0, 0};
-    const uint64_t copy[4] = {2, 1, 0, 0}, set[4] = {1, 0, 0, 2}, pass[8] = {5, 0, 0, 1, 1, 0, 0, 9}, poke[8] = {5, 0, 0, 1, 4, 0, 0, 9};
+    const uint64_t copy[4] = {2, 1, 0, 0}, set[4] = {1, 0, 0, 2}, set_other[4] = {1, 1, 0, 5}, pass[8] = {5, 0, 0, 1, 1, 0, 0, 9}, poke[8] = {5, 0, 0, 1, 4, 0, 0, 9};
     uint64_t data[WORDS];
     size_t i;
 
@@ -135,9 +136,22 @@ int main(void)
     EXPECT(vandzulge_log(SIZES, BUFFERS, RECORD, ANSWER, 1, copy, 4) == 0 && answers(1, 2, 0, 0));
     EXPECT(vandzulge_mark(SIZES, BUFFERS, RECORD, ANSWER, 0) == 0 && answers(0, 4, 0, 0));
     EXPECT(vandzulge_log(SIZES, BUFFERS, RECORD, ANSWER, 0, set, 4) == 15 && answers(0, 4, 0, 0));
+    EXPECT(vandzulge_log(SIZES, BUFFERS, RECORD, ANSWER, 0, set, 0) == 15 && answers(0, 4, 0, 0));
     EXPECT(vandzulge_mark(SIZES, BUFFERS, RECORD, ANSWER, 1) == 0 && answers(1, 6, 0, 0));
     EXPECT(vandzulge_drain(SIZES, BUFFERS, RECORD, 1) == 0);
-    EXPECT(vandzulge_log(SIZES, BUFFERS, RECORD, ANSWER, 0, set, 4) == 0 && answers(1, 8, 0, 0));
+    EXPECT(vandzulge_log(SIZES, BUFFERS, RECORD, ANSWER, 0, set_other, 4) == 0 && answers(1, 8, 0, 0));
+
+    /* the empty transaction settles lane 0 when that holds nothing any more; its commit, at 10, is kept from the next drain on */
+    EXPECT(vandzulge_log(SIZES, BUFFERS, RECORD, ANSWER, 0, set, 0) == 6 && answers(1, 8, 0, 0));
+    EXPECT(vandzulge_validate(SIZES, BUFFERS, RECORD, ANSWER, 0, set, 0) == 5);
+    EXPECT(vandzulge_redo(SIZES, BUFFERS, RECORD, ANSWER, 0) == 0 && answers(1, 10, 0, 0));
+    EXPECT(vandzulge_log(SIZES, BUFFERS, RECORD, ANSWER, 0, set, 0) == 0 && answers(0, 12, 0, 0));
+    EXPECT(record[8] == 1 && record[9] == 10);
+    EXPECT(vandzulge_drain(SIZES, BUFFERS, RECORD, 0) == 0);
+    EXPECT(record[8] == 0 && record[9] == 0);
+    lose();
+    EXPECT(vandzulge_recover_read(LAG, BUFFERS, RECORD, ANSWER, VANDZULGE_NO_LIMIT) == 0 && answers(1, 0, 0, 0));
+    EXPECT(nvm[0] == 12 && nvm[1] == 2 && nvm[2] == 5);
 
     nvm[0] = 3;
     EXPECT(vandzulge_recover(SIZES, 0, FORMER_BUFFERS, RECORD, ANSWER, VANDZULGE_NO_LIMIT) == 16);

@@ -68,6 +68,16 @@ pub enum Call {
     RecoverRead(usize),
 }
 
+impl Call {
+    /// The lane that the call drains, if it does.
+    pub fn drains(&self) -> Option<usize> {
+        match self {
+            Call::Drain(lane) | Call::Log(lane, _) | Call::Redo(lane) | Call::Validate(lane, _) | Call::Mark(lane) => Some(*lane),
+            Call::Format(_) | Call::WriteBack(_) | Call::Recover(_) | Call::RecoverRead(_) => None,
+        }
+    }
+}
+
 /// What calls are lent. Lengths need not fit the sizes.
 #[derive(Debug, Clone, PartialEq, Eq)]
 pub struct World {

@@ -167,7 +167,7 @@ fn last_words(random: &mut Random, world: &World) -> [u64; 4] {
     }
 }
 
-/// A lane that is mostly in use, and a call that mostly suits it.
+/// A lane that is mostly in use, and a call that mostly suits it; one transaction in thirty is empty.
 fn call(random: &mut Random, world: &World, held: &[Vec<u64>; 8]) -> Call {
     let lane = if random.one_in(40) { odd_word(random, 8) as usize } else { random.index(world.lanes) };
     let logged = lane < 8 && world.record.get(2 + 40 * lane).is_some_and(|&phase| phase != 0);
@@ -178,6 +178,9 @@ fn call(random: &mut Random, world: &World, held: &[Vec<u64>; 8]) -> Call {
     }
     if random.one_in(60) {
         words.resize(random.index(70), 1);
+    }
+    if random.one_in(30) {
+        words.clear();
     }
     match random.below(16) {
         0 => Call::WriteBack(if random.one_in(10) { odd_word(random, 0) as usize } else { random.index(world.cache.len().max(1)) }),
@@ -243,8 +246,8 @@ fn misfit(random: &mut Random, world: &mut World) {
 }
 
 /// A store's life from Format on: calls that mostly suit it, where `damaged` on states that no call made. Each start is given a lag limit of its own, now and then one out of range.
-/// Each call is handed to `make`, which makes it and may look at it.
-fn walk(seed: u64, steps: u64, damaged: bool, former: bool, make: &mut impl FnMut(&mut World, &Call, &str)) {
+/// Each call is handed to `make`, which makes it, may look at it, and returns its number.
+fn walk(seed: u64, steps: u64, damaged: bool, former: bool, make: &mut impl FnMut(&mut World, &Call, &str) -> u64) {
     let random = &mut Random::new(seed);
     let Sizes { words, lanes, slots } = sizes(random);
     let mut world = World { max_lag: good_lag(random), ..World::new(words, lanes, slots) };
@@ -267,7 +270,11 @@ fn walk(seed: u64, steps: u64, damaged: bool, former: bool, make: &mut impl FnMu
             misfit(random, &mut other);
             make(&mut other, if random.one_in(3) { &Call::RecoverRead(usize::MAX) } else { &call }, &place);
         }
-        make(&mut world, &call, &place);
+        let number = make(&mut world, &call, &place);
+        if let (Call::Log(lane, _) | Call::Mark(lane), 9) = (&call, number) {
+            // a Log of no words wants one slot: there may be room for it where the Log had none, and none where a Mark had none
+            make(&mut world, &Call::Log(*lane, vec![]), &place);
+        }
         if let Call::Log(lane, txn) = call {
             if lane < 8 {
                 held[lane] = txn;
@@ -277,7 +284,7 @@ fn walk(seed: u64, steps: u64, damaged: bool, former: bool, make: &mut impl FnMu
 }
 
 /// All outcomes that a call can have on images of either length.
-const EITHER: [&str; 34] = [
+const EITHER: [&str; 42] = [
     "write-back",
     "write-back refused 4",
     "drain",
@@ -292,6 +299,13 @@ const EITHER: [&str; 34] = [
     "log refused 8",
     "log refused 15",
     "log refused 9",
+    "log of no words settled",
+    "log of no words refused 2",
+    "log of no words refused 3",
+    "log of no words refused 6",
+    "log of no words refused 8",
+    "log of no words refused 15",
+    "log of no words refused 9",
     "redo",
     "redo stale",
     "redo refused 2",
@@ -303,6 +317,7 @@ const EITHER: [&str; 34] = [
     "validate refused 2",
     "validate refused 3",
     "validate refused 5",
+    "validate of no words refused 5",
     "validate refused 7",
     "validate refused 8",
     "mark",
@@ -315,7 +330,7 @@ const EITHER: [&str; 34] = [
 ];
 
 /// Those on images of the new length alone, on such of the former length, and those of slices that do not fit.
-const ONE_LENGTH: [&str; 21] = [
+const ONE_LENGTH: [&str; 22] = [
     "format",
     "format refused 16",
     "recover-read",
@@ -332,6 +347,7 @@ const ONE_LENGTH: [&str; 21] = [
     "write-back refused 1",
     "drain refused 1",
     "log refused 1",
+    "log of no words refused 1",
     "redo refused 1",
     "validate refused 1",
     "mark refused 1",
@@ -353,8 +369,10 @@ fn outcome(world: &World, call: &Call, number: u64) -> String {
         Call::Format(_) => "format",
         Call::WriteBack(_) => "write-back",
         Call::Drain(_) => "drain",
+        Call::Log(_, txn) if txn.is_empty() => "log of no words",
         Call::Log(..) => "log",
         Call::Redo(_) => "redo",
+        Call::Validate(_, txn) if txn.is_empty() && number == 5 => "validate of no words",
         Call::Validate(..) => "validate",
         Call::Mark(_) => "mark",
         Call::Recover(_) => "recover",
@@ -367,13 +385,14 @@ fn outcome(world: &World, call: &Call, number: u64) -> String {
     if number != 0 {
         return format!("{name} refused {number}{length}");
     }
-    let kind = match (call, world.answer.first()) {
-        (Call::Log(..), Some(0)) => " without writes",
-        (Call::Redo(_), Some(0)) => " stale",
-        (Call::Validate(..), Some(0)) => " changed",
-        (Call::Mark(_), Some(1)) => " dropped",
-        (Call::Recover(_) | Call::RecoverRead(_), Some(0)) => " cut",
-        (Call::Recover(_) | Call::RecoverRead(_), Some(1)) => " none",
+    let kind = match (call, &world.answer[..]) {
+        (Call::Log(..), [0, 0, ..]) => " without writes",
+        (Call::Log(..), [0, ..]) => " settled",
+        (Call::Redo(_), [0, ..]) => " stale",
+        (Call::Validate(..), [0, ..]) => " changed",
+        (Call::Mark(_), [1, ..]) => " dropped",
+        (Call::Recover(_) | Call::RecoverRead(_), [0, ..]) => " cut",
+        (Call::Recover(_) | Call::RecoverRead(_), [1, ..]) => " none",
         _ => "",
     };
     format!("{name}{kind}{length}")
@@ -406,6 +425,7 @@ pub fn every_outcome(seeds: u64, least: u64, mut make: impl FnMut(&mut World, &C
         world.answer.fill(7);
         let number = make(world, call, place);
         *seen.0.entry(outcome(world, call, number)).or_default() += 1;
+        number
     };
     for seed in 1..=seeds {
         let former = seed % 2 == 0;

@@ -1,6 +1,7 @@
 -- `append::log_checks` meets its contract: each return by its law, from the tests that led there.
 -- Assumes nothing.
 use mathlib.Core.Path.{sym, _∙_}
+use mathlib.Core.Logic.{⊎-elim}
 use native.Mathlib.Omega.{arith}
 use borrow.Author.Tests.{not-true, not-false}
 use borrow.Author.Needs.{needs}
@@ -21,19 +22,21 @@ txn-ok-requires c κs = search needs
 
 returns-2 : tie.Need-returns-2
 returns-2 c =
-    let d = c .before .before in
-    checks-txn _ _ _ _ (sym (d .before .drain-refusal .ensures) ∙ d .if1 .left) (sym (c .before .txn-ok .ensures) ∙ not-true _ (c .if2 .taken))
+    let t = c .before in
+    let e = t .before .before in
+    checks-txn _ _ _ _ (sym (e .before .drain-refusal .ensures) ∙ e .if1 .left) (t .before .if2 .taken)
+    (sym (t .txn-ok .ensures) ∙ not-true _ (c .if3 .taken))
 
 mul-at : tie.Need-mul-at
 mul-at c =
-    let d = c .before .before in
-    let k = checked _ _ _ _ _ _ (sym (d .before .drain-refusal .ensures) ∙ d .if1 .left) in
+    let e = c .before in
+    let k = checked _ _ _ _ _ _ (sym (e .before .drain-refusal .ensures) ∙ e .if1 .left) in
     omega (arith, lane-small _ _ (k .image .sizes-ok) (k .lane-below))
 
 element-copy-out-at : tie.Need-element-copy-out-at
 element-copy-out-at c =
-    let d = c .before .before in
-    let k = checked _ _ _ _ _ _ (sym (d .before .drain-refusal .ensures) ∙ d .if1 .left) in
+    let e = c .before in
+    let k = checked _ _ _ _ _ _ (sym (e .before .drain-refusal .ensures) ∙ e .if1 .left) in
     omega (arith, lane-small _ _ (k .image .sizes-ok) (k .lane-below))
 
 is-logged-requires : tie.Need-is-logged-requires
@@ -42,18 +45,22 @@ is-logged-requires c κs = search needs
 returns-3 : tie.Need-returns-3
 unfolding laneAt
 returns-3 c =
-    let t = c .before .before .before in
-    let d = t .before .before in
-    checks-logged _ _ _ _ (sym (d .before .drain-refusal .ensures) ∙ d .if1 .left) (sym (t .before .txn-ok .ensures) ∙ not-false _ (t .if2 .left))
-    (sym (c .before .is-logged .ensures) ∙ c .if3 .taken)
+    let i = c .before in
+    let j = i .before .before in
+    let e = j .before in
+    checks-logged _ _ _ _ (sym (e .before .drain-refusal .ensures) ∙ e .if1 .left)
+    (⊎-elim (λ w n. sym (w .1 .ensures) ∙ not-false _ (w .2 .left)) (λ w n. absurd (n (w .left))) (j .if2 .came))
+    (sym (i .is-logged .ensures) ∙ c .if4 .taken)
 
 returns-4 : tie.Need-returns-4
 unfolding laneAt
 returns-4 c =
-    let t = c .before .before .before in
-    let d = t .before .before in
-    checks-none _ _ _ _ (sym (d .before .drain-refusal .ensures) ∙ d .if1 .left) (sym (t .before .txn-ok .ensures) ∙ not-false _ (t .if2 .left))
-    (sym (c .before .is-logged .ensures) ∙ c .if3 .left)
+    let i = c .before in
+    let j = i .before .before in
+    let e = j .before in
+    checks-none _ _ _ _ (sym (e .before .drain-refusal .ensures) ∙ e .if1 .left)
+    (⊎-elim (λ w n. sym (w .1 .ensures) ∙ not-false _ (w .2 .left)) (λ w n. absurd (n (w .left))) (j .if2 .came))
+    (sym (i .is-logged .ensures) ∙ c .if4 .left)
 
 pub log-checks-spec : {M : Type 1} → statement M
 log-checks-spec =

@@ -1,20 +1,20 @@
 -- Inner: how the code goes, need not be believed. Laws of Log and Mark: a law for each return of their checks, their plans and their steps; what they
 -- know where they are not refused. Assumes nothing.
 use Prim.Native.Nat.{ℕ, zero, suc, _+_, _^_, _≤_, _<_}
-use mathlib.Core.Path.{_≡_, refl, sym, _∙_, ap}
-use mathlib.Core.Bool.{Bool, true, false, _&&_}
+use mathlib.Core.Path.{_≡_, refl, sym, subst, _∙_, ap}
+use mathlib.Core.Bool.{Bool, true, false, cond, _&&_, or-true}
 use mathlib.Core.List.{List, [], _∷_, _++_}
 use native.Mathlib.Omega.{arith}
 use native.Mathlib.Decide.{ℕ-discrete}
-use lib.Dec.{leb}
+use lib.Dec.{eqb}
 use lib.ListN.{length, take, length-map}
 use lib.Seq.{length-take-le}
-use borrow.Author.Tests.{ne-eqb, le-leb, not-false}
+use borrow.Author.Tests.{eq-eqb, ne-eqb, eqb-false, le-leb, not-false}
 use Rattle.laws.specs.inner.Tests.{split}
 use Rattle.laws.specs.inner.Lists.{none, All-map}
-use Rattle.txn.specs.Txn.{maxWrites, current, txnOk}
+use Rattle.txn.specs.Txn.{maxWrites, current, txnOk, run}
 use Rattle.txn.specs.inner.Writes.{writesOf}
-use Rattle.txn.specs.inner.TxnLaws.{few-writes, run-low}
+use Rattle.txn.specs.inner.TxnLaws.{run-none, few-writes, run-low}
 use Rattle.txn.specs.declared.Write.{Write}
 use Rattle.txn.specs.declared.Writes.{Writes}
 use Rattle.image.specs.Image.{maxWords, maxLanes, baseOf, dataOf, logStart, logOf}
@@ -36,17 +36,19 @@ use Rattle.record.specs.declared.Pair.{Pair}
 use Rattle.record.specs.declared.Phase.{Phase}
 use Rattle.record.specs.declared.Phase.the-variants.{Idle, Holds}
 use Rattle.record.specs.declared.Record.{Record}
-use Rattle.store.specs.declared.Answer.the-variants.{NoWrites, Logged, Marked}
+use Rattle.store.specs.declared.Answer.the-variants.{Refused, NoWrites, Logged, Settled, Marked}
 use Rattle.store.specs.Machine.{Machine, Step, Cause, firstCause}
 use Rattle.store.specs.Calls.{badBuffers, badRecord, badLane, badTxn, clockSpent, drainRefusal, drained, changed, wouldLag, wouldHit, writesOn, appended}
-use Rattle.store.specs.Calls.{logRefusalBy, logRefusal, logged, logStepBy, logStep, markRefusal, markStep}
+use Rattle.store.specs.Calls.{marked, logTxnRefusalBy, logTxnStepBy, logged, settleRefusal, settleStep, logRefusalBy, logRefusal, logStepBy, logStep}
+use Rattle.store.specs.Calls.{markRefusal, markStep}
 use Rattle.store.specs.Interface.{machineOf}
 use Rattle.store.specs.inner.Checked.{Checked, drainedState}
-use Rattle.store.specs.inner.StoreLaws.{first-holds, first-fails, first-none, first-end, refuses-txn, passes-txn, checked, lane-small, at-lane, after-lane}
-use Rattle.store.specs.inner.StoreLaws.{lane-passed, step-taken, drained-by, drained-state, drained-clock, drained-lane, drained-keeps}
+use Rattle.store.specs.inner.StoreLaws.{first-holds, first-fails, first-none, first-end, checked, lane-small, at-lane, after-lane}
+use Rattle.store.specs.inner.StoreLaws.{lane-passed, step-refused, step-taken, drained-by, drained-state, drained-clock, drained-lane, drained-keeps}
 use Rattle.store.specs.inner.CachedWritesLaws.{count-of, full-list, writes-of}
 use Rattle.append.specs.declared.Plan.{Plan}
-use Rattle.append.specs.inner.Plans.{roomRefusal, logChecks, Planned, Searchable, Appendable, AfterDrain, loggedStep}
+use Rattle.append.specs.inner.Plans.{roomRefusal, badWords, logChecks, takesStamp, Planned, Searchable, Appendable, AfterDrain}
+use Rattle.append.specs.inner.Plans.{loggedStep, settledStep}
 
 -- ---- refusals 8, 15 and 9
 -- the record that the code drains, by the latest sequence that it has found
@@ -105,24 +107,27 @@ unfolding roomRefusal firstCause clockSpent wouldHit
 room-unbound z L n m = rw (drained-state z L m)
 
 -- ---- Log's refusals before it runs the transaction
+txn-passes : (z : Sizes) (f : List ℕ) → ((length f ≡ 0 → ⊥) → txnOk maxWrites (z .words) f ≡ true) → badWords z f .holds ≡ false
+txn-passes z f h = split (eqb (length f) 0) (λ t. rw t) (λ t. rw (t, h (eqb-false (length f) 0 t)))
+
 module _ (z : Sizes) (L : ℕ) (f : List ℕ) (m : Machine) where
   pub checks-lane : (number : ℕ) → number ≡ drainRefusal z L m → (number ≡ 0 → ⊥) → number ≡ logChecks z L f m
   unfolding logChecks
   checks-lane number e h = e ∙ sym (at-lane z L m _ (λ d. h (e ∙ d)))
 
   module _ (e : drainRefusal z L m ≡ 0) where
-    pub checks-txn : txnOk maxWrites (z .words) f ≡ false → 5 ≡ logChecks z L f m
+    pub checks-txn : (length f ≡ 0 → ⊥) → txnOk maxWrites (z .words) f ≡ false → 5 ≡ logChecks z L f m
     unfolding logChecks
-    checks-txn h = sym (after-lane z L m _ e ∙ refuses-txn _ z f h)
+    checks-txn n h = sym (after-lane z L m _ e ∙ first-holds _ _ (rw (ne-eqb (length f) 0 n, h)))
 
-    module _ (h : txnOk maxWrites (z .words) f ≡ true) where
+    module _ (h : (length f ≡ 0 → ⊥) → txnOk maxWrites (z .words) f ≡ true) where
       pub checks-logged : isLogged (laneAt (m .state) L .phase) ≡ true → 6 ≡ logChecks z L f m
       unfolding logChecks
-      checks-logged g = sym (after-lane z L m _ e ∙ passes-txn _ z f h ∙ first-holds _ _ g)
+      checks-logged g = sym (after-lane z L m _ e ∙ first-fails _ _ (txn-passes z f h) ∙ first-holds _ _ g)
 
       pub checks-none : isLogged (laneAt (m .state) L .phase) ≡ false → 0 ≡ logChecks z L f m
       unfolding logChecks
-      checks-none g = sym (after-lane z L m _ e ∙ passes-txn _ z f h ∙ first-fails _ _ g ∙ first-end)
+      checks-none g = sym (after-lane z L m _ e ∙ first-fails _ _ (txn-passes z f h) ∙ first-fails _ _ g ∙ first-end)
 
 -- ---- Log's refusals, from those that it checks first
 pub some : (n : ℕ) → (n ≡ 0 → ⊥) → 1 ≤ n
@@ -137,12 +142,53 @@ first-more (c ∷ cs) ds h =
     (λ t. first-holds c (cs ++ ds) t ∙ sym (first-holds c cs t))
     (λ t. first-fails c (cs ++ ds) t ∙ first-more cs ds (λ e. h (first-fails c cs t ∙ e)) ∙ sym (first-fails c cs t))
 
+-- Log takes a timestamp where it writes, and where there are no words
+module _ (z : Sizes) (f : List ℕ) (m : Machine) where
+  pub takes-none : length f ≡ 0 → takesStamp z f m ≡ true
+  unfolding takesStamp
+  takes-none e = rw (eq-eqb (length f) 0 e)
+
+  pub takes-some : (w : Writes) → w ≡ writesOf maxWrites (writesOn z f m) → (w .count ≡ 0 → ⊥) → takesStamp z f m ≡ true
+  unfolding takesStamp
+  takes-some w v h = rw (le-leb 1 (length (writesOn z f m)) (some _ (λ d. h (count-of w _ v ∙ d)))) (or-true (eqb (length f) 0))
+
+-- a transaction that has words
+words-some : (f : List ℕ) (w : ℕ) → length (w ∷ f) ≡ 0 → ⊥
+words-some f w e = omega arith
+
+module _ (z : Sizes) (L : ℕ) (m : Machine) where
+  abbrev causesAfter : List ℕ → (takes : Bool) → List Cause
+  causesAfter f takes =
+      record { number = 8; holds = takes && spent (m .state) }
+      ∷ record { number = 15; holds = takes && wouldLag z L m }
+      ∷ record { number = 9; holds = takes && wouldHit z L (length (writesOn z f m) + 1) m }
+      ∷ []
+
+  -- the refusals of both kinds of Log as one list
+  log-is : (f : List ℕ) → logRefusal z L f m
+      ≡ firstCause
+      (badBuffers z m
+      ∷ badRecord z m
+      ∷ badLane z L
+      ∷ badWords z f
+      ∷ record { number = 6; holds = isLogged (laneAt (m .state) L .phase) }
+      ∷ causesAfter f (takesStamp z f m))
+  unfolding logRefusalBy logTxnRefusalBy settleRefusal takesStamp firstCause badTxn clockSpent writesOn
+  log-is [] = rw (run-none (z .words) (dataOf z (m .cache)))
+  log-is (w ∷ f) = rw (ne-eqb (length (w ∷ f)) 0 (words-some f w))
+
 module _ (z : Sizes) (L : ℕ) (f : List ℕ) (m : Machine) where
   log-unless : (logChecks z L f m ≡ 0 → ⊥) → logRefusal z L f m ≡ logChecks z L f m
-  unfolding logRefusalBy logChecks
+  unfolding logChecks
   log-unless h =
-      first-more
-      (badBuffers z m ∷ badRecord z m ∷ badLane z L ∷ badTxn current z f ∷ record { number = 6; holds = isLogged (laneAt (m .state) L .phase) } ∷ []) _ h
+      log-is z L m f
+      ∙ first-more
+      (badBuffers z m
+      ∷ badRecord z m
+      ∷ badLane z L
+      ∷ badWords z f
+      ∷ record { number = 6; holds = isLogged (laneAt (m .state) L .phase) }
+      ∷ []) _ h
 
   pub log-refused : (number : ℕ) → number ≡ logChecks z L f m → (number ≡ 0 → ⊥) → number ≡ logRefusal z L f m
   log-refused number e h = e ∙ sym (log-unless (λ d. h (e ∙ d)))
@@ -153,47 +199,42 @@ module _ (z : Sizes) (L : ℕ) (f : List ℕ) (m : Machine) where
   -- what the checks say where they find nothing
   pub record Unrefused : Type 0 where
     pub at-lane : drainRefusal z L m ≡ 0
-    pub txn-ok : txnOk maxWrites (z .words) f ≡ true
+    pub txn-ok : (length f ≡ 0 → ⊥) → txnOk maxWrites (z .words) f ≡ true
     pub idle : isLogged (laneAt (m .state) L .phase) ≡ false
 
   pub unrefused : logChecks z L f m ≡ 0 → Unrefused
-  unfolding logChecks badTxn
+  unfolding logChecks
   unrefused h =
       let a = lane-passed z L m _ h in
       let b = first-none _ _ (λ e. omega arith) (a .1) in
       let c = first-none _ _ (λ e. omega arith) (b .1) in
-      record { at-lane = a .0; txn-ok = not-false _ (b .0); idle = c .0 }
+      let t : badWords z f .holds ≡ false = b .0 in
+      record { at-lane = a .0; txn-ok = λ n. not-false (txnOk maxWrites (z .words) f) (rw (ne-eqb (length f) 0 n) at t); idle = c .0 }
 
   -- the causes that are left then
-  log-left : Unrefused → logRefusal z L f m
-      ≡ firstCause
-      (record { number = 8; holds = leb 1 (length (writesOn z f m)) && spent (m .state) }
-      ∷ record { number = 15; holds = leb 1 (length (writesOn z f m)) && wouldLag z L m }
-      ∷ record { number = 9; holds = leb 1 (length (writesOn z f m)) && wouldHit z L (length (writesOn z f m) + 1) m }
-      ∷ [])
-  unfolding logRefusalBy
-  log-left u = after-lane z L m _ (u .at-lane) ∙ passes-txn _ z f (u .txn-ok) ∙ first-fails _ _ (u .idle)
+  log-left : Unrefused → logRefusal z L f m ≡ firstCause (causesAfter z L m f (takesStamp z f m))
+  log-left u = log-is z L m f ∙ after-lane z L m _ (u .at-lane) ∙ first-fails _ _ (txn-passes z f (u .txn-ok)) ∙ first-fails _ _ (u .idle)
 
   module _ (u : Unrefused) (w : Writes) (v : w ≡ writesOf maxWrites (writesOn z f m)) where
     -- none, where the transaction writes nothing
-    pub log-nothing : w .count ≡ 0 → 0 ≡ logRefusal z L f m
-    log-nothing e =
+    pub log-nothing : (length f ≡ 0 → ⊥) → w .count ≡ 0 → 0 ≡ logRefusal z L f m
+    unfolding takesStamp
+    log-nothing h e =
         let n : length (writesOn z f m) ≡ 0 = sym (count-of w _ v) ∙ e in
-        sym (log-left u ∙ first-fails _ _ (rw n) ∙ first-fails _ _ (rw n) ∙ first-fails _ _ (rw n) ∙ first-end)
+        let t : takesStamp z f m ≡ false = rw (ne-eqb (length f) 0 h, n) in
+        sym (log-left u ∙ first-fails _ _ (rw t) ∙ first-fails _ _ (rw t) ∙ first-fails _ _ (rw t) ∙ first-end)
 
-    -- where it writes, those of an append
-    pub log-room : (number : ℕ) → number ≡ roomRefusal z (m .state) (m .cache) L (w .count + 1) true → (w .count ≡ 0 → ⊥)
+    -- where it writes, or there are no words, those of an append
+    pub log-room : (number : ℕ) → number ≡ roomRefusal z (m .state) (m .cache) L (w .count + 1) true → takesStamp z f m ≡ true
         → number ≡ logRefusal z L f m
     unfolding clockSpent
-    log-room number r h =
-        let n = count-of w _ v in
-        let b : leb 1 (length (writesOn z f m)) ≡ true = le-leb 1 (length (writesOn z f m)) (some _ (λ d. h (n ∙ d))) in
-        r ∙ rw n (room-bound z L (length (writesOn z f m) + 1) m ∙ sym (log-left u ∙ rw b))
+    log-room number r t = r ∙ rw (count-of w _ v) (room-bound z L (length (writesOn z f m) + 1) m ∙ sym (log-left u ∙ rw t))
 
-  log-unspent : logRefusal z L f m ≡ 0 → (length (writesOn z f m) ≡ 0 → ⊥) → spent (m .state) ≡ false
-  log-unspent e h =
+  log-unspent : logRefusal z L f m ≡ 0 → takesStamp z f m ≡ true → spent (m .state) ≡ false
+  log-unspent e t =
       let a = first-none _ _ (λ d. omega arith) (sym (log-left (unrefused (log-checked e))) ∙ e) in
-      rw (le-leb 1 (length (writesOn z f m)) (some _ h)) at (a .0)
+      let b : (takesStamp z f m && spent (m .state)) ≡ false = a .0 in
+      rw t at b
 
 -- ---- Mark's refusals
 module _ (z : Sizes) (L : ℕ) (m : Machine) where
@@ -242,21 +283,38 @@ pub record Known (z : Sizes) (state : Record) (cache nvm flags : List ℕ) (L : 
   pub low : WordsBelow maxWords ws
   pub latest : plan .latest ≡ latestIn z cache L
 
+-- the writes of a transaction that is ok are few, and all to words that there are; no words write nothing
+run-bounds : (z : Sizes) (f : List ℕ) (m : Machine) → z .words ≤ maxWords → ((length f ≡ 0 → ⊥) → txnOk maxWrites (z .words) f ≡ true)
+    → (length (writesOn z f m) ≤ maxWrites) × WordsBelow maxWords (writesOn z f m)
+unfolding writesOn
+run-bounds z [] m l ok = rw (run-none (z .words) (dataOf z (m .cache))) (omega arith, none)
+run-bounds z (w ∷ f) m l ok = (
+  few-writes current maxWrites (z .words) (w ∷ f) (dataOf z (m .cache)) (ok (words-some f w)),
+  All-map (λ x h. omega arith) (run-low current maxWrites (z .words) (w ∷ f) (dataOf z (m .cache)) (ok (words-some f w))),
+)
+
+pub few-planned : (z : Sizes) (L : ℕ) (f : List ℕ) (m : Machine) (w : Writes) → w ≡ writesOf maxWrites (writesOn z f m) → z .words ≤ maxWords
+    → Unrefused z L f m → w .count ≤ maxWrites
+few-planned z L f m w v l u = rw (count-of w _ v) (run-bounds z f m l (u .txn-ok) .0)
+
+pub written-none : (W : ℕ) (f ws : List ℕ) (w : Writes) → length f ≡ 0 → w ≡ writesOf maxWrites [] → w ≡ writesOf maxWrites (run W f ws)
+written-none W [] ws w n v = v ∙ rw (run-none W ws)
+written-none W (x ∷ f) ws w n v = absurd (words-some f x n)
+
 module _ (z : Sizes) (state : Record) (cache nvm flags : List ℕ) (L : ℕ) (plan : Plan) where
-  -- the writes of a transaction that is ok are few, and all to words that there are
   pub log-known : (f : List ℕ)
       → Planned plan (logRefusal z L f (machineOf state cache nvm flags)) (writesOn z f (machineOf state cache nvm flags)) (latestIn z cache L)
       → plan .number ≡ 0 → Known z state cache nvm flags L (writesOn z f (machineOf state cache nvm flags)) plan
-  unfolding writesOn
   log-known f p e =
       let u = unrefused z L f (machineOf state cache nvm flags) (log-checked z L f (machineOf state cache nvm flags) (sym (p .number) ∙ e)) in
       let k = checked z state cache nvm flags L (u .at-lane) in
+      let b = run-bounds z f (machineOf state cache nvm flags) (sizes-in z (k .image .sizes-ok) .words-high) (u .txn-ok) in
       record {
         checked = k;
         small = lane-small z L (k .image .sizes-ok) (k .lane-below);
         writes = p .writes e;
-        few = few-writes current maxWrites (z .words) f (dataOf z cache) (u .txn-ok);
-        low = All-map (λ w h. omega (arith, sizes-in z (k .image .sizes-ok) .words-high)) (run-low current maxWrites (z .words) f (dataOf z cache) (u .txn-ok));
+        few = b .0;
+        low = b .1;
         latest = p .latest e;
       }
 
@@ -301,10 +359,25 @@ module _ (z : Sizes) (state : Record) (cache nvm flags : List ℕ) (L : ℕ) (pl
 
   pub log-clock : (f : List ℕ)
       → Planned plan (logRefusal z L f (machineOf state cache nvm flags)) (writesOn z f (machineOf state cache nvm flags)) (latestIn z cache L)
-      → plan .number ≡ 0 → (plan .writes .count ≡ 0 → ⊥) → state .clock + 3 < 2 ^ 64
-  log-clock f p e h =
-      clock-free _ (log-known f p e)
-      (log-unspent z L f (machineOf state cache nvm flags) (sym (p .number) ∙ e) (λ n. h (count-of _ _ (p .writes e) ∙ n)))
+      → plan .number ≡ 0 → takesStamp z f (machineOf state cache nvm flags) ≡ true → state .clock + 3 < 2 ^ 64
+  log-clock f p e t = clock-free _ (log-known f p e) (log-unspent z L f (machineOf state cache nvm flags) (sym (p .number) ∙ e) t)
+
+  -- no words have none
+  no-writes : (f : List ℕ)
+      → Planned plan (logRefusal z L f (machineOf state cache nvm flags)) (writesOn z f (machineOf state cache nvm flags)) (latestIn z cache L)
+      → plan .number ≡ 0 → length f ≡ 0 → plan .writes ≡ writesOf maxWrites []
+  unfolding writesOn
+  no-writes [] p e n = rw (← run-none (z .words) (dataOf z cache)) (p .writes e)
+  no-writes (w ∷ f) p e n = absurd (words-some f w n)
+
+  -- and then the mark may be appended
+  pub settle-after : (f : List ℕ)
+      → Planned plan (logRefusal z L f (machineOf state cache nvm flags)) (writesOn z f (machineOf state cache nvm flags)) (latestIn z cache L)
+      → plan .number ≡ 0 → length f ≡ 0 → length (state .lanes) ≡ maxLanes → (flags′ : List ℕ) → flags′ ≡ drainedFlags L flags
+      → AfterDrain z state (plan .latest) cache flags′ L (writesOf maxWrites [])
+  settle-after f p e n eight flags′ d =
+      subst (AfterDrain z state (plan .latest) cache flags′ L) (no-writes f p e n)
+      (after-drain _ (log-known f p e) eight (log-clock f p e (takes-none z f (machineOf state cache nvm flags) n)) flags′ d)
 
   pub mark-clock : Planned plan (markRefusal z L (machineOf state cache nvm flags)) [] (latestIn z cache L) → plan .number ≡ 0
       → state .clock + 3 < 2 ^ 64
@@ -369,6 +442,13 @@ module _ (z : Sizes) (L : ℕ) (r : Record) (q : Latest) (cache : List ℕ) (f :
         append-machine z L phase redo (drainedState z cache L r) cache nvm flags w h (r .clock + 2) at after r₂ cache′ flags′
         (ap (λ (k : ℕ). k + 2) (sym (drained-clock z cache L r))) lane-drained e₁ (e₂ ∙ changed-once (r .clock + 2) after) e₃ e₄
 
+    -- Log of no words
+    pub settled-by : (nvm flags : List ℕ) (w : Writes) → w ≡ writesOf maxWrites [] → (machine : Machine)
+        → machine ≡ appended z L (take (w .count) (w .list)) Idle (at .redo) (machineOf (drainedState z cache L r) cache nvm flags)
+        → record { answer = Settled (r .clock + 2); machine = machine } ≡ settledStep z L (machineOf (drainedState z cache L r) cache nvm flags)
+    unfolding settledStep
+    settled-by nvm flags w v machine a = rw (a, writes-of w [] v (omega arith), lane-drained, drained-clock z cache L r)
+
     -- Log of a transaction that writes
     pub logged-by : (redo : List Pair) (nvm flags : List ℕ) (w : Writes) → w .count ≤ length (w .list) → redo ≡ pairsOf maxWrites (take (w .count) (w .list))
         → (machine : Machine)
@@ -380,45 +460,88 @@ module _ (z : Sizes) (L : ℕ) (r : Record) (q : Latest) (cache : List ℕ) (f :
     logged-by redo nvm flags w h g machine a = rw (a, g, lane-drained, drained-clock z cache L r, length-take-le (w .count) (w .list) h)
 
 -- ---- steps, from the plan and from what the drain and the append leave
+-- Log of a transaction that has words, once it is taken
+abbrev writtenStep : Sizes → ℕ → List ℕ → Machine → Step
+writtenStep z L f m =
+    let ws = writesOn z f m in
+    cond (eqb (length ws) 0)
+    (record { answer = NoWrites; machine = drained z L m })
+    (record { answer = Logged (record { count = length ws; stamp = m .state .clock + 2 }); machine = logged z L ws (drained z L m) })
+
+-- a refused Log
+pub log-refuses : (z : Sizes) (L : ℕ) (m : Machine) (f : List ℕ) (number : ℕ) → number ≡ logRefusal z L f m → (number ≡ 0 → ⊥)
+    → record { answer = Refused number; machine = m } ≡ logStep z L f m
+unfolding logRefusalBy logStepBy settleStep logTxnStepBy
+log-refuses z L m [] number e h = step-refused _ _ _ _ e h
+log-refuses z L m (w ∷ f) number e h = step-refused _ _ _ _ e h
+
 module _ (z : Sizes) (L : ℕ) (state : Record) (cache nvm flags : List ℕ) (plan : Plan) (nvm′ flags′ : List ℕ) (f₁ : nvm′ ≡ drainedNvm L flags cache nvm)
     (f₂ : flags′ ≡ drainedFlags L flags) (e : plan .number ≡ 0) where
   now-drained : machineOf (drainedState z cache L state) cache nvm′ flags′ ≡ drained z L (machineOf state cache nvm flags)
   now-drained = drained-by z L state cache nvm flags (drainedState z cache L state) nvm′ flags′ refl f₁ f₂
 
+  -- a mark on the drained machine
+  marked-is : appended z L [] Idle (laneAt (drainedState z cache L state) L .redo) (machineOf (drainedState z cache L state) cache nvm′ flags′)
+      ≡ marked z L (machineOf state cache nvm flags)
+  marked-is = rw (drained-keeps z cache L state .redo) (ap (appended z L [] Idle (laneAt state L .redo)) now-drained)
+
+  settled-is : settledStep z L (machineOf (drainedState z cache L state) cache nvm′ flags′)
+      ≡ record { answer = Settled (state .clock + 2); machine = marked z L (machineOf state cache nvm flags) }
+  unfolding settledStep
+  settled-is = rw (marked-is, drained-clock z cache L state)
+
+  -- a Log that is taken, of no words and of some
+  taken-none : (f : List ℕ) → length f ≡ 0 → plan .number ≡ logRefusal z L f (machineOf state cache nvm flags)
+      → record { answer = Settled (state .clock + 2); machine = marked z L (machineOf state cache nvm flags) } ≡ logStep z L f (machineOf state cache nvm flags)
+  unfolding logRefusalBy logStepBy settleStep
+  taken-none [] n p = step-taken _ _ _ _ p e
+  taken-none (w ∷ f) n p = absurd (words-some f w n)
+
+  taken-some : (f : List ℕ) → (length f ≡ 0 → ⊥) → plan .number ≡ logRefusal z L f (machineOf state cache nvm flags) → (step : Step)
+      → step ≡ writtenStep z L f (machineOf state cache nvm flags) → step ≡ logStep z L f (machineOf state cache nvm flags)
+  unfolding logRefusalBy logStepBy logTxnStepBy
+  taken-some [] n p step a = absurd (n refl)
+  taken-some (w ∷ f) n p step a = a ∙ step-taken _ _ _ _ p e
+
   module _ (f : List ℕ)
       (p : Planned plan (logRefusal z L f (machineOf state cache nvm flags)) (writesOn z f (machineOf state cache nvm flags)) (latestIn z cache L)) where
-    -- a Log of a transaction that writes nothing drains its lane
-    pub log-empty : (r : Record) → r ≡ withLane state L (drainedLane (plan .latest) (laneAt state L)) → plan .writes .count ≡ 0
-        → record { answer = NoWrites; machine = machineOf r cache nvm′ flags′ } ≡ logStep z L f (machineOf state cache nvm flags)
-    unfolding logStepBy
-    log-empty r d h =
-        rw (drained-is z state r (plan .latest) cache L (p .latest e) d, now-drained, sym (count-of _ _ (p .writes e)) ∙ h)
-        (step-taken _ _ _ _ (p .number) e)
+    -- no words settle the lane
+    pub log-settles : length f ≡ 0 → (step : Step) → step ≡ settledStep z L (machineOf (drainedState z cache L state) cache nvm′ flags′)
+        → step ≡ logStep z L f (machineOf state cache nvm flags)
+    log-settles n step a = a ∙ settled-is ∙ taken-none f n (p .number)
 
-    -- a Log of one that writes appends to it
-    pub log-writes : (step : Step)
-        → step ≡ loggedStep z L (take (plan .writes .count) (plan .writes .list)) (machineOf (drainedState z cache L state) cache nvm′ flags′)
-        → (plan .writes .count ≡ 0 → ⊥) → step ≡ logStep z L f (machineOf state cache nvm flags)
-    unfolding logStepBy loggedStep
-    log-writes step a h =
-        let k = log-known z state cache nvm flags L plan f p e in
-        let n = count-of _ _ (k .writes) in
-        a
-        ∙ rw (
-          writes-of _ _ (k .writes) (k .few),
-          now-drained,
-          drained-state z L (machineOf state cache nvm flags),
-          drained-clock z cache L state,
-          ne-eqb (length (writesOn z f (machineOf state cache nvm flags))) 0 (λ d. h (n ∙ d)),
-        )
-        (step-taken _ _ _ _ (p .number) e)
+    module _ (n : length f ≡ 0 → ⊥) where
+      -- a transaction that writes nothing drains its lane
+      pub log-drains : (r : Record) → r ≡ withLane state L (drainedLane (plan .latest) (laneAt state L)) → plan .writes .count ≡ 0
+          → record { answer = NoWrites; machine = machineOf r cache nvm′ flags′ } ≡ logStep z L f (machineOf state cache nvm flags)
+      log-drains r d h =
+          rw (drained-is z state r (plan .latest) cache L (p .latest e) d, now-drained)
+          (taken-some f n (p .number) _ (rw (sym (count-of _ _ (p .writes e)) ∙ h)))
+
+      -- one that writes appends to it
+      pub log-writes : (step : Step)
+          → step ≡ loggedStep z L (take (plan .writes .count) (plan .writes .list)) (machineOf (drainedState z cache L state) cache nvm′ flags′)
+          → (plan .writes .count ≡ 0 → ⊥) → step ≡ logStep z L f (machineOf state cache nvm flags)
+      unfolding loggedStep
+      log-writes step a h =
+          let k = log-known z state cache nvm flags L plan f p e in
+          let c = count-of _ _ (k .writes) in
+          taken-some f n (p .number) step
+          (a
+          ∙ rw (
+            writes-of _ _ (k .writes) (k .few),
+            now-drained,
+            drained-state z L (machineOf state cache nvm flags),
+            drained-clock z cache L state,
+            ne-eqb (length (writesOn z f (machineOf state cache nvm flags))) 0 (λ d. h (c ∙ d)),
+          ))
 
   -- a Mark
   module _ (p : Planned plan (markRefusal z L (machineOf state cache nvm flags)) [] (latestIn z cache L)) (at : Lane) (machine : Machine)
       (l : at ≡ drainedLane (plan .latest) (laneAt state L))
       (a : machine ≡ appended z L (take (plan .writes .count) (plan .writes .list)) Idle (at .redo)
       (machineOf (drainedState z cache L state) cache nvm′ flags′)) where
-    marked-by : machine ≡ appended z L [] Idle (laneAt state L .redo) (drained z L (machineOf state cache nvm flags))
+    marked-by : machine ≡ marked z L (machineOf state cache nvm flags)
     unfolding drainedLane
     marked-by = a ∙ rw (writes-of _ [] (p .writes e) (omega arith), l, now-drained)
 

@@ -3,9 +3,10 @@
 use Prim.Native.Nat.{ℕ, _+_, _^_, _≤_, _<_}
 use mathlib.Core.Path.{_≡_}
 use mathlib.Core.List.{List, [], _∷_}
-use mathlib.Core.Bool.{Bool, _&&_}
+use mathlib.Core.Bool.{Bool, not, _&&_, _||_}
+use lib.Dec.{leb, eqb}
 use lib.ListN.{length}
-use Rattle.txn.specs.Txn.{maxWrites, current}
+use Rattle.txn.specs.Txn.{maxWrites, txnOk}
 use Rattle.txn.specs.inner.Writes.{writesOf}
 use Rattle.txn.specs.declared.Write.{Write}
 use Rattle.txn.specs.declared.Writes.{Writes}
@@ -16,10 +17,11 @@ use Rattle.log.specs.inner.AppendEntries.{Loggable, Within}
 use Rattle.log.specs.declared.Latest.{Latest}
 use Rattle.record.specs.Record.{laneAt, isLogged, spent, boundOf, lagPassed, cursorOf, drainedLane}
 use Rattle.record.specs.declared.Lane.{Lane}
+use Rattle.record.specs.declared.Phase.the-variants.{Idle}
 use Rattle.record.specs.declared.Record.{Record}
-use Rattle.store.specs.declared.Answer.the-variants.{Logged}
-use Rattle.store.specs.Machine.{Machine, Step, firstCause}
-use Rattle.store.specs.Calls.{badBuffers, badRecord, badLane, badTxn, logged}
+use Rattle.store.specs.declared.Answer.the-variants.{Logged, Settled}
+use Rattle.store.specs.Machine.{Machine, Step, Cause, firstCause}
+use Rattle.store.specs.Calls.{badBuffers, badRecord, badLane, writesOn, appended, logged}
 use Rattle.store.specs.inner.Checked.{drainedState}
 use Rattle.append.specs.declared.Plan.{Plan}
 
@@ -32,6 +34,10 @@ roomRefusal z r cache L n binds =
     ∷ record { number = 9; holds = hits z.slots (laneAt r L .next) n (boundOf z (drainedState z cache L r)) (completeIn z cache L) }
     ∷ [])
 
+-- cause 5 of Log: words that are no well-formed transaction
+abbrev pub badWords : Sizes → List ℕ → Cause
+badWords z f = record { number = 5; holds = not (eqb (length f) 0) && not (txnOk maxWrites z.words f) }
+
 -- Log's refusals before it runs the transaction
 unfoldable pub logChecks : Sizes → ℕ → List ℕ → Machine → ℕ
 logChecks z L f m =
@@ -39,9 +45,13 @@ logChecks z L f m =
     (badBuffers z m
     ∷ badRecord z m
     ∷ badLane z L
-    ∷ badTxn current z f
+    ∷ badWords z f
     ∷ record { number = 6; holds = isLogged (laneAt m.state L .phase) }
     ∷ [])
+
+-- does Log take a timestamp: it is given no words, or it writes
+unfoldable pub takesStamp : Sizes → List ℕ → Machine → Bool
+takesStamp z f m = eqb (length f) 0 || leb 1 (length (writesOn z f m))
 
 -- a plan: the number of the refusal and, where it is 0, the writes and the lane's latest sequence
 pub record Planned (plan : Plan) (refusal : ℕ) (ws : List Write) (q : Latest) : Type 0 where
@@ -75,3 +85,7 @@ pub record AfterDrain (z : Sizes) (r : Record) (latest : Latest) (cache flags : 
 -- Log of these writes on a drained machine
 unfoldable pub loggedStep : Sizes → ℕ → List Write → Machine → Step
 loggedStep z L ws m = record { answer = Logged (record { count = length ws; stamp = m.state .clock + 2 }); machine = logged z L ws m }
+
+-- Log of no words on a drained machine
+unfoldable pub settledStep : Sizes → ℕ → Machine → Step
+settledStep z L m = record { answer = Settled (m.state .clock + 2); machine = appended z L [] Idle (laneAt m.state L .redo) m }

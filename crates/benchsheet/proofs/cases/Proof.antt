@@ -31,6 +31,9 @@ mark-requires c κs = search needs
 lagging-requires : tie.Need-lagging-requires Inv-loop μ-loop
 lagging-requires c κs = search needs
 
+settled-requires : tie.Need-settled-requires Inv-loop μ-loop
+settled-requires c κs = search needs
+
 add-i : tie.Need-add-i Inv-loop μ-loop
 add-i c = search needs
 
@@ -47,4 +50,4 @@ pub cases-spec : {M : Type 1} → statement M
 cases-spec =
     tie.close
     (tie.spec Inv-loop μ-loop clear-requires loop-holds edge-requires trailer-requires case-requires mark-requires
-    lagging-requires add-i loop-less loop-again returns)
+    lagging-requires settled-requires add-i loop-less loop-again returns)

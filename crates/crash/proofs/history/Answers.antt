@@ -23,15 +23,15 @@ use Rattle.store.specs.Calls.{drained, writesOn, isStale, entriesMatch, matches
 use Rattle.store.specs.declared.Answer.{Answer}
 use Rattle.store.specs.declared.Answer.the-variants.{Refused}
 use Rattle.crash.specs.Events.{Call, logBy, redo, validateBy, mark, laneOf, callStep}
-use Rattle.crash.specs.History.{Newest, unset, newestStamp, History, pageAt, settled, leastFloorOf}
+use Rattle.crash.specs.History.{Newest, unset, newestStamp, History, pageAt, afterDrain, leastFloorOf}
 use Rattle.crash.specs.History.{writesLogged, sameOlds, commitAbove, slotsBy, takenAnswer}
 use Rattle.crash.specs.Theorem.{isFull, refusalBy, answerBy, Answers}
 use Rattle.crash.proofs.recovery.Data.{oldsOf}
 use Rattle.crash.proofs.induction.Moves.{Known, refusalOf, Drains, quiet, late, plain}
-use Rattle.crash.proofs.induction.Moves.{Move, refusing, draining, logging, redoing, validating, giving-up, marking, call-moves}
+use Rattle.crash.proofs.induction.Moves.{Move, refusing, draining, logging, settling, redoing, validating, giving-up, marking, call-moves}
 use Rattle.crash.proofs.history.Refusals.{same-writes, same-held, refusal-by, number-is}
 use Rattle.crash.proofs.lane.Newest.{unset-nothing, drained-floor}
-use Rattle.crash.proofs.history.Lanes.{lane-drained, page-settled, bound-agrees}
+use Rattle.crash.proofs.history.Lanes.{lane-drained, page-drained, bound-agrees}
 use Rattle.crash.proofs.history.Agree.{Holding, Book, Logs, is-held, above-last, entries-match}
 
 same-olds : (vs ws : List Write) → sameOlds vs ws ≡ true → oldsOf vs ≡ oldsOf ws
@@ -54,7 +54,7 @@ hits-none N k n (At b) = refl
 
 number-drains : {z : Sizes} {m : Machine} {c : Call} {a : Answer} → Drains z m c a → said a .number ≡ 0
 unfolding said
-number-drains (quiet q L f ok i e) = refl
+number-drains (quiet q L w f ok i e) = refl
 number-drains (late L r t) = refl
 number-drains (plain L) = refl
 
@@ -84,28 +84,28 @@ module _ (z : Sizes) (base : ℕ) (h : History) (m : Machine) (b : Book z base h
     matched ws t = same-olds ws (writesLogged z L h) (sym (same-matches ws) ∙ t)
 
   -- ---- floors after a drain
-  pub floors-drained : (L : ℕ) → L < z.lanes → (M : ℕ) → M < z.lanes → laneAt (drained z L m .state) M .floor ≡ pageAt (settled L h) M .floor
+  pub floors-drained : (L : ℕ) → L < z.lanes → (M : ℕ) → M < z.lanes → laneAt (drained z L m .state) M .floor ≡ pageAt (afterDrain L h) M .floor
   unfolding drainedLane
   floors-drained L lane M other =
       let a = lane-drained z L m (le-trans lane (b .lanes)) in
-      let p = page-settled L h (rw (b .pages) lane) in
+      let p = page-drained L h (rw (b .pages) lane) in
       elim (ℕ-discrete M L) [
         | yes e ↦ rw (e, a .here, p .here) (drained-floor (latestIn z (m .cache) L) _ ∙ rw (l .newest L lane, b .live .floors L lane))
         | no d ↦ rw (a .others M d, p .others M d) (b .live .floors M other)
       ]
 
-  pub bound-drained : (L : ℕ) → L < z.lanes → boundOf z (drained z L m .state) ≡ leastFloorOf (settled L h .pages)
+  pub bound-drained : (L : ℕ) → L < z.lanes → boundOf z (drained z L m .state) ≡ leastFloorOf (afterDrain L h .pages)
   bound-drained L lane =
       let a = lane-drained z L m (le-trans lane (b .lanes)) in
-      let p = page-settled L h (rw (b .pages) lane) in
-      bound-agrees z (drained z L m .state) (settled L h) (rw (a .lanes) (b .lanes)) (p .pages ∙ b .pages) (floors-drained L lane)
+      let p = page-drained L h (rw (b .pages) lane) in
+      bound-agrees z (drained z L m .state) (afterDrain L h) (rw (a .lanes) (b .lanes)) (p .pages ∙ b .pages) (floors-drained L lane)
 
   -- a lane that has appended nothing has no sequence to hit
   full-appended : (c : Call) → laneOf c < z.lanes → isFull z c h m ≡ true → pageAt h (laneOf c) .newest ≡ unset → ⊥
   unfolding isFull latestIn
   full-appended c lane t e =
       let n = latest-none (completeIn z (m .cache) (laneOf c)) (unset-nothing _ (l .newest (laneOf c) lane ∙ e)) in
-      clash _ (rw n at t) (hits-none z.slots (laneAt (m .state) (laneOf c) .next) (slotsBy z c h) (leastFloorOf (settled (laneOf c) h .pages)))
+      clash _ (rw n at t) (hits-none z.slots (laneAt (m .state) (laneOf c) .next) (slotsBy z c h) (leastFloorOf (afterDrain (laneOf c) h .pages)))
 
   -- ---- the answer
   taken : (c : Call) (a : Answer) → refusalOf z c m ≡ 0 → refusalOf z c m ≡ refusalBy z c h m → a ≡ takenAnswer z c h → a ≡ answerBy z c h m
@@ -118,7 +118,7 @@ module _ (z : Sizes) (base : ℕ) (h : History) (m : Machine) (b : Book z base h
 
   drains-answer : {c : Call} {a : Answer} → Known z m (laneOf c) → Drains z m c a → a ≡ takenAnswer z c h
   unfolding takenAnswer laneOf
-  drains-answer k (quiet q L f ok i e) = rw (sym (same-writes z h m (b .live) f), eq-eqb (length (writesOn z f m)) 0 e)
+  drains-answer k (quiet q L w f ok i e) = rw (sym (same-writes z h m (b .live) (w ∷ f)), eq-eqb (length (writesOn z (w ∷ f) m)) 0 e)
   drains-answer k (late L r t) = rw (sym (same-stale L (k .lane) (r .held)), t)
   drains-answer k (plain L) = refl
 
@@ -127,9 +127,10 @@ module _ (z : Sizes) (base : ℕ) (h : History) (m : Machine) (b : Book z base h
   unfolding said takenAnswer
   by-move {c} (refusing n e d) p r = refused c n e d r
   by-move {c} (draining {a = a} k d) p r = taken c a (sym p ∙ number-drains d) r (drains-answer k d)
-  by-move (logging u L f k ok i q room) p r =
-      taken (logBy u L f) _ (sym p) r
-      (rw (sym (same-writes z h m (b .live) f), ne-eqb (length (writesOn z f m)) 0 (λ e. omega arith), b .live .clock))
+  by-move (logging u L w f k ok i q room) p r =
+      taken (logBy u L (w ∷ f)) _ (sym p) r
+      (rw (sym (same-writes z h m (b .live) (w ∷ f)), ne-eqb (length (writesOn z (w ∷ f) m)) 0 (λ e. omega arith), b .live .clock))
+  by-move (settling u L k i room) p r = taken (logBy u L []) _ (sym p) r (rw (b .live .clock))
   by-move (redoing L k y t) p r =
       taken (redo L) _ (sym p) r (rw (sym (same-stale L (k .lane) (y .held)), t, b .live .clock))
   by-move (validating u L f k ok y t) p r =

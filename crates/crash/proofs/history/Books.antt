@@ -34,20 +34,20 @@ use Rattle.record.specs.declared.Phase.{Phase}
 use Rattle.record.specs.declared.Phase.the-variants.{Idle, Holds}
 use Rattle.record.specs.declared.Lane.{Lane}
 use Rattle.store.specs.Machine.{Machine}
-use Rattle.store.specs.Calls.{drained, changed, writesOn, appended, logged, committed, isStale, redoPairs}
+use Rattle.store.specs.Calls.{drained, changed, writesOn, appended, marked, logged, committed, isStale, redoPairs}
 use Rattle.store.specs.Calls as calls
 use Rattle.crash.specs.History.{Newest, unset, closingAt, markAt, newestStamp, Commit, Page, History, pageAt}
 use Rattle.crash.specs.History.{isBelow, replay, isSome, wordsBelow, present}
-use Rattle.crash.specs.History.{floorOr, floorOnDrain, settled, stamped, released, heldBy, isAbove, commitAbove, writesLogged}
+use Rattle.crash.specs.History.{floorOr, floorOnDrain, afterDrain, stamped, released, heldBy, isAbove, commitAbove, writesLogged}
 use Rattle.crash.proofs.recovery.Data.{length-replay, replay-snoc, replay-all}
 use Rattle.crash.proofs.induction.Moves.{Known, Ready}
 use Rattle.crash.proofs.history.Lanes.{LaneTo, lane-drained, lane-appended, lane-committed, lane-released}
-use Rattle.crash.proofs.history.Lanes.{PageTo, page-settled, page-stamped, page-released, appended-floor, lane-cases}
+use Rattle.crash.proofs.history.Lanes.{PageTo, page-drained, page-stamped, page-released, appended-floor, lane-cases}
 use Rattle.crash.proofs.lane.Newest.{drained-floor}
 use Rattle.crash.proofs.history.Ranges.{RecordRange, record-range, record-ranged, stamp-later, stamp-now, lane-later, phase-logged}
 use Rattle.crash.proofs.history.Words.{data-appended, data-committed}
 use Rattle.crash.proofs.history.Agree.{lastOf, Holding, Book, Logs}
-use Rattle.crash.proofs.history.Onward.{Onward, onward-settled, onward-released, onward-stamped, onward-commit}
+use Rattle.crash.proofs.history.Onward.{Onward, onward-drained, onward-released, onward-stamped, onward-commit}
 use Rattle.crash.proofs.history.Onward.{last-append, rising-onward, above-onward, upto-onward, holding-onward, writes-held}
 use Rattle.crash.proofs.history.Answers.{same-stale, holds-it}
 
@@ -172,15 +172,15 @@ module _ (z : Sizes) (base : ℕ) (L : ℕ) (lane : L < z.lanes) (h : History) (
         rw (drained-floor (latestIn z (m .cache) L) (laneAt (m .state) L .floor), l .newest L lane)
         (drain-ok (h .clock) (pageAt h L .newest) (laneAt (m .state) L .floor) (λ s e. b .stamps L s lane e) (range-now .floor))
 
-    moved-drained : Moved z base L h (settled L h) m (drained z L m)
-    unfolding settled drained drainedLane present wordsBelow withLane
+    moved-drained : Moved z base L h (afterDrain L h) m (drained z L m)
+    unfolding afterDrain drained drainedLane present wordsBelow withLane
     moved-drained =
         record {
           lane = drainedLane (latestIn z (m .cache) L) (laneAt (m .state) L);
           page = record { held = pageAt h L .held; newest = pageAt h L .newest; floor = floorOnDrain (pageAt h L .newest) (pageAt h L .floor) };
           lanes = lane-drained z L m in-lanes;
-          pages = page-settled L h in-pages;
-          onward = onward-settled L h;
+          pages = page-drained L h in-pages;
+          onward = onward-drained L h;
           in-cache = refl;
           in-nvm = length-drainedNvm L (m .flags) (m .cache) (m .nvm);
           in-flags = length-drainedFlags L (m .flags);
@@ -195,14 +195,14 @@ module _ (z : Sizes) (base : ℕ) (L : ℕ) (lane : L < z.lanes) (h : History) (
           held = b .live .held L lane;
           newest = λ s e. b .stamps L s lane e;
           holding = λ g e.
-              let p = page-settled L h in-pages in
+              let p = page-drained L h in-pages in
               let a = lane-drained z L m in-lanes in
-              holding-onward z h (settled L h) (onward-settled L h) base m (drained z L m) L g (b .holding L g lane e)
+              holding-onward z h (afterDrain L h) (onward-drained L h) base m (drained z L m) L g (b .holding L g lane e)
               (ap (λ (p : Page). p .held) (p .here)) (ap (λ (p : Page). p .newest) (p .here)) (ap (λ (l : Lane). l .redo) (a .here));
         }
 
-    pub book-drained : Book z base (settled L h) (drained z L m)
-    book-drained = book-moved z base L lane h (settled L h) m (drained z L m) b moved-drained
+    pub book-drained : Book z base (afterDrain L h) (drained z L m)
+    book-drained = book-moved z base L lane h (afterDrain L h) m (drained z L m) b moved-drained
 
   -- ---- an append: the lane then has this phase and redo log, its page holds this
   appended-range : (s : ℕ) (ws : List Write) (phase : Phase) (redo : List Pair) → s ≡ h .clock → phaseOk z (h .clock + 2) redo phase ≡ true
@@ -431,35 +431,36 @@ all-below s e (more {x = c} d ds) =
 
 module _ (z : Sizes) (base : ℕ) (h : History) (m : Machine) (b : Book z base h m) (l : Logs z h m) where
   module _ (L : ℕ) (k : Known z m L) where
-    pub book-drains : Book z base (settled L h) (drained z L m)
+    pub book-drains : Book z base (afterDrain L h) (drained z L m)
     book-drains = book-drained z base L (k .lane) h m b l
 
     pub book-logs : (f : List ℕ) → txnBy former maxWrites z.words f ≡ true → 0 < length (writesOn z f m)
-        → Book z base (stamped L closingAt (some f) [] (settled L h)) (logged z L (writesOn z f m) (drained z L m))
+        → Book z base (stamped L closingAt (some f) [] (afterDrain L h)) (logged z L (writesOn z f m) (drained z L m))
     unfolding drained writesOn
-    book-logs f ok some-write = book-logged z base L (k .lane) (settled L h) (drained z L m) book-drains f ok some-write
+    book-logs f ok some-write = book-logged z base L (k .lane) (afterDrain L h) (drained z L m) book-drains f ok some-write
 
-    pub book-marks : Book z base (stamped L markAt none [] (settled L h)) (appended z L [] Idle (laneAt (m .state) L .redo) (drained z L m))
-    book-marks = book-marked z base L (k .lane) (settled L h) (drained z L m) book-drains (laneAt (m .state) L .redo)
+    pub book-marks : Book z base (stamped L markAt none [] (afterDrain L h)) (marked z L m)
+    book-marks = book-marked z base L (k .lane) (afterDrain L h) (drained z L m) book-drains (laneAt (m .state) L .redo)
 
-    pub book-gives-up : Book z base (released L (settled L h)) (calls.released L (drained z L m))
-    book-gives-up = book-released z base L (k .lane) (settled L h) (drained z L m) book-drains
+    pub book-gives-up : Book z base (released L (afterDrain L h)) (calls.released L (drained z L m))
+    book-gives-up = book-released z base L (k .lane) (afterDrain L h) (drained z L m) book-drains
 
     -- a lane that holds a transaction has a floor after its drain
     module _ (y : Ready m L) where
       abbrev it : Logged
       it = loggedIn (laneAt (m .state) L .phase)
 
-      pub floor-drained : pageAt (settled L h) L .floor ≡ At (it .stamp)
+      pub floor-drained : pageAt (afterDrain L h) L .floor ≡ At (it .stamp)
       unfolding floorOnDrain
       floor-drained =
           let v = holds-it z base h m b l L (k .lane) (y .held) in
-          ap (λ (p : Page). p .floor) (page-settled L h (rw (b .pages) (k .lane)) .here) ∙ rw (v .newest)
+          ap (λ (p : Page). p .floor) (page-drained L h (rw (b .pages) (k .lane)) .here) ∙ rw (v .newest)
 
       pub book-validates : (f : List ℕ) → txnBy former maxWrites z.words f ≡ true
-          → Book z base (stamped L closingAt none (f ∷ []) (settled L h)) (committed z L (pairsOf (length (writesOn z f m)) (writesOn z f m)) (drained z L m))
+          → Book z base (stamped L closingAt none (f ∷ []) (afterDrain L h))
+          (committed z L (pairsOf (length (writesOn z f m)) (writesOn z f m)) (drained z L m))
       unfolding drained writesOn
-      book-validates f ok = book-committed z base L (k .lane) (settled L h) (drained z L m) book-drains f ok (it .stamp) floor-drained
+      book-validates f ok = book-committed z base L (k .lane) (afterDrain L h) (drained z L m) book-drains f ok (it .stamp) floor-drained
 
       -- a Redo that is not stale writes what its transaction writes now
       pub redo-now : isStale L m ≡ false → writesLogged z L h ≡ writesOn z (holds-it z base h m b l L (k .lane) (y .held) .txn) m
@@ -486,7 +487,7 @@ module _ (z : Sizes) (base : ℕ) (h : History) (m : Machine) (b : Book z base h
           v .redo ∙ ap (λ (n : ℕ). pairsOf n (writesLogged z L h)) (v .count) ∙ ap (λ (ws : List Write). pairsOf (length ws) ws) (redo-now t)
 
       pub book-redoes : isStale L m ≡ false
-          → Book z base (stamped L closingAt none (heldBy (pageAt h L .held)) (settled L h)) (committed z L (redoPairs L m) (drained z L m))
+          → Book z base (stamped L closingAt none (heldBy (pageAt h L .held)) (afterDrain L h)) (committed z L (redoPairs L m) (drained z L m))
       book-redoes t =
           let v = holds-it z base h m b l L (k .lane) (y .held) in
           rw (redo-pairs t, redo-held) (book-validates (v .txn) (v .ok))

@@ -26,7 +26,7 @@ use Rattle.record.specs.declared.Record.{Record}
 use Rattle.store.specs.Machine.{Machine}
 use Rattle.store.specs.Calls.{drained, changed, appended, committed}
 use Rattle.store.specs.Calls as calls
-use Rattle.crash.specs.History.{Newest, Page, History, blankPage, pageAt, floorOr, floorOnDrain, settled, stamped, released, leastFloorOf}
+use Rattle.crash.specs.History.{Newest, Page, History, blankPage, pageAt, floorOr, floorOnDrain, afterDrain, stamped, released, leastFloorOf}
 
 -- ---- one lane
 -- in record s, made from r, lane L has become l and the others are as they were
@@ -86,10 +86,10 @@ pub record PageTo (g h : History) (L : ℕ) (p : Page) : Type 0 where
   pub pages : length (h .pages) ≡ length (g .pages)
 
 module _ (L : ℕ) (h : History) (i : L < length (h .pages)) where
-  pub page-settled : PageTo h (settled L h) L
+  pub page-drained : PageTo h (afterDrain L h) L
       (record { held = pageAt h L .held; newest = pageAt h L .newest; floor = floorOnDrain (pageAt h L .newest) (pageAt h L .floor) })
-  unfolding settled pageAt
-  page-settled =
+  unfolding afterDrain pageAt
+  page-drained =
       record {
         here = getD-set-same (h .pages) L _ blankPage i;
         others = λ M d. getD-set-other (h .pages) L M _ blankPage d;

@@ -16,7 +16,7 @@ use Rattle.record.specs.Record.{laneAt, pairsOf}
 use Rattle.record.specs.declared.Logged.{Logged}
 use Rattle.store.specs.Machine.{Machine}
 use Rattle.crash.specs.History.{Newest, closingAt, newestStamp, Commit, History, pageAt, isBelow, replay, wordsBelow}
-use Rattle.crash.specs.History.{settled, stamped, released, writesLogged}
+use Rattle.crash.specs.History.{afterDrain, stamped, released, writesLogged}
 use Rattle.crash.proofs.recovery.Data.{Rising, last, then, replay-none}
 use Rattle.crash.proofs.history.Agree.{lastOf, Holding}
 
@@ -54,9 +54,9 @@ pub record Onward (h k : History) : Type 0 where
   pub fresh : All (λ c. h .clock < c .stamp) new
   pub upto : All (λ c. c .stamp ≤ k .clock) new
 
-pub onward-settled : (L : ℕ) (h : History) → Onward h (settled L h)
-unfolding settled
-onward-settled L h =
+pub onward-drained : (L : ℕ) (h : History) → Onward h (afterDrain L h)
+unfolding afterDrain
+onward-drained L h =
     record { new = []; start = refl; lag = refl; clock = le-refl (h .clock); commits = sym (append-nil (h .commits)); rising = last; fresh = nil; upto = nil }
 
 pub onward-released : (L : ℕ) (h : History) → Onward h (released L h)

@@ -16,10 +16,11 @@ use Rattle.log.specs.declared.Timestamp.the-variants.{None, At}
 use Rattle.record.specs.Record.{laneAt, isLogged, recordOk, spent, boundOf, lagPassed}
 use Rattle.store.specs.Machine.{Machine, Step, Cause, firstCause, unless, said}
 use Rattle.store.specs.Calls.{badBuffers, badRecord, badLane, badTxn, notLogged, clockSpent, drained, wouldHit, wouldLag, writesOn, drainRefusal, drainStep}
-use Rattle.store.specs.Calls.{logRefusalBy, logStepBy, redoRefusal, redoStep, isStale, validateRefusalBy, validateStepBy, matches, markRefusal, markStep}
+use Rattle.store.specs.Calls.{logTxnRefusalBy, logTxnStepBy, settleRefusal, settleStep, logRefusalBy, logStepBy}
+use Rattle.store.specs.Calls.{redoRefusal, redoStep, isStale, validateRefusalBy, validateStepBy, matches, markRefusal, markStep}
 use Rattle.crash.specs.Events.{Call, logBy, redo, validateBy, mark, drain, laneOf, callStep}
 use Rattle.crash.specs.History as book
-use Rattle.crash.specs.History.{History, settled, leastFloorOf, writesNow, holdsOne, causesBy, slotsBy}
+use Rattle.crash.specs.History.{History, afterDrain, leastFloorOf, writesNow, holdsOne, causesBy, slotsBy}
 use Rattle.crash.specs.Theorem.{Live, isFull, refusalBy}
 use Rattle.crash.proofs.induction.Moves.{refusalOf, unless-by}
 
@@ -73,9 +74,9 @@ module _ (z : Sizes) (h : History) (m : Machine) (v : Live z h m) where
   same-held L l = v .held L l
 
   -- an append that would hit something, by the history's least floor
-  module _ (bound : (L : ℕ) → L < z.lanes → boundOf z (drained z L m .state) ≡ leastFloorOf (settled L h .pages)) where
+  module _ (bound : (L : ℕ) → L < z.lanes → boundOf z (drained z L m .state) ≡ leastFloorOf (afterDrain L h .pages)) where
     same-hit : (L n : ℕ) → L < z.lanes
-        → wouldHit z L n m ≡ hits z.slots (laneAt (m .state) L .next) n (leastFloorOf (settled L h .pages)) (completeIn z (m .cache) L)
+        → wouldHit z L n m ≡ hits z.slots (laneAt (m .state) L .next) n (leastFloorOf (afterDrain L h .pages)) (completeIn z (m .cache) L)
     unfolding wouldHit
     same-hit L n l = ap (λ (b : Timestamp). hits z.slots (laneAt (m .state) L .next) n b (completeIn z (m .cache) L)) (bound L l)
 
@@ -84,38 +85,42 @@ module _ (z : Sizes) (h : History) (m : Machine) (v : Live z h m) where
     unfolding wouldLag book.wouldLag
     same-lag L l = ap (lagPassed (m .state .lag) (m .state .clock + 2)) (bound L l) ∙ rw (v .lag, v .clock)
 
-    log-full : (r : Rule) (L : ℕ) (f : List ℕ) → L < z.lanes
-        → (leb 1 (length (writesNow z f h)) && wouldHit z L (length (writesNow z f h) + 1) m) ≡ isFull z (logBy r L f) h m
+    log-full : (r : Rule) (L w : ℕ) (f : List ℕ) → L < z.lanes
+        → (leb 1 (length (writesNow z (w ∷ f) h)) && wouldHit z L (length (writesNow z (w ∷ f) h) + 1) m) ≡ isFull z (logBy r L (w ∷ f)) h m
     unfolding isFull slotsBy laneOf
-    log-full r L f l = go (length (writesNow z f h))
+    log-full r L w f l = go (length (writesNow z (w ∷ f) h))
       where
         go : (n : ℕ) → (leb 1 n && wouldHit z L (n + 1) m)
-            ≡ hits z.slots (laneAt (m .state) L .next) (cond (eqb n 0) 0 (n + 1)) (leastFloorOf (settled L h .pages)) (completeIn z (m .cache) L)
-        go zero = sym (hits-nothing z.slots (laneAt (m .state) L .next) (leastFloorOf (settled L h .pages)) (completeIn z (m .cache) L))
+            ≡ hits z.slots (laneAt (m .state) L .next) (cond (eqb n 0) 0 (n + 1)) (leastFloorOf (afterDrain L h .pages)) (completeIn z (m .cache) L)
+        go zero = sym (hits-nothing z.slots (laneAt (m .state) L .next) (leastFloorOf (afterDrain L h .pages)) (completeIn z (m .cache) L))
         go (suc n) = rw (le-leb 1 (suc n) (omega arith), ne-eqb (suc n) 0 (λ e. omega arith)) (same-hit L (suc n + 1) l)
 
-    mark-full : (L : ℕ) → L < z.lanes → wouldHit z L 1 m ≡ isFull z (mark L) h m
-    unfolding isFull slotsBy laneOf
-    mark-full L l = same-hit L 1 l
+    -- a call that appends a mark
+    mark-full : (c : Call) → slotsBy z c h ≡ 1 → laneOf c < z.lanes → wouldHit z (laneOf c) 1 m ≡ isFull z c h m
+    unfolding isFull
+    mark-full c e l = rw e (same-hit (laneOf c) 1 l)
 
     -- a call that appends nothing
     none-full : (c : Call) → slotsBy z c h ≡ 0 → refusalBy z c h m ≡ firstCause (causesBy z c h)
     unfolding refusalBy isFull
     none-full c e =
-        rw (e, hits-nothing z.slots (laneAt (m .state) (laneOf c) .next) (leastFloorOf (settled (laneOf c) h .pages)) (completeIn z (m .cache) (laneOf c)))
+        rw (e, hits-nothing z.slots (laneAt (m .state) (laneOf c) .next) (leastFloorOf (afterDrain (laneOf c) h .pages)) (completeIn z (m .cache) (laneOf c)))
         (end-false (causesBy z c h) 9)
 
     module _ (ok : Fine z m) where
       log-refusal : (r : Rule) (L : ℕ) (f : List ℕ) → refusalOf z (logBy r L f) m ≡ refusalBy z (logBy r L f) h m
-      unfolding refusalOf logRefusalBy refusalBy causesBy badBuffers badRecord badLane badTxn
-      log-refusal r L f =
+      unfolding refusalOf logRefusalBy logTxnRefusalBy settleRefusal refusalBy causesBy slotsBy laneOf badBuffers badRecord badLane badTxn clockSpent
+      log-refusal r L [] =
           past-two _ _ (leb z.lanes L) 3 _ _ (ok .buffers) (ok .fields)
-          (λ e. let l = leb-false z.lanes L e in rw (same-writes f, same-spent, same-held L l, same-lag L l, log-full r L f l))
+          (λ e. let l = leb-false z.lanes L e in rw (same-spent, same-held L l, same-lag L l, mark-full (logBy r L []) refl l))
+      log-refusal r L (w ∷ f) =
+          past-two _ _ (leb z.lanes L) 3 _ _ (ok .buffers) (ok .fields)
+          (λ e. let l = leb-false z.lanes L e in rw (same-writes (w ∷ f), same-spent, same-held L l, same-lag L l, log-full r L w f l))
 
       mark-refusal : (L : ℕ) → refusalOf z (mark L) m ≡ refusalBy z (mark L) h m
-      unfolding refusalOf markRefusal refusalBy causesBy badBuffers badRecord badLane clockSpent
+      unfolding refusalOf markRefusal refusalBy causesBy slotsBy laneOf badBuffers badRecord badLane clockSpent
       mark-refusal L =
-          past-two _ _ (leb z.lanes L) 3 _ _ (ok .buffers) (ok .fields) (λ e. rw (same-spent, mark-full L (leb-false z.lanes L e)))
+          past-two _ _ (leb z.lanes L) 3 _ _ (ok .buffers) (ok .fields) (λ e. rw (same-spent, mark-full (mark L) refl (leb-false z.lanes L e)))
 
       redo-refusal : (L : ℕ) → refusalOf z (redo L) m ≡ firstCause (causesBy z (redo L) h)
       unfolding refusalOf redoRefusal causesBy badBuffers badRecord badLane notLogged clockSpent book.notHeld
@@ -150,8 +155,10 @@ number-cond false s t p q = q
 
 -- a call answers the number of its refusal
 pub number-is : (z : Sizes) (m : Machine) (c : Call) → said (callStep z c m .answer) .number ≡ refusalOf z c m
-unfolding callStep refusalOf logStepBy redoStep validateStepBy markStep drainStep said
-number-is z m (logBy r L f) = number-unless (logRefusalBy r z L f m) m _ (number-cond (eqb (length (writesOn z f m)) 0) _ _ refl refl)
+unfolding callStep refusalOf logStepBy logRefusalBy logTxnStepBy settleStep redoStep validateStepBy markStep drainStep said
+number-is z m (logBy r L []) = number-unless (settleRefusal z L m) m _ refl
+number-is z m (logBy r L (w ∷ f)) =
+    number-unless (logTxnRefusalBy r z L (w ∷ f) m) m _ (number-cond (eqb (length (writesOn z (w ∷ f) m)) 0) _ _ refl refl)
 number-is z m (redo L) = number-unless (redoRefusal z L m) m _ (number-cond (isStale L m) _ _ refl refl)
 number-is z m (validateBy r L f) = number-unless (validateRefusalBy r z L f m) m _ (number-cond (matches z L (writesOn z f m) m) _ _ refl refl)
 number-is z m (mark L) = number-unless (markRefusal z L m) m _ refl

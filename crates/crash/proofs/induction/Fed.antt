@@ -11,52 +11,52 @@ use Rattle.txn.specs.Txn.{maxWrites, former, txnBy}
 use Rattle.image.specs.inner.FlushLaws.{length-drainedNvm}
 use Rattle.image.specs.declared.Sizes.{Sizes}
 use Rattle.record.specs.Record.{laneAt, isLogged, pairsOf}
-use Rattle.record.specs.declared.Phase.the-variants.{Idle}
 use Rattle.store.specs.Machine.{Machine, Step, firstCause, unless, said}
-use Rattle.store.specs.Calls.{badBuffers, badRecord, badLane, drained, changed, writesOn, appended, logged}
+use Rattle.store.specs.Calls.{badBuffers, badRecord, badLane, drained, changed, writesOn, appended, marked, logged}
 use Rattle.store.specs.Calls.{committed, isStale, redoPairs, matches, drainRefusal, drainStep}
 use Rattle.store.specs.Calls as calls
 use Rattle.store.specs.declared.Answer.{Answer}
 use Rattle.store.specs.declared.Answer.the-variants.{Refused, Done}
 use Rattle.crash.specs.Events.{Call, drain, laneOf, callStep, vandzulge, isTaken}
-use Rattle.crash.specs.History.{closingAt, markAt, History, pageAt, settled, stamped, released, heldBy, isCounted, taken, afterCall}
+use Rattle.crash.specs.History.{closingAt, markAt, History, pageAt, afterDrain, stamped, released, heldBy, isCounted, taken, afterCall}
 use Rattle.crash.proofs.induction.Moves.{Known, Room, Ready, Drains, quiet, late, plain}
-use Rattle.crash.proofs.induction.Moves.{Move, refusing, draining, logging, redoing, validating, giving-up, marking, call-moves}
+use Rattle.crash.proofs.induction.Moves.{Move, refusing, draining, logging, settling, redoing, validating, giving-up, marking, call-moves}
 
 -- ---- the history
 pub fed-refusing : (c : Call) (n : ℕ) (h : History) → afterCall c (Refused n) h ≡ h
 unfolding afterCall said
 fed-refusing c n h = refl
 
-pub fed-draining : (z : Sizes) (m : Machine) {c : Call} {a : Answer} (h : History) → Drains z m c a → afterCall c a h ≡ settled (laneOf c) h
+pub fed-draining : (z : Sizes) (m : Machine) {c : Call} {a : Answer} (h : History) → Drains z m c a → afterCall c a h ≡ afterDrain (laneOf c) h
 unfolding afterCall said taken isCounted laneOf
-fed-draining z m h (quiet q L f ok i e) = refl
+fed-draining z m h (quiet q L w f ok i e) = refl
 fed-draining z m h (late L r t) = refl
 fed-draining z m h (plain L) = refl
 
 -- what each move does to machine and history together: an invariant is kept by calls if it is kept so
 pub record Steps (z : Sizes) (Inv : Machine → History → Type 0) : Type 0 where
-  pub drains : (m : Machine) (h : History) (L : ℕ) → Inv m h → Known z m L → Inv (drained z L m) (settled L h)
+  pub drains : (m : Machine) (h : History) (L : ℕ) → Inv m h → Known z m L → Inv (drained z L m) (afterDrain L h)
   pub logs : (m : Machine) (h : History) (L : ℕ) (f : List ℕ) → Inv m h → Known z m L → txnBy former maxWrites z.words f ≡ true
       → isLogged (laneAt (m .state) L .phase) ≡ false → 0 < length (writesOn z f m) → Room z m L (length (writesOn z f m) + 1)
-      → Inv (logged z L (writesOn z f m) (drained z L m)) (stamped L closingAt (some f) [] (settled L h))
+      → Inv (logged z L (writesOn z f m) (drained z L m)) (stamped L closingAt (some f) [] (afterDrain L h))
   pub redoes : (m : Machine) (h : History) (L : ℕ) → Inv m h → Known z m L → Ready m L → isStale L m ≡ false
-      → Inv (committed z L (redoPairs L m) (drained z L m)) (stamped L closingAt none (heldBy (pageAt h L .held)) (settled L h))
+      → Inv (committed z L (redoPairs L m) (drained z L m)) (stamped L closingAt none (heldBy (pageAt h L .held)) (afterDrain L h))
   pub validates : (m : Machine) (h : History) (L : ℕ) (f : List ℕ) → Inv m h → Known z m L → txnBy former maxWrites z.words f ≡ true
       → Ready m L → matches z L (writesOn z f m) m ≡ true
-      → Inv (committed z L (pairsOf (length (writesOn z f m)) (writesOn z f m)) (drained z L m)) (stamped L closingAt none (f ∷ []) (settled L h))
+      → Inv (committed z L (pairsOf (length (writesOn z f m)) (writesOn z f m)) (drained z L m)) (stamped L closingAt none (f ∷ []) (afterDrain L h))
   pub gives-up : (m : Machine) (h : History) (L : ℕ) (f : List ℕ) → Inv m h → Known z m L → txnBy former maxWrites z.words f ≡ true
       → Ready m L → matches z L (writesOn z f m) m ≡ false
-      → Inv (calls.released L (drained z L m)) (released L (settled L h))
+      → Inv (calls.released L (drained z L m)) (released L (afterDrain L h))
   pub marks : (m : Machine) (h : History) (L : ℕ) → Inv m h → Known z m L → Room z m L 1
-      → Inv (appended z L [] Idle (laneAt (m .state) L .redo) (drained z L m)) (stamped L markAt none [] (settled L h))
+      → Inv (marked z L m) (stamped L markAt none [] (afterDrain L h))
 
 module _ (z : Sizes) (Inv : Machine → History → Type 0) (steps : Steps z Inv) where
   by-move : (m : Machine) (h : History) {c : Call} {s : Step} → Move z m c s → Inv m h → Inv (s .machine) (afterCall c (s .answer) h)
   unfolding afterCall said taken isCounted
   by-move m h {c} (refusing n e p) v = rw (fed-refusing c n h) v
   by-move m h (draining k d) v = rw (fed-draining z m h d) (steps .drains m h _ v k)
-  by-move m h (logging q L f k ok i p r) v = rw (le-leb 1 (length (writesOn z f m)) p) (steps .logs m h L f v k ok i p r)
+  by-move m h (logging q L w f k ok i p r) v = rw (le-leb 1 (length (writesOn z (w ∷ f) m)) p) (steps .logs m h L (w ∷ f) v k ok i p r)
+  by-move m h (settling q L k i r) v = steps .marks m h L v k r
   by-move m h (redoing L k r t) v = steps .redoes m h L v k r t
   by-move m h (validating q L f k ok r t) v = steps .validates m h L f v k ok r t
   by-move m h (giving-up q L f k ok r t) v = steps .gives-up m h L f v k ok r t
@@ -70,7 +70,8 @@ taken-by : (z : Sizes) (m : Machine) {c : Call} {s : Step} → Move z m c s → 
 unfolding said laneOf
 taken-by z m (refusing n e p) t = clash false t refl
 taken-by z m (draining k d) t = k
-taken-by z m (logging q L f k ok i p r) t = k
+taken-by z m (logging q L w f k ok i p r) t = k
+taken-by z m (settling q L k i r) t = k
 taken-by z m (redoing L k r u) t = k
 taken-by z m (validating q L f k ok r u) t = k
 taken-by z m (giving-up q L f k ok r u) t = k
@@ -91,7 +92,8 @@ length-by : (z : Sizes) (m : Machine) {c : Call} {s : Step} → Move z m c s →
 unfolding drained logged appended committed changed calls.released
 length-by z m (refusing n e p) = refl
 length-by z m {c} (draining k d) = length-drainedNvm (laneOf c) (m .flags) (m .cache) (m .nvm)
-length-by z m (logging q L f k ok i p r) = length-drainedNvm L (m .flags) (m .cache) (m .nvm)
+length-by z m (logging q L w f k ok i p r) = length-drainedNvm L (m .flags) (m .cache) (m .nvm)
+length-by z m (settling q L k i r) = length-drainedNvm L (m .flags) (m .cache) (m .nvm)
 length-by z m (redoing L k r t) = length-drainedNvm L (m .flags) (m .cache) (m .nvm)
 length-by z m (validating q L f k ok r t) = length-drainedNvm L (m .flags) (m .cache) (m .nvm)
 length-by z m (giving-up q L f k ok r t) = length-drainedNvm L (m .flags) (m .cache) (m .nvm)

@@ -13,13 +13,12 @@ use Rattle.image.specs.Flush.{writtenBack}
 use Rattle.image.specs.inner.FlushLaws.{length-writtenBack}
 use Rattle.image.specs.declared.Sizes.{Sizes}
 use Rattle.record.specs.Record.{laneAt, isLogged, lagOk, pairsOf}
-use Rattle.record.specs.declared.Phase.the-variants.{Idle}
 use Rattle.store.specs.Machine.{Machine}
-use Rattle.store.specs.Calls.{started, startImage, drained, writesOn, appended, logged, committed, isStale, redoPairs, matches}
+use Rattle.store.specs.Calls.{started, startImage, drained, writesOn, marked, logged, committed, isStale, redoPairs, matches}
 use Rattle.store.specs.Calls as calls
 use Rattle.recovery.specs.Recovery.{boundary, newBase, Restarted}
 use Rattle.crash.specs.Events.{live, vandzulge}
-use Rattle.crash.specs.History.{closingAt, markAt, History, opened, pageAt, wordsBelow, settled, stamped, released, heldBy, restarted, leastFloorOf}
+use Rattle.crash.specs.History.{closingAt, markAt, History, opened, pageAt, wordsBelow, afterDrain, stamped, released, heldBy, restarted, leastFloorOf}
 use Rattle.crash.specs.Theorem.{endOf, InStep, NotBelow, recoveryAnswer, Holds, CrashTheorem, FormerTheorem}
 use Rattle.recovery.specs.inner.SequenceLaws.{newBase-even}
 use Rattle.recovery.specs.inner.AgainLaws.{recoveredImage}
@@ -58,23 +57,23 @@ pub record LogLaws (z : Sizes) (G : ℕ → Machine → History → Type 0) : Ty
   -- it is kept by write-backs and by each move
   pub writes : (base : ℕ) (m : Machine) (h : History) (i : ℕ) → Book z base h m → G base m h
       → G base (record { state = m .state; cache = m .cache; nvm = writtenBack i (m .cache) (m .nvm); flags = m .flags }) h
-  pub drains : (base : ℕ) (m : Machine) (h : History) (L : ℕ) → Book z base h m → G base m h → Known z m L → G base (drained z L m) (settled L h)
+  pub drains : (base : ℕ) (m : Machine) (h : History) (L : ℕ) → Book z base h m → G base m h → Known z m L → G base (drained z L m) (afterDrain L h)
   pub appends : (base : ℕ) (m : Machine) (h : History) (L : ℕ) (f : List ℕ) → Book z base h m → G base m h → Known z m L
       → txnBy former maxWrites z.words f ≡ true
       → isLogged (laneAt (m .state) L .phase) ≡ false → 0 < length (writesOn z f m) → Room z m L (length (writesOn z f m) + 1)
-      → G base (logged z L (writesOn z f m) (drained z L m)) (stamped L closingAt (some f) [] (settled L h))
+      → G base (logged z L (writesOn z f m) (drained z L m)) (stamped L closingAt (some f) [] (afterDrain L h))
   pub redoes : (base : ℕ) (m : Machine) (h : History) (L : ℕ) → Book z base h m → G base m h → Known z m L → Ready m L → isStale L m ≡ false
-      → G base (committed z L (redoPairs L m) (drained z L m)) (stamped L closingAt none (heldBy (pageAt h L .held)) (settled L h))
+      → G base (committed z L (redoPairs L m) (drained z L m)) (stamped L closingAt none (heldBy (pageAt h L .held)) (afterDrain L h))
   pub validates : (base : ℕ) (m : Machine) (h : History) (L : ℕ) (f : List ℕ) → Book z base h m → G base m h → Known z m L
       → txnBy former maxWrites z.words f ≡ true
       → Ready m L → matches z L (writesOn z f m) m ≡ true
-      → G base (committed z L (pairsOf (length (writesOn z f m)) (writesOn z f m)) (drained z L m)) (stamped L closingAt none (f ∷ []) (settled L h))
+      → G base (committed z L (pairsOf (length (writesOn z f m)) (writesOn z f m)) (drained z L m)) (stamped L closingAt none (f ∷ []) (afterDrain L h))
   pub gives-up : (base : ℕ) (m : Machine) (h : History) (L : ℕ) (f : List ℕ) → Book z base h m → G base m h → Known z m L
       → txnBy former maxWrites z.words f ≡ true
       → Ready m L → matches z L (writesOn z f m) m ≡ false
-      → G base (calls.released L (drained z L m)) (released L (settled L h))
+      → G base (calls.released L (drained z L m)) (released L (afterDrain L h))
   pub marks : (base : ℕ) (m : Machine) (h : History) (L : ℕ) → Book z base h m → G base m h → Known z m L → Room z m L 1
-      → G base (appended z L [] Idle (laneAt (m .state) L .redo) (drained z L m)) (stamped L markAt none [] (settled L h))
+      → G base (marked z L m) (stamped L markAt none [] (afterDrain L h))
 
 -- ---- the whole invariant
 pub record Inv (z : Sizes) (G : ℕ → Machine → History → Type 0) (m : Machine) (h : History) : Type 0 where

@@ -19,17 +19,17 @@ use Rattle.log.specs.declared.Timestamp.{Timestamp}
 use Rattle.log.specs.declared.Timestamp.the-variants.{None, At}
 use Rattle.record.specs.Record.{lesser}
 use Rattle.store.specs.Machine.{Machine, Said, said}
-use Rattle.crash.specs.Events.{Call, mark, drain, laneOf, live, Design, happens}
+use Rattle.crash.specs.Events.{Call, logBy, redo, validateBy, mark, drain, laneOf, live, Design, happens}
 use Rattle.crash.specs.Events.{Event, format, call, recover}
 use Rattle.crash.specs.Events.{Reply, answered, recovered, failed, ignored}
 use Rattle.crash.specs.History.{markAt, Page, History, blankPage, pageAt}
-use Rattle.crash.specs.History.{floorOr, floorOnDrain, settled, stamped, released, taken, afterCall}
+use Rattle.crash.specs.History.{floorOr, floorOnDrain, afterDrain, stamped, released, taken, afterCall}
 use Rattle.crash.specs.History.{fedAnswer, fed, leastFloorOf}
 use Rattle.crash.specs.Theorem.{Holds, CrashTheorem}
 use Rattle.crash.proofs.induction.Lists.{holds-next, holds-after}
 use Rattle.crash.proofs.induction.Pages.{drained-twice, onDrain, page-set, opened-page, Keeping, MayStep, after-keeps}
 use Rattle.crash.proofs.induction.Kept.{recovery-keeps}
-use Rattle.crash.specs.Corollaries.{World, nextWorld, worldAfter, isDone, isDrain, isIdle, staysIdle, othersFloor, IdleTheorem}
+use Rattle.crash.specs.Corollaries.{World, nextWorld, worldAfter, isDone, isDrain, isIdle, staysIdle, othersFloor, isMark, IdleTheorem}
 
 -- ---- one page
 -- a page that a drain leaves without floor
@@ -37,16 +37,16 @@ unfoldable Marked : Page → Type 0
 Marked p = floorOnDrain (p .newest) (p .floor) ≡ None
 
 -- and one that is without floor already
-unfoldable Settled : Page → Type 0
-Settled p = (p .floor ≡ None) × Marked p
+unfoldable Floorless : Page → Type 0
+Floorless p = (p .floor ≡ None) × Marked p
 
 -- ---- what idle events do to a page: a property that a blank page has and that a drain keeps is kept
 module _ (P : Page → Type 0) (blank : P blankPage) (drains : (p : Page) → P p → P (onDrain p)) (L : ℕ) where
   page-keeping : Keeping (λ h. P (pageAt h L)) (λ M. L ≢ M)
-  unfolding settled stamped released pageAt
+  unfolding afterDrain stamped released pageAt
   page-keeping =
       record {
-        settles = λ M h i. elim (ℕ-discrete M L) [
+        drains = λ M h i. elim (ℕ-discrete M L) [
           | yes e ↦ rw e (page-set P blank L (h .pages) (onDrain (getD (h .pages) L blankPage)) (drains (getD (h .pages) L blankPage) i))
           | no d ↦ subst P (sym (getD-set-other (h .pages) M L (onDrain (getD (h .pages) M blankPage)) blankPage (λ e. d (sym e)))) i
         ];
@@ -71,24 +71,24 @@ module _ (P : Page → Type 0) (blank : P blankPage) (drains : (p : Page) → P 
       (inl (λ lag start clock. opened-page P blank z lag start clock L)) i
 
 -- ---- a mark, and a drain
-blank-settled : Settled blankPage
-unfolding Settled Marked floorOnDrain
-blank-settled = (refl, refl)
+blank-floorless : Floorless blankPage
+unfolding Floorless Marked floorOnDrain
+blank-floorless = (refl, refl)
 
 blank-marked : Marked blankPage
 unfolding Marked floorOnDrain
 blank-marked = refl
 
-drain-settles : (p : Page) → Marked p → Settled (onDrain p)
-unfolding Settled Marked
-drain-settles p e = (e, drained-twice (p .newest) (p .floor) ∙ e)
+drain-ends : (p : Page) → Marked p → Floorless (onDrain p)
+unfolding Floorless Marked
+drain-ends p e = (e, drained-twice (p .newest) (p .floor) ∙ e)
 
-settled-marked : (p : Page) → Settled p → Marked p
-unfolding Settled
-settled-marked p e = e .1
+floorless-marked : (p : Page) → Floorless p → Marked p
+unfolding Floorless
+floorless-marked p e = e .1
 
 drain-keeps : (p : Page) → Marked p → Marked (onDrain p)
-drain-keeps p e = settled-marked (onDrain p) (drain-settles p e)
+drain-keeps p e = floorless-marked (onDrain p) (drain-ends p e)
 
 -- a call that is done is fed as taken
 done-call : (P : History → Type 0) (z : Sizes) (c : Call) (r : Reply) (found : List ℕ) (h : History) → isDone r ≡ true
@@ -104,19 +104,27 @@ marks : (held : Option (List ℕ)) (s : ℕ) (floor : Timestamp) → Marked (rec
 unfolding Marked floorOnDrain
 marks held s floor = refl
 
-mark-marks : (L : ℕ) (t : Said) (h : History) → Marked (pageAt (taken (mark L) t h) L)
-unfolding taken stamped pageAt
-mark-marks L t h =
-    let k = settled L h in
-    let s : ℕ = k .clock + 2 in
-    let p : Page = record { held = none; newest = markAt s; floor = floorOr (pageAt k L .floor) (At s) } in
-    page-set Marked blank-marked L (k .pages) p (marks none s (p .floor))
+stamp-marks : (L : ℕ) (h : History) → Marked (pageAt (stamped L markAt none [] h) L)
+unfolding stamped pageAt
+stamp-marks L h =
+    let s : ℕ = h .clock + 2 in
+    let p : Page = record { held = none; newest = markAt s; floor = floorOr (pageAt h L .floor) (At s) } in
+    page-set Marked blank-marked L (h .pages) p (marks none s (p .floor))
 
-drain-drains : (L : ℕ) (t : Said) (h : History) → Marked (pageAt h L) → Settled (pageAt (taken (drain L) t h) L)
-unfolding taken settled pageAt
+mark-marks : (x : Call) → isMark x ≡ true → (t : Said) (h : History) → Marked (pageAt (taken x t h) (laneOf x))
+unfolding isMark taken laneOf
+mark-marks (logBy r L []) e t h = stamp-marks L (afterDrain L h)
+mark-marks (logBy r L (w ∷ f)) e t h = clash false e refl
+mark-marks (redo L) e t h = clash false e refl
+mark-marks (validateBy r L f) e t h = clash false e refl
+mark-marks (mark L) e t h = stamp-marks L (afterDrain L h)
+mark-marks (drain L) e t h = clash false e refl
+
+drain-drains : (L : ℕ) (t : Said) (h : History) → Marked (pageAt h L) → Floorless (pageAt (taken (drain L) t h) L)
+unfolding taken afterDrain pageAt
 drain-drains L t h i =
-    page-set Settled blank-settled L (h .pages) (onDrain (getD (h .pages) L blankPage))
-    (drain-settles (getD (h .pages) L blankPage) i)
+    page-set Floorless blank-floorless L (h .pages) (onDrain (getD (h .pages) L blankPage))
+    (drain-ends (getD (h .pages) L blankPage) i)
 
 -- ---- floors
 -- a lane without floor counts for nothing
@@ -126,16 +134,19 @@ without-floor [] L e = refl
 without-floor (p ∷ ps) zero e = rw e
 without-floor (p ∷ ps) (suc L) e = ap (lesser (p .floor)) (without-floor ps L e)
 
-others-floor : (L : ℕ) (h : History) → Settled (pageAt h L) → leastFloorOf (h .pages) ≡ othersFloor L h
-unfolding Settled othersFloor pageAt
+others-floor : (L : ℕ) (h : History) → Floorless (pageAt h L) → leastFloorOf (h .pages) ≡ othersFloor L h
+unfolding Floorless othersFloor pageAt
 others-floor L h e = without-floor (h .pages) L (e .0)
 
-module _ (d : Design) (z : Sizes) (lag : ℕ) (start : List ℕ) (m : Machine) (h : History) (L : ℕ) (es fs gs : List Event) where
+module _ (d : Design) (z : Sizes) (lag : ℕ) (start : List ℕ) (m : Machine) (h : History) (x : Call) (es fs gs : List Event) where
+  abbrev L : ℕ
+  L = laneOf x
+
   abbrev a : World
   a = worldAfter d z (record { system = live m; history = h }) (format lag start ∷ es)
 
   abbrev b : World
-  b = worldAfter d z (nextWorld d z a (call (mark L))) fs
+  b = worldAfter d z (nextWorld d z a (call x)) fs
 
   abbrev c : World
   c = worldAfter d z (nextWorld d z b (call (drain L))) gs
@@ -147,30 +158,30 @@ module _ (d : Design) (z : Sizes) (lag : ℕ) (start : List ℕ) (m : Machine) (
       let second : List Event = fs ++ (call (drain L) ∷ third) in
       holds-after d z (trailer z) (nextWorld d z b (call (drain L))) gs (e ∷ [])
       (holds-next d z (trailer z) b (call (drain L)) third
-      (holds-after d z (trailer z) (nextWorld d z a (call (mark L))) fs (call (drain L) ∷ third)
-      (holds-next d z (trailer z) a (call (mark L)) second
-      (holds-after d z (trailer z) (record { system = live m; history = h }) (format lag start ∷ es) (call (mark L) ∷ second)
-      (v (es ++ (call (mark L) ∷ second)))))))
+      (holds-after d z (trailer z) (nextWorld d z a (call x)) fs (call (drain L) ∷ third)
+      (holds-next d z (trailer z) a (call x) second
+      (holds-after d z (trailer z) (record { system = live m; history = h }) (format lag start ∷ es) (call x ∷ second)
+      (v (es ++ (call x ∷ second)))))))
 
   -- the lane's page from the mark on, and from the drain on
-  page-marked : isDone (happens d z (a .system) (call (mark L)) .reply) ≡ true → Marked (pageAt (nextWorld d z a (call (mark L)) .history) L)
+  page-marked : isMark x ≡ true → isDone (happens d z (a .system) (call x) .reply) ≡ true → Marked (pageAt (nextWorld d z a (call x) .history) L)
   unfolding nextWorld
-  page-marked done = done-call (λ k. Marked (pageAt k L)) z (mark L) _ _ (a .history) done (λ t. mark-marks L t (a .history))
+  page-marked is done = done-call (λ k. Marked (pageAt k L)) z x _ _ (a .history) done (λ t. mark-marks x is t (a .history))
 
-  page-settled : isDone (happens d z (b .system) (call (drain L)) .reply) ≡ true → Marked (pageAt (b .history) L)
-      → Settled (pageAt (nextWorld d z b (call (drain L)) .history) L)
+  page-floorless : isDone (happens d z (b .system) (call (drain L)) .reply) ≡ true → Marked (pageAt (b .history) L)
+      → Floorless (pageAt (nextWorld d z b (call (drain L)) .history) L)
   unfolding nextWorld
-  page-settled done i = done-call (λ k. Settled (pageAt k L)) z (drain L) _ _ (b .history) done (λ t. drain-drains L t (b .history) i)
+  page-floorless done i = done-call (λ k. Floorless (pageAt k L)) z (drain L) _ _ (b .history) done (λ t. drain-drains L t (b .history) i)
 
-  page-rests : isDone (happens d z (a .system) (call (mark L)) .reply) ≡ true → staysIdle L fs ≡ true
-      → isDone (happens d z (b .system) (call (drain L)) .reply) ≡ true → staysIdle L gs ≡ true → Settled (pageAt (c .history) L)
-  page-rests marks idle drains stays =
-      idle-page Settled blank-settled (λ p e. drain-settles p (settled-marked p e)) L d z (nextWorld d z b (call (drain L))) gs stays
-      (page-settled drains (idle-page Marked blank-marked drain-keeps L d z (nextWorld d z a (call (mark L))) fs idle (page-marked marks)))
+  page-rests : isMark x ≡ true → isDone (happens d z (a .system) (call x) .reply) ≡ true → staysIdle L fs ≡ true
+      → isDone (happens d z (b .system) (call (drain L)) .reply) ≡ true → staysIdle L gs ≡ true → Floorless (pageAt (c .history) L)
+  page-rests is marks idle drains stays =
+      idle-page Floorless blank-floorless (λ p e. drain-ends p (floorless-marked p e)) L d z (nextWorld d z b (call (drain L))) gs stays
+      (page-floorless drains (idle-page Marked blank-marked drain-keeps L d z (nextWorld d z a (call x)) fs idle (page-marked is marks)))
 
 pub idle-from : (d : Design) → CrashTheorem d → IdleTheorem d
 unfolding CrashTheorem IdleTheorem
-idle-from d theorem z lag start m h ok L es fs gs marks idle drains stays lag₁ limit j =
-    let q = others-floor L _ (page-rests d z lag start m h L es fs gs marks idle drains stays) in
-    recovery-keeps d z (c d z lag start m h L es fs gs) _ (λ s e. rw q e) lag₁ limit j
-    (holds-last d z lag start m h L es fs gs (recover lag₁ limit j) (theorem z lag start m h ok))
+idle-from d theorem z lag start m h ok x es fs gs is marks idle drains stays lag₁ limit j =
+    let q = others-floor (laneOf x) _ (page-rests d z lag start m h x es fs gs is marks idle drains stays) in
+    recovery-keeps d z (c d z lag start m h x es fs gs) _ (λ s e. rw q e) lag₁ limit j
+    (holds-last d z lag start m h x es fs gs (recover lag₁ limit j) (theorem z lag start m h ok))

@@ -17,7 +17,7 @@ use Rattle.crash.specs.Theorem.{NotBelow, noBoundary, atLeast, Finishes,
 use Rattle.crash.specs.Corollaries.{World, KeptBy, Kept}
 
 -- what is below the floor is below the boundary
-not-below : {f b : Timestamp} → NotBelow f b → (s : ℕ) → isBelow f s ≡ true → isBelow b s ≡ true
+pub not-below : {f b : Timestamp} → NotBelow f b → (s : ℕ) → isBelow f s ≡ true → isBelow b s ≡ true
 unfolding isBelow
 not-below noBoundary s e = refl
 not-below (atLeast {f = f} {b = b} l) s e = lt-ltb s b (omega (arith, ltb-true s f e))

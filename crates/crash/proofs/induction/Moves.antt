@@ -1,4 +1,4 @@
--- Every call is one of seven moves, with the facts that it has checked: an invariant goes by cases on the move and opens no step. Assumes nothing.
+-- Every call is one of eight moves, with the facts that it has checked: an invariant goes by cases on the move and opens no step. Assumes nothing.
 use mathlib.Core.Path.{_≡_, refl}
 use mathlib.Core.Bool.{Bool, true, false, cond, not, _&&_}
 use mathlib.Core.List.{List, [], _∷_}
@@ -13,13 +13,13 @@ use Rattle.txn.specs.inner.CheckLaws.{txn-former}
 use Rattle.image.specs.Image.{buffersOk}
 use Rattle.image.specs.declared.Sizes.{Sizes}
 use Rattle.record.specs.Record.{laneAt, isLogged, recordOk, spent, pairsOf}
-use Rattle.record.specs.declared.Phase.the-variants.{Idle}
 use Rattle.store.specs.Machine.{Machine, Step, Cause, firstCause, unless}
 use Rattle.store.specs.Calls.{badBuffers, badRecord, badLane, badTxn, notLogged, clockSpent, drained, wouldHit, writesOn}
-use Rattle.store.specs.Calls.{appended, logged, committed, isStale, redoPairs, matches, released, drainRefusal, drainStep}
-use Rattle.store.specs.Calls.{logRefusalBy, logStepBy, redoRefusal, redoStep, validateRefusalBy, validateStepBy, markRefusal, markStep}
+use Rattle.store.specs.Calls.{marked, logged, committed, isStale, redoPairs, matches, released, drainRefusal, drainStep}
+use Rattle.store.specs.Calls.{logTxnRefusalBy, logTxnStepBy, settleRefusal, settleStep, logRefusalBy, logStepBy, redoRefusal, redoStep}
+use Rattle.store.specs.Calls.{validateRefusalBy, validateStepBy, markRefusal, markStep}
 use Rattle.store.specs.declared.Answer.{Answer}
-use Rattle.store.specs.declared.Answer.the-variants.{Refused, Done, NoWrites, Logged, Committed, Stale, Changed, Marked}
+use Rattle.store.specs.declared.Answer.the-variants.{Refused, Done, NoWrites, Logged, Settled, Committed, Stale, Changed, Marked}
 use Rattle.crash.specs.Events.{Call, logBy, redo, validateBy, mark, drain, laneOf, callStep}
 
 -- ---- what a call has checked
@@ -50,21 +50,23 @@ refusalOf z (drain L) m = drainRefusal z L m
 -- ---- the moves. A transaction that either rule takes is well formed by the former one, and the laws ask for no more
 -- the calls that only drain: a Log that writes nothing, a Redo that is stale, a Drain
 pub data Drains (z : Sizes) (m : Machine) : Call → Answer → Type 0 where
-  quiet : (r : Rule) (L : ℕ) (f : List ℕ) → txnBy former maxWrites z.words f ≡ true → isLogged (laneAt (m .state) L .phase) ≡ false
-      → length (writesOn z f m) ≡ 0 → Drains z m (logBy r L f) NoWrites
+  quiet : (r : Rule) (L w : ℕ) (f : List ℕ) → txnBy former maxWrites z.words (w ∷ f) ≡ true → isLogged (laneAt (m .state) L .phase) ≡ false
+      → length (writesOn z (w ∷ f) m) ≡ 0 → Drains z m (logBy r L (w ∷ f)) NoWrites
   late : (L : ℕ) → Ready m L → isStale L m ≡ true → Drains z m (redo L) Stale
   plain : (L : ℕ) → Drains z m (drain L) Done
 
 pub data Move (z : Sizes) (m : Machine) : Call → Step → Type 0 where
   refusing : {c : Call} (n : ℕ) → refusalOf z c m ≡ n → (n ≡ 0 → ⊥) → Move z m c (record { answer = Refused n; machine = m })
   draining : {c : Call} {a : Answer} → Known z m (laneOf c) → Drains z m c a → Move z m c (record { answer = a; machine = drained z (laneOf c) m })
-  logging : (r : Rule) (L : ℕ) (f : List ℕ) → Known z m L → txnBy former maxWrites z.words f ≡ true → isLogged (laneAt (m .state) L .phase) ≡ false
-      → 0 < length (writesOn z f m) → Room z m L (length (writesOn z f m) + 1)
-      → Move z m (logBy r L f)
+  logging : (r : Rule) (L w : ℕ) (f : List ℕ) → Known z m L → txnBy former maxWrites z.words (w ∷ f) ≡ true
+      → isLogged (laneAt (m .state) L .phase) ≡ false → 0 < length (writesOn z (w ∷ f) m) → Room z m L (length (writesOn z (w ∷ f) m) + 1)
+      → Move z m (logBy r L (w ∷ f))
       (record {
-        answer = Logged (record { count = length (writesOn z f m); stamp = m .state .clock + 2 });
-        machine = logged z L (writesOn z f m) (drained z L m);
+        answer = Logged (record { count = length (writesOn z (w ∷ f) m); stamp = m .state .clock + 2 });
+        machine = logged z L (writesOn z (w ∷ f) m) (drained z L m);
       })
+  settling : (r : Rule) (L : ℕ) → Known z m L → isLogged (laneAt (m .state) L .phase) ≡ false → Room z m L 1
+      → Move z m (logBy r L []) (record { answer = Settled (m .state .clock + 2); machine = marked z L m })
   redoing : (L : ℕ) → Known z m L → Ready m L → isStale L m ≡ false
       → Move z m (redo L) (record { answer = Committed (m .state .clock + 2); machine = committed z L (redoPairs L m) (drained z L m) })
   validating : (r : Rule) (L : ℕ) (f : List ℕ) → Known z m L → txnBy former maxWrites z.words f ≡ true → Ready m L → matches z L (writesOn z f m) m ≡ true
@@ -79,7 +81,7 @@ pub data Move (z : Sizes) (m : Machine) : Call → Step → Type 0 where
       → Move z m (mark L)
       (record {
         answer = Marked (record { stamp = m .state .clock + 2; dropped = isLogged (laneAt (m .state) L .phase) });
-        machine = appended z L [] Idle (laneAt (m .state) L .redo) (drained z L m);
+        machine = marked z L m;
       })
 
 -- ---- refusals
@@ -143,11 +145,23 @@ module _ (z : Sizes) (m : Machine) (L : ℕ) where
       let c₉ = none-holds _ _ _ (c₈ .1) in
       marking L (k .0) (record { clock = c₈ .0; slots = c₉ .0 }))
 
+  settle-moves : (q : Rule) → Move z m (logBy q L []) (settleStep z L m)
+  unfolding settleStep settleRefusal logRefusalBy badBuffers badRecord badLane clockSpent refusalOf
+  settle-moves q =
+      unless-by (Move z m (logBy q L [])) _ m _ (refusing _ refl)
+      (λ e.
+      let k = first-three _ e in
+      let c₆ = none-holds _ _ _ (k .1) in
+      let c₈ = none-holds _ _ _ (c₆ .1) in
+      let c₁₅ = none-holds _ _ _ (c₈ .1) in
+      let c₉ = none-holds _ _ _ (c₁₅ .1) in
+      settling q L (k .0) (c₆ .0) (record { clock = c₈ .0; slots = c₉ .0 }))
+
   module _ (q : Rule) (f : List ℕ) where
-    pub log-moves : Move z m (logBy q L f) (logStepBy q z L f m)
-    unfolding logStepBy logRefusalBy badBuffers badRecord badLane badTxn refusalOf laneOf
-    log-moves =
-        unless-by (Move z m (logBy q L f)) _ m _ (refusing _ refl)
+    txn-moves : (w : ℕ) → Move z m (logBy q L (w ∷ f)) (logTxnStepBy q z L (w ∷ f) m)
+    unfolding logTxnStepBy logTxnRefusalBy logRefusalBy badBuffers badRecord badLane badTxn refusalOf laneOf
+    txn-moves w =
+        unless-by (Move z m (logBy q L (w ∷ f))) _ m _ (refusing _ refl)
         (λ e.
         let k = first-three _ e in
         let c₅ = none-holds _ _ _ (k .1) in
@@ -155,15 +169,13 @@ module _ (z : Sizes) (m : Machine) (L : ℕ) where
         let c₈ = none-holds _ _ _ (c₆ .1) in
         let c₁₅ = none-holds _ _ _ (c₈ .1) in
         let c₉ = none-holds _ _ _ (c₁₅ .1) in
-        let ok = txn-former q maxWrites z.words f (not-false (txnBy q maxWrites z.words f) (c₅ .0)) in
-        cond-by (Move z m (logBy q L f)) (eqb n 0) _ _ (λ t. draining (k .0) (quiet q L f ok (c₆ .0) (eqb-true n 0 t)))
+        let n = length (writesOn z (w ∷ f) m) in
+        let ok = txn-former q maxWrites z.words (w ∷ f) (not-false (txnBy q maxWrites z.words (w ∷ f)) (c₅ .0)) in
+        cond-by (Move z m (logBy q L (w ∷ f))) (eqb n 0) _ _ (λ t. draining (k .0) (quiet q L w f ok (c₆ .0) (eqb-true n 0 t)))
         (λ t.
         let p : 0 < n = positive n (eqb-false n 0 t) in
-        logging q L f (k .0) ok (c₆ .0) p
+        logging q L w f (k .0) ok (c₆ .0) p
         (record { clock = rest (leb 1 n) _ (le-leb 1 n p) (c₈ .0); slots = rest (leb 1 n) _ (le-leb 1 n p) (c₉ .0) })))
-      where
-        n : ℕ
-        n = length (writesOn z f m)
 
     pub validate-moves : Move z m (validateBy q L f) (validateStepBy q z L f m)
     unfolding validateStepBy validateRefusalBy badBuffers badRecord badLane badTxn notLogged clockSpent refusalOf
@@ -177,6 +189,11 @@ module _ (z : Sizes) (m : Machine) (L : ℕ) where
         let ok = txn-former q maxWrites z.words f (not-false (txnBy q maxWrites z.words f) (c₅ .0)) in
         let r : Ready m L = record { held = not-false (isLogged (laneAt (m .state) L .phase)) (c₇ .0); clock = c₈ .0 } in
         cond-by (Move z m (validateBy q L f)) (matches z L (writesOn z f m) m) _ _ (λ t. validating q L f (k .0) ok r t) (λ t. giving-up q L f (k .0) ok r t))
+
+log-moves : (z : Sizes) (m : Machine) (L : ℕ) (q : Rule) (f : List ℕ) → Move z m (logBy q L f) (logStepBy q z L f m)
+unfolding logStepBy
+log-moves z m L q [] = settle-moves z m L q
+log-moves z m L q (w ∷ f) = txn-moves z m L q f w
 
 pub call-moves : (z : Sizes) (m : Machine) (c : Call) → Move z m c (callStep z c m)
 unfolding callStep

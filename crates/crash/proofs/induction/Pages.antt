@@ -25,7 +25,7 @@ use Rattle.crash.specs.Events.{Call, logBy, redo, validateBy, mark, drai
 use Rattle.crash.specs.Events.{Event, format, writeBack, call, recover, fails, failsInDrain, failsAfterDrain, failsInRecovery}
 use Rattle.crash.specs.Events.{Reply, answered, recovered, failed, ignored}
 use Rattle.crash.specs.History.{Newest, unset, closingAt, markAt, newestStamp, Page, History, blankPage, pageAt, opened, wordsBelow}
-use Rattle.crash.specs.History.{floorOnDrain, settled, stamped, released, isCounted, heldBy}
+use Rattle.crash.specs.History.{floorOnDrain, afterDrain, stamped, released, isCounted, heldBy}
 use Rattle.crash.specs.History.{taken, restarted, afterCall, afterRecovered, fedAnswer, fedRecovery, fedFailure, fed}
 use Rattle.crash.specs.Corollaries.{World, nextWorld, worldAfter, isFormat, startsAnew, goesOn, isDrain}
 
@@ -50,12 +50,16 @@ module _ (P : Page → Type 0) (blank : P blankPage) where
       (λ t. rw (List·getD-eq-default (set ps L p) blankPage
       (let l : length (set ps L p) ≤ L = omega (arith, length-set ps L p, ltb-false L (length ps) t) in l)) blank)
 
-  -- what holds of each page, with one set
-  pub page-all : (ps : List Page) (M : ℕ) (p : Page) → P p → ((L : ℕ) → P (getD ps L blankPage)) → (L : ℕ) → P (getD (set ps M p) L blankPage)
-  page-all ps M p i f L = elim (ℕ-discrete L M) [
-    | yes e ↦ rw e (page-set M ps p i)
-    | no d ↦ subst P (sym (getD-set-other ps M L p blankPage d)) (f L)
+  -- what holds of page L, where page M is set
+  pub page-at : (ps : List Page) (M : ℕ) (p : Page) (L : ℕ) → (M ≡ L → P p) → P (getD ps L blankPage) → P (getD (set ps M p) L blankPage)
+  page-at ps M p L i f = elim (ℕ-discrete L M) [
+    | yes e ↦ rw e (page-set M ps p (i (sym e)))
+    | no d ↦ subst P (sym (getD-set-other ps M L p blankPage d)) f
   ]
+
+  -- and of each page
+  pub page-all : (ps : List Page) (M : ℕ) (p : Page) → P p → ((L : ℕ) → P (getD ps L blankPage)) → (L : ℕ) → P (getD (set ps M p) L blankPage)
+  page-all ps M p i f L = page-at ps M p L (λ e. i) (f L)
 
   pub opened-page : (z : Sizes) (lag : ℕ) (start : List ℕ) (clock L : ℕ) → P (pageAt (opened z lag start clock) L)
   unfolding opened pageAt
@@ -68,7 +72,7 @@ module _ (P : Page → Type 0) (blank : P blankPage) where
 -- ---- histories
 -- kept by a drain of any lane, and by timestamps and releases of the lanes that may step
 pub record Keeping (P : History → Type 0) (may : ℕ → Type 0) : Type 0 where
-  pub settles : (M : ℕ) (h : History) → P h → P (settled M h)
+  pub drains : (M : ℕ) (h : History) → P h → P (afterDrain M h)
   pub stamps : (M : ℕ) → may M → (kind : ℕ → Newest) → ((n : ℕ) → newestStamp (kind n) ≡ At n) → (held : Option (List ℕ)) (txns : List (List ℕ))
       → (h : History) → P h → P (stamped M kind held txns h)
   pub releases : (M : ℕ) → may M → (h : History) → P h → P (released M h)
@@ -84,7 +88,7 @@ pub closes : (n : ℕ) → newestStamp (closingAt n) ≡ At n
 unfolding newestStamp
 closes n = refl
 
-marks : (n : ℕ) → newestStamp (markAt n) ≡ At n
+pub marks : (n : ℕ) → newestStamp (markAt n) ≡ At n
 unfolding newestStamp
 marks n = refl
 
@@ -93,20 +97,21 @@ module _ (P : History → Type 0) (may : ℕ → Type 0) (k : Keeping P may) whe
   one-of true h g i j = i
   one-of false h g i j = j
 
-  -- a call that drains, or whose lane may step
-  taken-keeps : (c : Call) → (isDrain c ≡ false → may (laneOf c)) → (t : Said) (h : History) → P h → P (taken c t h)
+  -- a call that drains, or whose lane may step: a property that its lane's drain leaves
+  pub taken-from : (c : Call) → (isDrain c ≡ false → may (laneOf c)) → (t : Said) (h : History) → P (afterDrain (laneOf c) h) → P (taken c t h)
   unfolding taken isDrain laneOf
-  taken-keeps (logBy r M f) m t h i =
-      let d = k .settles M h i in
-      one-of (isCounted (t .count)) _ _ (k .stamps M (m refl) closingAt closes (some f) [] (settled M h) d) d
-  taken-keeps (redo M) m t h i =
-      let d = k .settles M h i in
-      one-of (t .stale) _ _ d (k .stamps M (m refl) closingAt closes none (heldBy (pageAt h M .held)) (settled M h) d)
-  taken-keeps (validateBy r M f) m t h i =
-      let d = k .settles M h i in
-      one-of (t .changed) _ _ (k .releases M (m refl) (settled M h) d) (k .stamps M (m refl) closingAt closes none (f ∷ []) (settled M h) d)
-  taken-keeps (mark M) m t h i = k .stamps M (m refl) markAt marks none [] (settled M h) (k .settles M h i)
-  taken-keeps (drain M) m t h i = k .settles M h i
+  taken-from (logBy r M []) m t h d = k .stamps M (m refl) markAt marks none [] (afterDrain M h) d
+  taken-from (logBy r M (w ∷ f)) m t h d =
+      one-of (isCounted (t .count)) _ _ (k .stamps M (m refl) closingAt closes (some (w ∷ f)) [] (afterDrain M h) d) d
+  taken-from (redo M) m t h d = one-of (t .stale) _ _ d (k .stamps M (m refl) closingAt closes none (heldBy (pageAt h M .held)) (afterDrain M h) d)
+  taken-from (validateBy r M f) m t h d =
+      one-of (t .changed) _ _ (k .releases M (m refl) (afterDrain M h) d) (k .stamps M (m refl) closingAt closes none (f ∷ []) (afterDrain M h) d)
+  taken-from (mark M) m t h d = k .stamps M (m refl) markAt marks none [] (afterDrain M h) d
+  taken-from (drain M) m t h d = d
+
+  -- or one that it had before
+  taken-keeps : (c : Call) → (isDrain c ≡ false → may (laneOf c)) → (t : Said) (h : History) → P h → P (taken c t h)
+  taken-keeps c m t h i = taken-from c m t h (k .drains (laneOf c) h i)
 
   -- an event that does not start anew, or whose start has the property
   module _ (z : Sizes) where
@@ -132,7 +137,7 @@ module _ (P : History → Type 0) (may : ℕ → Type 0) (k : Keeping P may) whe
     failed-keeps (recover lag limit j) d h i = i
     failed-keeps (fails j) d h i = i
     failed-keeps (failsInDrain c ws j) d h i = i
-    failed-keeps (failsAfterDrain c j) d h i = one-of d _ _ (k .settles (laneOf c) h i) i
+    failed-keeps (failsAfterDrain c j) d h i = one-of d _ _ (k .drains (laneOf c) h i) i
     failed-keeps (failsInRecovery n j) d h i = i
 
     recovered-keeps : (e : Event) (r : Recovered) → Starts P z e (recovered r) → (found : List ℕ) (h : History) → P h → P (fedRecovery z e found r h)
@@ -150,7 +155,7 @@ module _ (P : History → Type 0) (may : ℕ → Type 0) (k : Keeping P may) whe
     recovered-keeps (failsAfterDrain c j) r s found h i = i
     recovered-keeps (failsInRecovery n j) r s found h i = i
 
-    fed-keeps : (e : Event) (r : Reply) → MayStep may e → Starts P z e r → (found : List ℕ) (h : History) → P h → P (fed z e r found h)
+    pub fed-keeps : (e : Event) (r : Reply) → MayStep may e → Starts P z e r → (found : List ℕ) (h : History) → P h → P (fed z e r found h)
     unfolding fed
     fed-keeps e (answered a) m s found h i = answered-keeps e a m s h i
     fed-keeps e (recovered x) m s found h i = recovered-keeps e x s found h i

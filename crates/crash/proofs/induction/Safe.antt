@@ -4,6 +4,7 @@ use mathlib.Core.Path.{_≡_, refl, ap, sym, subst, _∙_}
 use mathlib.Core.Logic.{inl, inr}
 use mathlib.Core.Bool.{true}
 use mathlib.Core.List.{List, [], _∷_, _++_}
+use mathlib.Core.Option.{Option, none}
 use Prim.Native.Nat.{ℕ, zero, suc, _+_, _≤_, _<_, min}
 use native.Mathlib.Omega.{arith}
 use native.Mathlib.Nat.{le-trans}
@@ -21,12 +22,12 @@ use Rattle.store.specs.Machine.{Machine, said}
 use Rattle.store.specs.Calls.{badLag, formatRefusal}
 use Rattle.crash.specs.Events.{Event, format, recover, live, Design, happens, afterFormat}
 use Rattle.crash.specs.History.{Newest, unset, closingAt, markAt, newestStamp, Page, History, blankPage, pageAt, opened, isBelow}
-use Rattle.crash.specs.History.{floorOr, floorOnDrain, settled, stamped, released, fedAnswer, fed, leastFloorOf}
+use Rattle.crash.specs.History.{floorOr, floorOnDrain, afterDrain, stamped, released, fedAnswer, fed, leastFloorOf}
 use Rattle.crash.specs.Theorem.{Replied, CrashTheorem}
 use Rattle.crash.specs.Corollaries.{World, nextWorld, worldAfter, SafeTheorem}
 use Rattle.crash.proofs.induction.Lists.{holds-next, holds-after}
 use Rattle.crash.proofs.induction.Moves.{none-holds}
-use Rattle.crash.proofs.induction.Pages.{drained-twice, onDrain, page-all, opened-page, Keeping, MayStep, after-keeps}
+use Rattle.crash.proofs.induction.Pages.{drained-twice, onDrain, page-set, page-at, page-all, opened-page, Keeping, MayStep, after-keeps}
 use Rattle.crash.proofs.induction.Kept.{recovery-keeps}
 
 -- ---- timestamps
@@ -48,23 +49,23 @@ lesser-below (At a) None s e f = e
 lesser-below (At a) (At b) s e f = lt-ltb s (min a b) (omega (arith, ltb-true s a e, ltb-true s b f))
 
 -- an earlier one is below too
-below-earlier : (b : Timestamp) (s t : ℕ) → t ≤ s → isBelow b s ≡ true → isBelow b t ≡ true
+pub below-earlier : (b : Timestamp) (s t : ℕ) → t ≤ s → isBelow b s ≡ true → isBelow b t ≡ true
 unfolding isBelow
 below-earlier None s t l e = refl
 below-earlier (At b) s t l e = lt-ltb t b (omega (arith, ltb-true s b e))
 
-up-to : (s t : ℕ) → isBelow (At (s + 1)) t ≡ true → t ≤ s
+pub up-to : (s t : ℕ) → isBelow (At (s + 1)) t ≡ true → t ≤ s
 unfolding isBelow
 up-to s t e = omega (arith, ltb-true t (s + 1) e)
 
 -- the least floor is above s just where each floor is
-each-above : (ps : List Page) (s : ℕ) → isBelow (leastFloorOf ps) s ≡ true → (L : ℕ) → isBelow (getD ps L blankPage .floor) s ≡ true
+pub each-above : (ps : List Page) (s : ℕ) → isBelow (leastFloorOf ps) s ≡ true → (L : ℕ) → isBelow (getD ps L blankPage .floor) s ≡ true
 unfolding leastFloorOf isBelow
 each-above [] s e L = refl
 each-above (p ∷ ps) s e zero = below-lesser (p .floor) (leastFloorOf ps) s e .0
 each-above (p ∷ ps) s e (suc L) = each-above ps s (below-lesser (p .floor) (leastFloorOf ps) s e .1) L
 
-least-above : (ps : List Page) (s : ℕ) → ((L : ℕ) → isBelow (getD ps L blankPage .floor) s ≡ true) → isBelow (leastFloorOf ps) s ≡ true
+pub least-above : (ps : List Page) (s : ℕ) → ((L : ℕ) → isBelow (getD ps L blankPage .floor) s ≡ true) → isBelow (leastFloorOf ps) s ≡ true
 unfolding leastFloorOf isBelow
 least-above [] s f = refl
 least-above (p ∷ ps) s f = lesser-below (p .floor) (leastFloorOf ps) s (f 0) (least-above ps s (λ L. f (suc L)))
@@ -132,10 +133,10 @@ pub Rising : History → Type 0
 Rising h = (L : ℕ) → Rises (h .clock) (pageAt h L)
 
 pub rising-keeping : Keeping Rising (λ M. Unit {0})
-unfolding Rising settled stamped released pageAt
+unfolding Rising afterDrain stamped released pageAt
 rising-keeping =
     record {
-      settles = λ M h f.
+      drains = λ M h f.
           page-all (Rises (h .clock)) (rises-blank (h .clock)) (h .pages) M (onDrain (getD (h .pages) M blankPage)) (rises-drain (h .clock) _ (f M)) f;
       stamps = λ M u kind ks held txns h f.
           page-all (Rises (h .clock + 2)) (rises-blank (h .clock + 2)) (h .pages) M _
@@ -152,10 +153,10 @@ pub rising-opened : (z : Sizes) (lag : ℕ) (start : List ℕ) (clock : ℕ) →
 unfolding Rising opened
 rising-opened z lag start clock L = opened-page (Rises clock) (rises-blank clock) z lag start clock L
 
--- ---- all pages, with their floors above s
-record Above (s : ℕ) (p : Page) : Type 0 where
-  floor : isBelow (p .floor) s ≡ true
-  drained : isBelow (floorOnDrain (p .newest) (p .floor)) s ≡ true
+-- ---- a page with its floor above s
+pub record Above (s : ℕ) (p : Page) : Type 0 where
+  pub floor : isBelow (p .floor) s ≡ true
+  pub drained : isBelow (floorOnDrain (p .newest) (p .floor)) s ≡ true
 
 above-blank : (s : ℕ) → Above s blankPage
 unfolding floorOnDrain isBelow
@@ -166,46 +167,98 @@ unfolding floorOr isBelow
 or-above None t s l e = lt-ltb s t l
 or-above (At b) t s l e = e
 
+-- and one whose floor a drain leaves so
+unfoldable pub Reaches : ℕ → Page → Type 0
+Reaches s p = isBelow (floorOnDrain (p .newest) (p .floor)) s ≡ true
+
+reaches-blank : (s : ℕ) → Reaches s blankPage
+unfolding Reaches
+reaches-blank s = above-blank s .drained
+
+reaches-stamped : (n : Newest) (held : Option (List ℕ)) (floor : Timestamp) (s t : ℕ) → newestStamp n ≡ At t → s < t
+    → Reaches s (record { held = held; newest = n; floor = floor })
+unfolding Reaches
+reaches-stamped n held floor s t e l = new-drained n floor s t e l
+
+reaches-drained : (s : ℕ) (p : Page) → Reaches s p → Above s (onDrain p)
+unfolding Reaches
+reaches-drained s p e = record { floor = e; drained = rw (drained-twice (p .newest) (p .floor)) e }
+
+-- ---- lane L's page, where the clock has reached s: what drains, timestamps above s and releases keep
+unfoldable pub LaneHas : ℕ → (Page → Type 0) → ℕ → History → Type 0
+LaneHas s P L h = (s < h .clock + 2) × P (pageAt h L)
+
+module _ (s : ℕ) (P : Page → Type 0) (blank : P blankPage) (drains : (p : Page) → P p → P (onDrain p))
+    (stamps : (p : Page) (n : Newest) (held : Option (List ℕ)) (t : ℕ) → newestStamp n ≡ At t → s < t → P p
+    → P (record { held = held; newest = n; floor = floorOr (p .floor) (At t) }))
+    (releases : (p : Page) → P p → P (record { held = none; newest = p .newest; floor = p .floor })) (L : ℕ) where
+  here : (h : History) (M : ℕ) → M ≡ L → P (getD (h .pages) L blankPage) → P (getD (h .pages) M blankPage)
+  here h M e i = subst (λ x. P (getD (h .pages) x blankPage)) (sym e) i
+
+  lane-keeping : Keeping (LaneHas s P L) (λ M. Unit {0})
+  unfolding LaneHas afterDrain stamped released pageAt
+  lane-keeping =
+      record {
+        drains = λ M h i. (i .0, page-at P blank (h .pages) M _ L (λ e. drains (getD (h .pages) M blankPage) (here h M e (i .1))) (i .1));
+        stamps = λ M u kind ks held txns h i. (
+          omega (arith, i .0),
+          page-at P blank (h .pages) M _ L
+              (λ e. stamps (getD (h .pages) M blankPage) (kind (h .clock + 2)) held (h .clock + 2) (ks (h .clock + 2)) (i .0) (here h M e (i .1))) (i .1),
+        );
+        releases = λ M u h i. (i .0, page-at P blank (h .pages) M _ L (λ e. releases (getD (h .pages) M blankPage) (here h M e (i .1))) (i .1));
+      }
+
+pub reaches-keeping : (s L : ℕ) → Keeping (LaneHas s (Reaches s) L) (λ M. Unit {0})
+unfolding Reaches
+reaches-keeping s =
+    lane-keeping s (Reaches s) (reaches-blank s) (λ p e. reaches-drained s p e .drained)
+    (λ p n held t e l i. reaches-stamped n held (floorOr (p .floor) (At t)) s t e l) (λ p e. e)
+
+pub floor-keeping : (s L : ℕ) → Keeping (LaneHas s (Above s) L) (λ M. Unit {0})
+unfolding Reaches
+floor-keeping s =
+    lane-keeping s (Above s) (above-blank s) (λ p e. reaches-drained s p (e .drained))
+    (λ p n held t e l i. record { floor = or-above (p .floor) t s l (i .floor); drained = new-drained n (floorOr (p .floor) (At t)) s t e l })
+    (λ p e. record { floor = e .floor; drained = e .drained })
+
+-- the lane's drain makes the one the other
+pub lane-drained : (s L : ℕ) (h : History) → LaneHas s (Reaches s) L h → LaneHas s (Above s) L (afterDrain L h)
+unfolding LaneHas Reaches afterDrain pageAt
+lane-drained s L h i =
+    (i .0, page-set (Above s) (above-blank s) L (h .pages) (onDrain (getD (h .pages) L blankPage)) (reaches-drained s (getD (h .pages) L blankPage) (i .1)))
+
+-- a new timestamp above s makes the lane reach s
+pub lane-stamped : (s L : ℕ) (kind : ℕ → Newest) → ((n : ℕ) → newestStamp (kind n) ≡ At n) → (held : Option (List ℕ)) (txns : List (List ℕ)) (h : History)
+    → s < h .clock + 2 → LaneHas s (Reaches s) L (stamped L kind held txns h)
+unfolding LaneHas stamped pageAt
+lane-stamped s L kind kinds held txns h l = (
+  omega arith,
+  page-set (Reaches s) (reaches-blank s) L (h .pages)
+      (record { held = held; newest = kind (h .clock + 2); floor = floorOr (pageAt h L .floor) (At (h .clock + 2)) })
+      (reaches-stamped (kind (h .clock + 2)) held _ s (h .clock + 2) (kinds (h .clock + 2)) l),
+)
+
+-- ---- all pages
 pub AllAbove : ℕ → History → Type 0
-AllAbove s h = (s < h .clock + 2) × ((L : ℕ) → Above s (pageAt h L))
+AllAbove s h = (L : ℕ) → LaneHas s (Above s) L h
 
 pub above-keeping : (s : ℕ) → Keeping (AllAbove s) (λ M. Unit {0})
-unfolding AllAbove settled stamped released pageAt
+unfolding AllAbove
 above-keeping s =
     record {
-      settles = λ M h i. (
-        i .0,
-        page-all (Above s) (above-blank s) (h .pages) M (onDrain (getD (h .pages) M blankPage))
-            (record {
-              floor = i .1 M .drained;
-              drained = rw (drained-twice (getD (h .pages) M blankPage .newest) (getD (h .pages) M blankPage .floor)) (i .1 M .drained);
-            })
-            (i .1),
-      );
-      stamps = λ M u kind ks held txns h i.
-          let l : s < h .clock + 2 = i .0 in (
-            omega (arith, i .0),
-            page-all (Above s) (above-blank s) (h .pages) M _
-                (record {
-                  floor = or-above (getD (h .pages) M blankPage .floor) (h .clock + 2) s l (i .1 M .floor);
-                  drained = new-drained (kind (h .clock + 2)) _ s (h .clock + 2) (ks (h .clock + 2)) l;
-                })
-                (i .1),
-          );
-      releases = λ M u h i. (
-        i .0,
-        page-all (Above s) (above-blank s) (h .pages) M _ (record { floor = i .1 M .floor; drained = i .1 M .drained }) (i .1),
-      );
+      drains = λ M h i L. floor-keeping s L .drains M h (i L);
+      stamps = λ M u kind ks held txns h i L. floor-keeping s L .stamps M u kind ks held txns h (i L);
+      releases = λ M u h i L. floor-keeping s L .releases M u h (i L);
     }
 
 -- floors above s stay so, since drains do not lower them
 pub above-from : (s : ℕ) (h : History) → Rising h → s < h .clock + 2 → isBelow (leastFloorOf (h .pages)) s ≡ true → AllAbove s h
-unfolding Rising AllAbove pageAt
-above-from s h r l e = (l, λ L. let f = each-above (h .pages) s e L in record { floor = f; drained = r L .rises s f })
+unfolding Rising AllAbove LaneHas pageAt
+above-from s h r l e L = let f = each-above (h .pages) s e L in (l, record { floor = f; drained = r L .rises s f })
 
 pub above-least : (s : ℕ) (h : History) → AllAbove s h → isBelow (leastFloorOf (h .pages)) s ≡ true
-unfolding AllAbove pageAt
-above-least s h i = least-above (h .pages) s (λ L. i .1 L .floor)
+unfolding AllAbove LaneHas pageAt
+above-least s h i = least-above (h .pages) s (λ L. i L .1 .floor)
 
 -- ---- lists
 pub any-step : (es : List Event) → All (MayStep (λ M. Unit {0})) es

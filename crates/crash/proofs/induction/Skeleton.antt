@@ -25,7 +25,7 @@ use Rattle.recovery.specs.Recovery.{boundary, newBase, recoveredNvm, Restarted,
 use Rattle.crash.specs.Events.{Call, drain, Junk, Event, format, writeBack, call, recover, fails, failsInDrain, failsAfterDrain, failsInRecovery}
 use Rattle.crash.specs.Events.{System, live, down, nvmOf, vandzulge, happens, laneOf, callStep, isTaken, recoveryOf, fit, partlyDrained}
 use Rattle.crash.specs.Events.{bare, foundOr, afterStep, afterFormat, recoveredSystem, afterRecovery, afterFailure, notOffered}
-use Rattle.crash.specs.History.{History, opened, wordsBelow, settled, restarted, taken, afterCall}
+use Rattle.crash.specs.History.{History, opened, wordsBelow, afterDrain, restarted, taken, afterCall}
 use Rattle.crash.specs.History.{afterRecovered, fedAnswer, fedRecovery, fedFailure, fed, leastFloorOf}
 use Rattle.crash.specs.Theorem.{Live, endOf, InStep, Answers, formatAnswer, NotBelow, RecoveryReply, Replied, Holds, CrashTheorem}
 use Rattle.crash.proofs.induction.Moves.{Known}
@@ -252,11 +252,11 @@ module _ (z : Sizes) (ok : sizesOk z ≡ true) (end : List ℕ) (form : Form z e
       split (flushed L (getD (m .flags) i 0)) (λ e. rw e (partly L is (written i m) h (writes-any m h i v))) (λ e. rw e (partly L is m h v))
 
   -- a whole drain is a Drain
-  wholly : (m : Machine) (h : History) (L : ℕ) → Runs m h → Known z m L → Cells (drainedNvm L (m .flags) (m .cache) (m .nvm)) (settled L h)
+  wholly : (m : Machine) (h : History) (L : ℕ) → Runs m h → Known z m L → Cells (drainedNvm L (m .flags) (m .cache) (m .nvm)) (afterDrain L h)
   unfolding afterCall taken said drained
   wholly m h L v k =
       record {
-        cut = laws .cuts (drained z L m) (settled L h)
+        cut = laws .cuts (drained z L m) (afterDrain L h)
             (subst (λ (s : Step). Inv (s .machine) (afterCall (drain L) (s .answer) h)) (drain-taken z m L k) (laws .calls m h (drain L) (v .inv)));
         long = length-drainedNvm L (m .flags) (m .cache) (m .nvm) ∙ v .long;
       }

@@ -23,7 +23,7 @@ use Rattle.crash.specs.Events.{bare, afterStep, recoveredSystem, afterRe
 use Rattle.crash.specs.Theorem.{endOf, mayStore, TrailerTheorem}
 use Rattle.crash.proofs.lane.Ends.{length-end, end-drained, end-flagged, end-sizes}
 use Rattle.crash.proofs.recovery.Restart.{not-former, cut-taken, cut-end}
-use Rattle.crash.proofs.induction.Moves.{Known, Move, refusing, draining, logging, redoing, validating, giving-up, marking, call-moves}
+use Rattle.crash.proofs.induction.Moves.{Known, Move, refusing, draining, logging, settling, redoing, validating, giving-up, marking, call-moves}
 use Rattle.crash.proofs.induction.Fed.{taken-known}
 
 -- cells with a trailer are at least of the former length
@@ -65,7 +65,8 @@ module _ (z : Sizes) (m : Machine) (its : endOf z (m .nvm) ≡ trailer z) (none 
   unfolding drained logged appended committed changed calls.released laneOf
   moves (refusing n e p) = its
   moves {c} (draining k d) = drains (laneOf c) k
-  moves (logging q L f k ok i p r) = drains L k
+  moves (logging q L w f k ok i p r) = drains L k
+  moves (settling q L k i r) = drains L k
   moves (redoing L k r t) = drains L k
   moves (validating q L f k ok r t) = drains L k
   moves (giving-up q L f k ok r t) = drains L k

@@ -27,9 +27,9 @@ use Rattle.record.specs.declared.Phase.{Phase}
 use Rattle.record.specs.declared.Phase.the-variants.{Idle, Holds}
 use Rattle.record.specs.declared.Lane.{Lane}
 use Rattle.store.specs.Machine.{Machine}
-use Rattle.store.specs.Calls.{drained, changed, writesOn, appended, logged}
+use Rattle.store.specs.Calls.{drained, changed, writesOn, appended, marked, logged}
 use Rattle.crash.specs.History.{Newest, closingAt, markAt, Commit, Page, History, pageAt, replay, wordsBelow, present}
-use Rattle.crash.specs.History.{floorOr, settled, stamped, leastFloorOf, writesLogged}
+use Rattle.crash.specs.History.{floorOr, afterDrain, stamped, leastFloorOf, writesLogged}
 use Rattle.laws.specs.inner.Members.{In, in-cases, there}
 use Rattle.recovery.specs.inner.UndoneLaws.{writes, firstOld}
 use Rattle.crash.proofs.recovery.Data.{oldsOf, length-olds, chain-first, replay-all}
@@ -37,7 +37,7 @@ use Rattle.crash.proofs.induction.Moves.{Known, Room}
 use Rattle.crash.proofs.history.Lanes.{lane-appended, page-stamped}
 use Rattle.crash.proofs.history.Agree.{Book}
 use Rattle.crash.proofs.history.Answers.{bound-drained}
-use Rattle.crash.proofs.history.Onward.{onward-settled, onward-stamped, writes-held}
+use Rattle.crash.proofs.history.Onward.{onward-drained, onward-stamped, writes-held}
 use Rattle.crash.proofs.history.Books.{book-drains, not-held}
 use Rattle.crash.proofs.lane.Regions.{Inside, inside-late, stored-base, among-late}
 use Rattle.crash.proofs.lane.Append.{append-inside}
@@ -57,7 +57,7 @@ use Rattle.crash.proofs.ties.Drain.{drained-ties}
 -- ---- the append comes after a drain of its lane
 module _ (z : Sizes) (base : ℕ) (h : History) (m : Machine) (b : Book z base h m) (t : Ties z base m h) (L : ℕ) (k : Known z m L) where
   abbrev was : History
-  was = settled L h
+  was = afterDrain L h
 
   abbrev from : Machine
   from = drained z L m
@@ -78,7 +78,7 @@ module _ (z : Sizes) (base : ℕ) (h : History) (m : Machine) (b : Book z base h
   shape = drain .ties .running .shape
 
   clock-was : was .clock ≡ m .state .clock
-  unfolding settled
+  unfolding afterDrain
   clock-was = sym (b .live .clock)
 
   -- ---- a timestamp without a commit
@@ -87,7 +87,7 @@ module _ (z : Sizes) (base : ℕ) (h : History) (m : Machine) (b : Book z base h
     new = stamped L kind held [] was
 
     commits-new : new .commits ≡ h .commits
-    unfolding stamped settled
+    unfolding stamped afterDrain
     commits-new = append-nil (h .commits)
 
     commits-was : new .commits ≡ was .commits
@@ -96,7 +96,7 @@ module _ (z : Sizes) (base : ℕ) (h : History) (m : Machine) (b : Book z base h
 
     -- the words below it are the present ones
     words-new : wordsBelow z (At stamp) new ≡ dataOf z (m .cache)
-    unfolding wordsBelow present stamped settled
+    unfolding wordsBelow present stamped afterDrain
     words-new =
         ap (λ (cs : List Commit). replay z.words (At stamp) cs (h .start)) commits-new
         ∙ replay-all z.words stamp (h .start) (All-map (λ c i. omega (arith, i, b .live .clock)) (b .upto))
@@ -119,7 +119,7 @@ module _ (z : Sizes) (base : ℕ) (h : History) (m : Machine) (b : Book z base h
     old-now : All (TrueOf z.words new) (t .ts L .gs)
     old-now =
         all-onward z was new (onward-stamped L kind held was) given-was
-        (all-onward z h was (onward-settled L h) (given-now z base h m b t L (k .lane)) (t .now L (k .lane)))
+        (all-onward z h was (onward-drained L h) (given-now z base h m b t L (k .lane)) (t .now L (k .lane)))
 
   -- what is logged now is what the lane's page has logged
   pub logged-new : (f : List ℕ) → writesLogged z L (new closingAt (some f)) ≡ writesOn z f m
@@ -229,7 +229,7 @@ module _ (z : Sizes) (base : ℕ) (h : History) (m : Machine) (b : Book z base h
 pub ties-appends : (z : Sizes) (base : ℕ) (m : Machine) (h : History) (L : ℕ) (f : List ℕ)
     → Book z base h m → Ties z base m h → Known z m L → txnBy former maxWrites z.words f ≡ true
     → isLogged (laneAt (m .state) L .phase) ≡ false → 0 < length (writesOn z f m) → Room z m L (length (writesOn z f m) + 1)
-    → Ties z base (logged z L (writesOn z f m) (drained z L m)) (stamped L closingAt (some f) [] (settled L h))
+    → Ties z base (logged z L (writesOn z f m) (drained z L m)) (stamped L closingAt (some f) [] (afterDrain L h))
 unfolding logged writesOn
 ties-appends z base m h L f b t k ok i p r =
     appended-ties z base h m b t L k (writesOn z f m) chain r _ _ closingAt (some f)
@@ -242,7 +242,7 @@ ties-appends z base m h L f b t k ok i p r =
     chain = run-chain z.words f (dataOf z (m .cache))
 
 pub ties-marks : (z : Sizes) (base : ℕ) (m : Machine) (h : History) (L : ℕ) → Book z base h m → Ties z base m h → Known z m L → Room z m L 1
-    → Ties z base (appended z L [] Idle (laneAt (m .state) L .redo) (drained z L m)) (stamped L markAt none [] (settled L h))
+    → Ties z base (marked z L m) (stamped L markAt none [] (afterDrain L h))
 unfolding newestBy oldsOf
 ties-marks z base m h L b t k r =
     appended-ties z base h m b t L k [] chain-nil r Idle (laneAt (m .state) L .redo) markAt none (λ s. refl)

@@ -29,15 +29,15 @@ use Rattle.record.specs.declared.Lane.{Lane}
 use Rattle.store.specs.Machine.{Machine}
 use Rattle.store.specs.Calls.{drained, changed, writesOn, pairStores, commitStores, committed, isStale, redoPairs, matches}
 use Rattle.crash.specs.History.{closingAt, Commit, Page}
-use Rattle.crash.specs.History.{History, pageAt, isBelow, wordsBelow, present, floorOr, settled, stamped, heldBy, writesLogged, leastFloorOf}
+use Rattle.crash.specs.History.{History, pageAt, isBelow, wordsBelow, present, floorOr, afterDrain, stamped, heldBy, writesLogged, leastFloorOf}
 use Rattle.laws.specs.inner.Members.{In, in-cases, here, there, In-append, In-All}
 use Rattle.recovery.specs.inner.UndoneLaws.{writes, firstOld}
 use Rattle.crash.proofs.recovery.Data.{oldsOf, txnWrites, run-first, replay-all, replay-snoc}
 use Rattle.crash.proofs.induction.Moves.{Known, Ready}
-use Rattle.crash.proofs.history.Lanes.{lane-drained, lane-committed, page-settled, page-stamped}
+use Rattle.crash.proofs.history.Lanes.{lane-drained, lane-committed, page-drained, page-stamped}
 use Rattle.crash.proofs.history.Agree.{Book, is-held}
 use Rattle.crash.proofs.history.Answers.{holds-it, matched}
-use Rattle.crash.proofs.history.Onward.{onward-settled, onward-commit}
+use Rattle.crash.proofs.history.Onward.{onward-drained, onward-commit}
 use Rattle.crash.proofs.history.Books.{book-drains, redo-now, redo-held, redo-pairs, not-held}
 use Rattle.crash.proofs.lane.Seqs.{Seq, Hist, restamped}
 use Rattle.crash.proofs.lane.Regions.{stored-base}
@@ -268,15 +268,15 @@ restamped-to z L m ts vs c e p q =
 module _ (z : Sizes) (base : ℕ) (m : Machine) (h : History) (L : ℕ) (b : Book z base h m) (t : Ties z base m h) (k : Known z m L) where
   pub ties-commits : (x : Logged) → laneAt (m .state) L .phase ≡ Holds x → (f : List ℕ) → txnBy former maxWrites z.words f ≡ true
       → oldsOf (writesOn z f m) ≡ oldsOf (writesLogged z L h)
-      → Ties z base (committed z L (pairsOf (length (writesOn z f m)) (writesOn z f m)) (drained z L m)) (stamped L closingAt none (f ∷ []) (settled L h))
-  unfolding drained drainedLane writesOn settled withLane
+      → Ties z base (committed z L (pairsOf (length (writesOn z f m)) (writesOn z f m)) (drained z L m)) (stamped L closingAt none (f ∷ []) (afterDrain L h))
+  unfolding drained drainedLane writesOn afterDrain withLane
   ties-commits x held f ok same =
       let d = drained-ties z base h m b t L (k .lane) in
-      let p = page-settled L h (rw (b .pages) (k .lane)) .here in
-      committed-ties z base (settled L h) (drained z L m) (book-drains z base h m b (ties-logs z base m h b t) L k) (d .ties) L (k .lane)
+      let p = page-drained L h (rw (b .pages) (k .lane)) .here in
+      committed-ties z base (afterDrain L h) (drained z L m) (book-drains z base h m b (ties-logs z base m h b t) L k) (d .ties) L (k .lane)
       (λ w l. drained-mine z m (t .running .shape) L (1 + w)) x
       (ap (λ (l : Lane). l .phase) (lane-drained z L m (le-trans (k .lane) (b .lanes)) .here) ∙ held) f ok
-      (same ∙ ap oldsOf (sym (logged-onward z h (settled L h) (onward-settled L h) base m L x
+      (same ∙ ap oldsOf (sym (logged-onward z h (afterDrain L h) (onward-drained L h) base m L x
       (b .holding L x (k .lane) held) (ap (λ (p : Page). p .held) p) (ap (λ (p : Page). p .newest) p))))
       (updated L (restampedBy z L m (m .state .clock + 2) (t .ts L)) (t .ts))
       (restamped-to z L m (t .ts) (d .ties .ts) (m .state .clock + 2) (h .clock + 2) (d .tracks) (ap (λ (c : ℕ). c + 2) (b .live .clock)))
@@ -286,7 +286,7 @@ module _ (z : Sizes) (base : ℕ) (m : Machine) (h : History) (L : ℕ) (b : Boo
 
 -- ---- Redo that is not stale, and Validate that matches
 pub ties-redoes : (z : Sizes) (base : ℕ) (m : Machine) (h : History) (L : ℕ) → Book z base h m → Ties z base m h → Known z m L → Ready m L → isStale L m ≡ false
-    → Ties z base (committed z L (redoPairs L m) (drained z L m)) (stamped L closingAt none (heldBy (pageAt h L .held)) (settled L h))
+    → Ties z base (committed z L (redoPairs L m) (drained z L m)) (stamped L closingAt none (heldBy (pageAt h L .held)) (afterDrain L h))
 ties-redoes z base m h L b t k y e =
     let l = ties-logs z base m h b t in
     let v = holds-it z base h m b l L (k .lane) (y .held) in
@@ -296,7 +296,7 @@ ties-redoes z base m h L b t k y e =
 pub ties-validates : (z : Sizes) (base : ℕ) (m : Machine) (h : History) (L : ℕ) (f : List ℕ)
     → Book z base h m → Ties z base m h → Known z m L → txnBy former maxWrites z.words f ≡ true
     → Ready m L → matches z L (writesOn z f m) m ≡ true
-    → Ties z base (committed z L (pairsOf (length (writesOn z f m)) (writesOn z f m)) (drained z L m)) (stamped L closingAt none (f ∷ []) (settled L h))
+    → Ties z base (committed z L (pairsOf (length (writesOn z f m)) (writesOn z f m)) (drained z L m)) (stamped L closingAt none (f ∷ []) (afterDrain L h))
 ties-validates z base m h L f b t k ok y e =
     ties-commits z base m h L b t k _ (is-held (laneAt (m .state) L .phase) (y .held)) f ok
     (matched z base h m b (ties-logs z base m h b t) L (k .lane) (y .held) (writesOn z f m) e)

@@ -19,13 +19,13 @@ use Rattle.record.specs.declared.Lane.{Lane}
 use Rattle.store.specs.Machine.{Machine}
 use Rattle.store.specs.Calls.{drained, matches, writesOn}
 use Rattle.store.specs.Calls as calls
-use Rattle.crash.specs.History.{Page, History, pageAt, floorOnDrain, settled, released}
+use Rattle.crash.specs.History.{Page, History, pageAt, floorOnDrain, afterDrain, released}
 use Rattle.crash.specs.Theorem.{NotBelow, noBoundary, atLeast}
 use Rattle.crash.proofs.recovery.Data.{oldsOf}
 use Rattle.crash.proofs.induction.Moves.{Known, Ready}
-use Rattle.crash.proofs.history.Lanes.{lane-drained, lane-released, page-settled, page-released}
+use Rattle.crash.proofs.history.Lanes.{lane-drained, lane-released, page-drained, page-released}
 use Rattle.crash.proofs.history.Agree.{Book}
-use Rattle.crash.proofs.history.Onward.{onward-settled, onward-released}
+use Rattle.crash.proofs.history.Onward.{onward-drained, onward-released}
 use Rattle.crash.proofs.history.Books.{book-drains, not-held}
 use Rattle.crash.proofs.lane.Seqs.{Seq, Since}
 use Rattle.crash.proofs.lane.Ghost.{Past}
@@ -67,17 +67,17 @@ module _ (z : Sizes) (base : ℕ) (h : History) (m : Machine) (b : Book z base h
   page-floor : pageAt h L .floor ≡ floorSince (t .running .lanes L lane .since)
   page-floor = sym (b .live .floors L lane) ∙ t .running .lanes L lane .floor
 
-  moving : Moving z L h (settled L h) m (drained z L m) (t .ts) after
-  unfolding drained drainedLane settled
+  moving : Moving z L h (afterDrain L h) m (drained z L m) (t .ts) after
+  unfolding drained drainedLane afterDrain
   moving =
       let a = lane-drained z L m inside in
-      let p = page-settled L h paged in
+      let p = page-drained L h paged in
       record {
         track = levelled z L m (t .ts L);
         tracks = track-to L (levelled z L m (t .ts L)) (t .ts);
         page = record { held = pageAt h L .held; newest = pageAt h L .newest; floor = floorOnDrain (pageAt h L .newest) (pageAt h L .floor) };
         pages = p;
-        onward = onward-settled L h;
+        onward = onward-drained L h;
         running = running-drains z m (t .ts) (t .running) L lane;
         at-base = refl;
         phases = λ M d. ap (λ (l : Lane). l .phase) (a .others M d);
@@ -85,10 +85,10 @@ module _ (z : Sizes) (base : ℕ) (h : History) (m : Machine) (b : Book z base h
         entries = λ x e g gs q.
             let f : laneAt (m .state) L .phase ≡ Holds x = ap (λ (l : Lane). l .phase) (sym (a .here)) ∙ e in
             t .entries L lane x f g gs q
-            ∙ ap oldsOf (sym (logged-onward z h (settled L h) (onward-settled L h) base m L x (b .holding L x lane f)
+            ∙ ap oldsOf (sym (logged-onward z h (afterDrain L h) (onward-drained L h) base m L x (b .holding L x lane f)
             (ap (λ (p : Page). p .held) (p .here)) (ap (λ (p : Page). p .newest) (p .here))));
-        now = all-onward z h (settled L h) (onward-settled L h) (given-now z base h m b t L lane) (t .now L lane);
-        before = all-onward z h (settled L h) (onward-settled L h) (given-now z base h m b t L lane) (t .now L lane);
+        now = all-onward z h (afterDrain L h) (onward-drained L h) (given-now z base h m b t L lane) (t .now L lane);
+        before = all-onward z h (afterDrain L h) (onward-drained L h) (given-now z base h m b t L lane) (t .now L lane);
         open′ = λ g e. not-longer g (t .ts L .gs) e;
         cells = cells-drained z m (t .running .shape) (t .cells) L lane;
         own = λ w i e. clash _ e (drained-mine z m (t .running .shape) L (1 + w));
@@ -103,8 +103,8 @@ module _ (z : Sizes) (base : ℕ) (h : History) (m : Machine) (b : Book z base h
       }
 
   -- what it leaves
-  pub drained-ties : TiesOf z base (drained z L m) (settled L h) after
-  drained-ties = ties-moved z base L h (settled L h) m (drained z L m) b t after moving
+  pub drained-ties : TiesOf z base (drained z L m) (afterDrain L h) after
+  drained-ties = ties-moved z base L h (afterDrain L h) m (drained z L m) b t after moving
 
 -- ---- a lane that gives up what it holds
 module _ (z : Sizes) (base : ℕ) (h : History) (m : Machine) (b : Book z base h m) (t : Ties z base m h) (L : ℕ) (lane : L < z.lanes)
@@ -147,14 +147,14 @@ module _ (z : Sizes) (base : ℕ) (h : History) (m : Machine) (b : Book z base h
 
 -- ---- the calls
 pub ties-drains : (z : Sizes) (base : ℕ) (m : Machine) (h : History) (L : ℕ) → Book z base h m → Ties z base m h → Known z m L
-    → Ties z base (drained z L m) (settled L h)
+    → Ties z base (drained z L m) (afterDrain L h)
 ties-drains z base m h L b t k = drained-ties z base h m b t L (k .lane) .ties
 
 pub ties-gives-up : (z : Sizes) (base : ℕ) (m : Machine) (h : History) (L : ℕ) (f : List ℕ)
     → Book z base h m → Ties z base m h → Known z m L → txnBy former maxWrites z.words f ≡ true
-    → Ready m L → matches z L (writesOn z f m) m ≡ false → Ties z base (calls.released L (drained z L m)) (released L (settled L h))
+    → Ready m L → matches z L (writesOn z f m) m ≡ false → Ties z base (calls.released L (drained z L m)) (released L (afterDrain L h))
 ties-gives-up z base m h L f b t k ok y e =
     let d = drained-ties z base h m b t L (k .lane) in
-    released-ties z base (settled L h) (drained z L m) (book-drains z base h m b (ties-logs z base m h b t) L k) (d .ties) L (k .lane)
+    released-ties z base (afterDrain L h) (drained z L m) (book-drains z base h m b (ties-logs z base m h b t) L k) (d .ties) L (k .lane)
     (subst (Running z (calls.released L (drained z L m))) (sym (d .tracks)) (running-releases z m (t .ts) (t .running) L (k .lane)))
     .ties

@@ -35,7 +35,8 @@ unfolding slots.entryOf slots.stampOf slots.entryShape slots.stampShape slots.wh
     calls.badBuffers calls.badRecord calls.badLane calls.badTxn calls.notLogged calls.clockSpent calls.badLag calls.drained calls.changed
     calls.wouldHit calls.wouldLag
     calls.startImage calls.started calls.formatRefusal calls.formatStep calls.writeBackRefusal calls.writeBackStep calls.drainRefusal calls.drainStep
-    calls.writesOn calls.logRefusalBy calls.appended calls.logged calls.logStepBy calls.pairStores calls.commitStores calls.committed calls.redoRefusal
+    calls.writesOn calls.logTxnRefusalBy calls.appended calls.logged calls.logTxnStepBy calls.settleRefusal calls.settleStep calls.logRefusalBy
+    calls.logStepBy calls.pairStores calls.commitStores calls.committed calls.redoRefusal
     calls.isStale calls.redoPairs calls.redoStep calls.validateRefusalBy calls.entryMatches calls.entriesMatch calls.matches calls.released
     calls.validateStepBy calls.markRefusal calls.markStep
     recoveries.boundaryBelow recoveries.boundary recoveries.completeOf recoveries.atOrAbove recoveries.undoneBefore recoveries.insert
@@ -46,7 +47,7 @@ unfolding slots.entryOf slots.stampOf slots.entryShape slots.stampShape slots.wh
     events.nvmOf events.laneOf events.callStep events.vandzulge events.isTaken events.isFormer events.recoveryOf events.cutShortOf events.fitted events.fit
     events.partlyDrained events.bare events.foundOr events.afterStep events.afterFormat events.recoveredSystem events.afterRecovery
     events.afterFailure events.notOffered events.happens
-    histories.pageAt histories.opened histories.isBelow histories.replay histories.wordsBelow histories.floorOr histories.floorOnDrain histories.settled
+    histories.pageAt histories.opened histories.isBelow histories.replay histories.wordsBelow histories.floorOr histories.floorOnDrain histories.afterDrain
     histories.stamped histories.released histories.isSome histories.heldBy histories.isCounted histories.taken histories.restarted histories.afterCall
     histories.afterRecovered histories.fedAnswer histories.fedRecovery histories.fedFailure histories.fed histories.leastFloorOf histories.present
     histories.writesNow histories.newestStamp histories.writesLogged histories.sameOlds
@@ -54,5 +55,6 @@ unfolding slots.entryOf slots.stampOf slots.entryShape slots.stampShape slots.wh
     histories.clockSpent histories.wouldLag histories.causesBy histories.slotsBy histories.takenAnswer
     theorems.endOf theorems.isFull theorems.refusalBy theorems.answerBy theorems.recoveryAnswer theorems.mayStore
     corollaries.nextWorld corollaries.worldAfter corollaries.isFormat corollaries.startsAnew corollaries.goesOn corollaries.isDone
-    corollaries.isDrain corollaries.isIdle corollaries.staysIdle corollaries.othersFloor corollaries.stampsIn corollaries.cutCells
+    corollaries.isDrain corollaries.isIdle corollaries.staysIdle corollaries.othersFloor corollaries.isMark corollaries.stampsIn corollaries.cutCells
+    corollaries.areBelow corollaries.hasDrained corollaries.drainsLane corollaries.getsDrained
 everything = 0

@@ -12,7 +12,7 @@ use Rattle.store.specs.Machine.{Machine}
 use Rattle.store.specs.Calls.{started, startImage}
 use Rattle.record.specs.Record.{maxLag, noLane, laneAt}
 use Rattle.record.specs.declared.Lane.{Lane}
-use Rattle.store.specs.declared.Answer.the-variants.{Refused, Done, NoWrites, Logged, Committed, Stale, Changed, Marked}
+use Rattle.store.specs.declared.Answer.the-variants.{Refused, Done, NoWrites, Logged, Settled, Committed, Stale, Changed, Marked}
 use Rattle.recovery.specs.Recovery.{Restarted, recoverStep, recoverReadStep}
 use Rattle.recovery.specs.declared.Recovered.{Recovered}
 use Rattle.recovery.specs.declared.Recovered.the-variants as recovereds
@@ -493,6 +493,69 @@ poke-validated : replies small (begunWith (3 ∷ 0 ∷ []))
     ∷ []
 unfolding everything replies
 poke-validated = refl
+
+-- ---- Log of no words
+-- a commit at 4 is settled at 6 and the lane drained: no lane gives a boundary, and the commit stays
+abbrev settledList : List Event
+settledList = call (log 0 (set0 2)) ∷ call (redo 0) ∷ call (log 0 []) ∷ call (drain 0) ∷ fails junk ∷ []
+
+settled-kept : replies small begun (settledList ++ (recover maxLag 1000 junk ∷ []))
+    ≡ answered (Logged (record { count = 1; stamp = 2 }))
+    ∷ answered (Committed 4)
+    ∷ answered (Settled 6)
+    ∷ answered Done
+    ∷ failed false
+    ∷ recovered (Finished (record { boundary = None; undone = 0; torn = 0 }))
+    ∷ []
+unfolding everything replies
+settled-kept = refl
+
+settled-words : wordsIn small (afterAll small begun (settledList ++ (recover maxLag 1000 junk ∷ []))) ≡ 2 ∷ 0 ∷ []
+unfolding everything afterAll wordsIn
+settled-words = refl
+
+-- without the later drain the commit is the boundary, and lost
+settled-undrained : wordsIn small (afterAll small begun (call (log 0 (set0 2)) ∷ call (redo 0) ∷ call (log 0 []) ∷ fails junk ∷ recover maxLag 1000 junk ∷ []))
+    ≡ 0 ∷ 0 ∷ []
+unfolding everything afterAll wordsIn
+settled-undrained = refl
+
+-- the drain inside a later step of the lane serves too, even where power cuts that step short behind it
+settled-by-step : wordsIn small
+    (afterAll small begun
+    (call (log 0 (set0 2)) ∷ call (redo 0) ∷ call (log 0 []) ∷ failsAfterDrain (log 0 (set0 3)) junk ∷ recover maxLag 1000 junk ∷ []))
+    ≡ 2 ∷ 0 ∷ []
+unfolding everything afterAll wordsIn
+settled-by-step = refl
+
+-- another lane's floor of 2 is below the commit at 6: that is the boundary, and the commit is lost
+settled-below : wordsIn small
+    (afterAll small begun
+    (call (log 1 (set1 9)) ∷ call (drain 1) ∷ call (log 0 (set0 2)) ∷ call (redo 0) ∷ call (log 0 []) ∷ call (drain 0) ∷ fails junk
+    ∷ recover maxLag 1000 junk ∷ []))
+    ≡ 0 ∷ 0 ∷ []
+unfolding everything afterAll wordsIn
+settled-below = refl
+
+-- the store after it is the one after a Mark, where the lane holds nothing
+settled-as-mark : afterAll small begun (call (log 0 (set0 2)) ∷ call (redo 0) ∷ call (log 0 []) ∷ [])
+    ≡ afterAll small begun (call (log 0 (set0 2)) ∷ call (redo 0) ∷ call (mark 0) ∷ [])
+unfolding everything afterAll
+settled-as-mark = refl
+
+-- a lane that holds a transaction is not settled, and the transaction can still be committed; one word is no transaction; to Validate no words are none
+-- either; there is no lane 2
+settled-not : replies small begun
+    (call (log 0 (set0 2)) ∷ call (log 0 []) ∷ call (redo 0) ∷ call (log 0 (1 ∷ [])) ∷ call (validate 0 []) ∷ call (log 2 []) ∷ [])
+    ≡ answered (Logged (record { count = 1; stamp = 2 }))
+    ∷ answered (Refused 6)
+    ∷ answered (Committed 4)
+    ∷ answered (Refused 5)
+    ∷ answered (Refused 5)
+    ∷ answered (Refused 3)
+    ∷ []
+unfolding everything replies
+settled-not = refl
 
 -- ---- the trailer
 -- the last words of cells and cache after a commit, a cut and a recovery without sizes, and the flags of these words: as Format left them

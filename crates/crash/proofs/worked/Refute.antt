@@ -4,9 +4,9 @@ use Prim.Native.Nat.{ℕ, _+_}
 use mathlib.Core.Path.{_≡_, refl, ap, sym, _∙_}
 use mathlib.Core.Bool.{Bool, true, false, not, _&&_}
 use mathlib.Core.List.{List, [], _∷_, _++_}
-use lib.Dec.{leb, eqb}
+use lib.Dec.{leb, ltb, eqb}
 use lib.ListN.{length, replicate}
-use borrow.Author.Tests.{leb-true, eq-eqb, eqb-true, not-true}
+use borrow.Author.Tests.{leb-true, ltb-true, eq-eqb, eqb-true, not-true}
 use Rattle.laws.specs.inner.Tests.{clash, and-left, and-right}
 use Rattle.txn.specs.Txn.{Rule, after}
 use Rattle.image.specs.Image.{trailer, imageLength, dataOf}
@@ -20,13 +20,14 @@ use Rattle.store.specs.declared.Answer.{Answer}
 use Rattle.recovery.specs.Recovery.{boundary, allMade, recoverRefusal, told}
 use Rattle.recovery.specs.declared.Recovered.{Recovered}
 use Rattle.recovery.specs.declared.Recovered.the-variants.{Refused, Cut, Finished}
-use Rattle.crash.specs.Events.{Call, logBy, mark, drain, Junk, Event, format, call, recover, System, live, down, nvmOf}
+use Rattle.crash.specs.Events.{Call, logBy, drain, laneOf, Junk, Event, format, call, recover, System, live, down, nvmOf}
 use Rattle.crash.specs.Events.{Reply, answered, recovered, failed, ignored, Design, happens}
 use Rattle.crash.specs.History.{Commit, History, opened, isBelow, replay, present, wordsBelow, leastFloorOf}
 use Rattle.crash.specs.Theorem.{endOf, InStep, answerBy, formatAnswer, recoveryAnswer, Finishes, Replied, Agrees, CrashTheorem, FormerTheorem}
 use Rattle.crash.specs.Theorem.{mayStore, TrailerTheorem}
 use Rattle.crash.specs.Corollaries.{World, nextWorld, worldAfter, KeptBy, Kept, goesOn, SafeTheorem}
-use Rattle.crash.specs.Corollaries.{isDone, staysIdle, othersFloor, IdleTheorem, stampsIn, cutCells, LagTheorem}
+use Rattle.crash.specs.Corollaries.{isDone, staysIdle, othersFloor, isMark, IdleTheorem, stampsIn, cutCells, LagTheorem}
+use Rattle.crash.specs.Corollaries.{areBelow, getsDrained, SettledTheorem}
 use Rattle.crash.proofs.induction.Lists.{holds-after}
 use Rattle.crash.proofs.worked.Everything.{everything}
 
@@ -328,10 +329,6 @@ keptSides z h y (recovered r) = keptBySides z h y r
 keptSides z h y (failed b) = noSides
 keptSides z h y ignored = noSides
 
-unfoldable pub areBelow : Timestamp → List Commit → Bool
-areBelow f [] = true
-areBelow f (c ∷ cs) = isBelow f (c .stamp) && areBelow f cs
-
 all-run : (W : ℕ) (f b : Timestamp) → ((s : ℕ) → isBelow f s ≡ true → isBelow b s ≡ true) → (cs : List Commit) (ws : List ℕ) → areBelow f cs ≡ true
     → replay W b cs ws ≡ replay W None cs ws
 unfolding replay areBelow isBelow
@@ -391,36 +388,39 @@ unfoldable pub stampsOf : Timestamp → List ℕ
 stampsOf None = []
 stampsOf (At s) = s ∷ []
 
--- an idle lane: L is marked after the events es, drained after fs, and recovery comes after gs
-module _ (d : Design) (z : Sizes) (lag : ℕ) (start : List ℕ) (L : ℕ) (es fs gs : List Event) (lag₁ limit : ℕ) (j : Junk) where
+-- an idle lane: call x marks it after the events es, it is drained after fs, and recovery comes after gs
+module _ (d : Design) (z : Sizes) (lag : ℕ) (start : List ℕ) (x : Call) (es fs gs : List Event) (lag₁ limit : ℕ) (j : Junk) where
   unfoldable pub atDrain : World
-  atDrain = worldAfter d z (nextWorld d z (was d z lag start es) (call (mark L))) fs
+  atDrain = worldAfter d z (nextWorld d z (was d z lag start es) (call x)) fs
 
   unfoldable pub atCut : World
-  atCut = worldAfter d z (nextWorld d z atDrain (call (drain L))) gs
+  atCut = worldAfter d z (nextWorld d z atDrain (call (drain (laneOf x)))) gs
 
-  -- Format, Mark and Drain are taken, the lane stays idle, every commit is below the others' floors, and the two sides differ
+  -- it is a mark; Format, it and Drain are taken, the lane stays idle, every commit is below the others' floors, and the two sides differ
   unfoldable pub idleDiffers : (has due : List ℕ) → Bool
   idleDiffers has due =
       eqb (formatRefusal z lag start (blank z)) 0
-      && (isDone (happens d z (was d z lag start es .system) (call (mark L)) .reply)
-      && (staysIdle L fs
-      && (isDone (happens d z (atDrain .system) (call (drain L)) .reply)
-      && (staysIdle L gs && (areBelow (othersFloor L (atCut .history)) (atCut .history .commits) && differ (lastSides d z atCut lag₁ limit j) has due)))))
+      && (isMark x
+      && (isDone (happens d z (was d z lag start es .system) (call x) .reply)
+      && (staysIdle (laneOf x) fs
+      && (isDone (happens d z (atDrain .system) (call (drain (laneOf x))) .reply)
+      && (staysIdle (laneOf x) gs
+      && (areBelow (othersFloor (laneOf x) (atCut .history)) (atCut .history .commits) && differ (lastSides d z atCut lag₁ limit j) has due))))))
 
   pub wrong-idle : (has due : List ℕ) → idleDiffers has due ≡ true → IdleTheorem d → ⊥
   unfolding idleDiffers lastSides IdleTheorem was atDrain atCut
   wrong-idle has due t c =
       let t₁ = and-right (eqb (formatRefusal z lag start (blank z)) 0) _ t in
-      let t₂ = and-right (isDone (happens d z (was d z lag start es .system) (call (mark L)) .reply)) _ t₁ in
-      let t₃ = and-right (staysIdle L fs) _ t₂ in
-      let t₄ = and-right (isDone (happens d z (atDrain .system) (call (drain L)) .reply)) _ t₃ in
-      let t₅ = and-right (staysIdle L gs) _ t₄ in
-      let x = happens d z (atCut .system) (recover lag₁ limit j) in
-      differ-not (lastSides d z atCut lag₁ limit j) has due (and-right (areBelow (othersFloor L (atCut .history)) (atCut .history .commits)) _ t₅)
-      (kept-due z (atCut .history) (othersFloor L (atCut .history)) (and-left _ _ t₅) (x .system) (x .reply)
-      (c z lag start (blank z) (before z) (eqb-true (formatRefusal z lag start (blank z)) 0 (and-left _ _ t)) L es fs gs
-      (and-left _ _ t₁) (and-left _ _ t₂) (and-left _ _ t₃) (and-left _ _ t₄) lag₁ limit j))
+      let t₂ = and-right (isMark x) _ t₁ in
+      let t₃ = and-right (isDone (happens d z (was d z lag start es .system) (call x) .reply)) _ t₂ in
+      let t₄ = and-right (staysIdle (laneOf x) fs) _ t₃ in
+      let t₅ = and-right (isDone (happens d z (atDrain .system) (call (drain (laneOf x))) .reply)) _ t₄ in
+      let t₆ = and-right (staysIdle (laneOf x) gs) _ t₅ in
+      let y = happens d z (atCut .system) (recover lag₁ limit j) in
+      differ-not (lastSides d z atCut lag₁ limit j) has due (and-right (areBelow (othersFloor (laneOf x) (atCut .history)) (atCut .history .commits)) _ t₆)
+      (kept-due z (atCut .history) (othersFloor (laneOf x) (atCut .history)) (and-left _ _ t₆) (y .system) (y .reply)
+      (c z lag start (blank z) (before z) (eqb-true (formatRefusal z lag start (blank z)) 0 (and-left _ _ t)) x es fs gs
+      (and-left _ _ t₁) (and-left _ _ t₂) (and-left _ _ t₃) (and-left _ _ t₄) (and-left _ _ t₅) lag₁ limit j))
 
 -- a limit on lost work: after the events es transaction f is logged on lane L with timestamp s; after fs the boundary of the cut is b
 module _ (d : Design) (z : Sizes) (lag : ℕ) (start : List ℕ) (es : List Event) (q : Rule) (L : ℕ) (f : List ℕ) (fs : List Event) where
@@ -447,9 +447,42 @@ module _ (d : Design) (z : Sizes) (lag : ℕ) (start : List ℕ) (es : List Even
       (c z lag start (blank z) (before z) (eqb-true (formatRefusal z lag start (blank z)) 0 (and-left _ _ t)) es fs q L f s
       (same-true _ _ (and-left _ _ t₁)) (and-left _ _ t₂) .0)
 
+-- a lane that is settled: call x answers timestamp s after the events es, and recovery comes after fs
+module _ (d : Design) (z : Sizes) (lag : ℕ) (start : List ℕ) (es : List Event) (x : Call) (fs : List Event) (lag₁ limit : ℕ) (j : Junk) where
+  unfoldable pub atEnd : World
+  atEnd = worldAfter d z (nextWorld d z (was d z lag start es) (call x)) fs
+
+  -- Format is taken, x answers s, nothing starts anew, the lane is drained, k is below s and the floors of the others are above it, every commit is one of
+  -- those up to k, and the two sides differ
+  unfoldable pub settledDiffers : (s k : ℕ) (has due : List ℕ) → Bool
+  settledDiffers s k has due =
+      eqb (formatRefusal z lag start (blank z)) 0
+      && (same (stampsIn (happens d z (was d z lag start es .system) (call x) .reply)) (s ∷ [])
+      && (goesOn d z (nextWorld d z (was d z lag start es) (call x)) fs
+      && (getsDrained d z (laneOf x) (nextWorld d z (was d z lag start es) (call x)) fs
+      && (ltb k s
+      && (isBelow (othersFloor (laneOf x) (atEnd .history)) k
+      && (areBelow (At (k + 1)) (atEnd .history .commits) && differ (lastSides d z atEnd lag₁ limit j) has due))))))
+
+  pub wrong-settled : (s k : ℕ) (has due : List ℕ) → settledDiffers s k has due ≡ true → SettledTheorem d → ⊥
+  unfolding settledDiffers lastSides SettledTheorem was atEnd
+  wrong-settled s k has due t c =
+      let t₁ = and-right (eqb (formatRefusal z lag start (blank z)) 0) _ t in
+      let t₂ = and-right (same (stampsIn (happens d z (was d z lag start es .system) (call x) .reply)) (s ∷ [])) _ t₁ in
+      let t₃ = and-right (goesOn d z (nextWorld d z (was d z lag start es) (call x)) fs) _ t₂ in
+      let t₄ = and-right (getsDrained d z (laneOf x) (nextWorld d z (was d z lag start es) (call x)) fs) _ t₃ in
+      let t₅ = and-right (ltb k s) _ t₄ in
+      let t₆ = and-right (isBelow (othersFloor (laneOf x) (atEnd .history)) k) _ t₅ in
+      let y = happens d z (atEnd .system) (recover lag₁ limit j) in
+      differ-not (lastSides d z atEnd lag₁ limit j) has due (and-right (areBelow (At (k + 1)) (atEnd .history .commits)) _ t₆)
+      (kept-due z (atEnd .history) (At (k + 1)) (and-left _ _ t₆) (y .system) (y .reply)
+      (c z lag start (blank z) (before z) (eqb-true (formatRefusal z lag start (blank z)) 0 (and-left _ _ t)) es fs x s
+      (same-true _ _ (and-left _ _ t₁)) .1 (and-left _ _ t₂) (and-left _ _ t₃) k (ltb-true k s (and-left _ _ t₄)) (and-left _ _ t₅) .1 lag₁ limit j))
+
 -- one name that opens all of this, for the lists that the checker computes
 unfoldable pub refuting : ℕ
 unfolding everything same differ wordsSides clockSides endSides numbersIn answerSides countsIn countSides finishedSides recoveredSides blank
-    was differs is leftSides formerSides formerDiffers trailerSides trailerDiffers keptBySides keptSides areBelow
-    lastSides atLast safeDiffers atDrain atCut idleDiffers lagSides formatSides stampsOf atBoundary lossDiffers
+    was differs is leftSides formerSides formerDiffers trailerSides trailerDiffers keptBySides keptSides
+    lastSides atLast safeDiffers atDrain atCut idleDiffers lagSides formatSides stampsOf atBoundary lossDiffers atEnd
+    settledDiffers
 refuting = 0

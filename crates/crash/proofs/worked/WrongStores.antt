@@ -17,12 +17,14 @@ use Rattle.log.specs.declared.Latest.{Latest}
 use Rattle.log.specs.declared.Latest.the-variants.{Nothing, Is}
 use Rattle.log.specs.declared.Timestamp.{Timestamp}
 use Rattle.log.specs.declared.Timestamp.the-variants.{None, At}
-use Rattle.record.specs.Record.{maxLag, lagOk, blankRecord, noPair, laneAt, isLogged, loggedIn, lesser, boundOf, lagPassed, withLane}
+use Rattle.record.specs.Record.{maxLag, lagOk, blankRecord, noPair, laneAt, isLogged, loggedIn, lesser, boundOf, lagPassed, withLane, withClock}
 use Rattle.record.specs.declared.Lane.{Lane}
-use Rattle.store.specs.Machine.{Machine, Step, firstCause, said}
-use Rattle.store.specs.Calls.{badLag, startImage, started, drained, wouldLag, writesOn, logged}
-use Rattle.store.specs.Calls.{formatStep, writeBackStep, drainStep, logRefusalBy, logStepBy, redoStep, validateStepBy, markStep}
-use Rattle.store.specs.declared.Answer.the-variants.{Refused, Logged, Stale}
+use Rattle.store.specs.Machine.{Machine, Step, firstCause, unless, said}
+use Rattle.store.specs.Calls.{badLag, startImage, started, drained, wouldLag, wouldHit, writesOn, appended, marked, logged}
+use Rattle.store.specs.Calls.{formatStep, writeBackStep, drainStep, logTxnStepBy, settleRefusal, settleStep, logRefusalBy}
+use Rattle.store.specs.Calls.{logStepBy, redoStep, validateStepBy, markStep}
+use Rattle.record.specs.declared.Phase.the-variants.{Idle}
+use Rattle.store.specs.declared.Answer.the-variants.{Refused, NoWrites, Logged, Settled, Stale}
 use Rattle.recovery.specs.Recovery.{boundary, completeOf, ordered, undoneFrom, undone, undoSequences, undoStores, newBase, tornIn, zeros, recoveredNvm}
 use Rattle.recovery.specs.Recovery.{Restarted, recoveredBy, oddBase, recoverRefusal, recoverStep, recoverReadRefusal, recoverReadStep}
 use Rattle.recovery.specs.declared.Finished.{Finished}
@@ -31,17 +33,17 @@ use Rattle.recovery.specs.declared.Recovered.the-variants as recovereds
 use Rattle.crash.specs.Events.{Call, logBy, log, redo, validateBy, validate, mark, drain, Event, format, writeBack, call, recover, fails, failsInDrain}
 use Rattle.crash.specs.Events.{Design, callStep}
 use Rattle.crash.specs.Theorem.{CrashTheorem, FormerTheorem, TrailerTheorem}
-use Rattle.crash.specs.Corollaries.{SafeTheorem, IdleTheorem, LagTheorem}
+use Rattle.crash.specs.Corollaries.{SafeTheorem, IdleTheorem, LagTheorem, SettledTheorem}
 use Rattle.crash.proofs.worked.Worked.{small, junk, set0, set1, copy, poke, pokePassed, writeBacks, twoLanes}
 use Rattle.crash.proofs.worked.Refute.{wrong-words, wrong-end, wrong-clock, wrong-lag, wrong-format, wrong-answer, wrong-count, wrong-recovery}
-use Rattle.crash.proofs.worked.Refute.{wrong-former, wrong-trailer, wrong-safe, wrong-idle, wrong-loss, refuting}
+use Rattle.crash.proofs.worked.Refute.{wrong-former, wrong-trailer, wrong-safe, wrong-idle, wrong-loss, wrong-settled, refuting}
 
 -- A refutation names the store, the sizes, the lag limit, the start words, the events, then the last event, and two lists: the numbers that the store has at
 -- its end, and those that the theorem gives. `wrong-recovery` looks at the data words after a recovery, `wrong-count` at how many entries it says to have
 -- undone and how many torn slots to have found, `wrong-words` at the cached data words, `wrong-end` at the trailer in cells and cache and at its flags,
 -- `wrong-clock` at the clock, `wrong-lag` at the lag limit, `wrong-answer` and `wrong-format` at the number and the timestamp of an answer. `wrong-former`,
--- `wrong-trailer`, `wrong-safe`, `wrong-idle` and `wrong-loss` are of the theorems about images of the former length, who stores to the trailer, commits that
--- can no longer be lost, an idle lane, and lost work. `refl` computes the list and sees that they differ.
+-- `wrong-trailer`, `wrong-safe`, `wrong-idle`, `wrong-loss` and `wrong-settled` are of the theorems about images of the former length, who stores to the
+-- trailer, commits that can no longer be lost, an idle lane, lost work, and a lane that is settled. `refl` computes the list and sees that they differ.
 
 -- ---- how a store differs from ours
 -- in its calls
@@ -52,13 +54,23 @@ unfoldable calling : Calls → Design
 calling f =
     record { format = formatStep; writeBack = writeBackStep; call = f; recover = recoverStep; recoverRead = recoverReadStep; cutShort = recoveredNvm }
 
--- in one of them
+-- in one of them: Log of a transaction that has words
 unfoldable logging : (Rule → Sizes → ℕ → List ℕ → Machine → Step) → Calls → Calls
-logging f rest z (logBy r L g) m = f r z L g m
+logging f rest z (logBy r L []) m = rest z (logBy r L []) m
+logging f rest z (logBy r L (w ∷ g)) m = f r z L (w ∷ g) m
 logging f rest z (redo L) m = rest z (redo L) m
 logging f rest z (validateBy r L g) m = rest z (validateBy r L g) m
 logging f rest z (mark L) m = rest z (mark L) m
 logging f rest z (drain L) m = rest z (drain L) m
+
+-- Log of no words
+unfoldable settling : (Sizes → ℕ → Machine → Step) → Calls → Calls
+settling f rest z (logBy r L []) m = f z L m
+settling f rest z (logBy r L (w ∷ g)) m = rest z (logBy r L (w ∷ g)) m
+settling f rest z (redo L) m = rest z (redo L) m
+settling f rest z (validateBy r L g) m = rest z (validateBy r L g) m
+settling f rest z (mark L) m = rest z (mark L) m
+settling f rest z (drain L) m = rest z (drain L) m
 
 unfoldable redoing : (Sizes → ℕ → Machine → Step) → Calls → Calls
 redoing f rest z (logBy r L g) m = rest z (logBy r L g) m
@@ -183,8 +195,8 @@ allBackAndCut = writeBacks 0 139 ++ (fails junk ∷ [])
 
 -- one name that opens all of this
 unfoldable made : ℕ
-unfolding refuting writeBacks calling logging redoing validating marking draining formatting recoverBy storing finishedAs told-as telling withTorn base clearing
-    withCache withLaneOf laneIn unfloored joined
+unfolding refuting writeBacks calling logging settling redoing validating marking draining formatting recoverBy storing finishedAs told-as telling withTorn
+    base clearing withCache withLaneOf laneIn unfloored joined
 made = 0
 
 -- ---- the traps
@@ -697,7 +709,7 @@ marksGive = boundedBy givesAlways
 marks-give : IdleTheorem marksGive → ⊥
 unfolding made marksGive boundedBy leastBy givesAlways
 marks-give =
-    wrong-idle marksGive small maxLag (0 ∷ 0 ∷ []) 1 [] []
+    wrong-idle marksGive small maxLag (0 ∷ 0 ∷ []) (mark 1) [] []
     (call (log 0 (set0 2)) ∷ call (redo 0) ∷ call (mark 0) ∷ call (drain 0) ∷ fails junk ∷ [])
     maxLag 1000 junk (0 ∷ 0 ∷ []) (2 ∷ 0 ∷ []) refl
 
@@ -729,7 +741,7 @@ withLag lag m =
       flags = m .flags;
     }
 
--- a store whose Log goes by a test of its own for 15. The greatest limit never binds in these lists
+-- a store whose Log of a transaction that has words goes by a test of its own for 15. The greatest limit never binds in these lists
 unfoldable lagging : (Sizes → ℕ → List ℕ → Machine → Bool) → Design
 lagging far =
     calling
@@ -748,7 +760,7 @@ isWriting z f m = leb 1 (length (writesOn z f m))
 abbrev lane0Ahead : List Event
 lane0Ahead = call (log 1 (set1 9)) ∷ call (drain 1) ∷ call (log 0 (set0 2)) ∷ call (redo 0) ∷ []
 
--- 37. No Log is refused with 15. With a limit of 2 lane 0 logs at 8, and the boundary is 2
+-- 37. No Log that has words is refused with 15. With a limit of 2 lane 0 logs at 8, and the boundary is 2
 unfoldable neverLags : Design
 neverLags = lagging (λ z L f m. false)
 
@@ -792,12 +804,12 @@ binds-without =
     (log 1 (set1 9)) (15 ∷ []) (0 ∷ 6 ∷ []) refl
 
 -- 41. It binds a Log that writes nothing: word 1 is 0, so the SET is passed over
-unfoldable bindsEmpty : Design
-bindsEmpty = lagging (λ z L f m. wouldLag z L m)
+unfoldable bindsNothing : Design
+bindsNothing = lagging (λ z L f m. wouldLag z L m)
 
-binds-empty : CrashTheorem bindsEmpty → ⊥
-unfolding made bindsEmpty lagging withLag
-binds-empty = wrong-answer bindsEmpty small 2 (0 ∷ 0 ∷ []) lane0Ahead (log 0 (5 ∷ 0 ∷ 1 ∷ 1 ∷ set0 3)) (15 ∷ []) (0 ∷ []) refl
+binds-nothing : CrashTheorem bindsNothing → ⊥
+unfolding made bindsNothing lagging withLag
+binds-nothing = wrong-answer bindsNothing small 2 (0 ∷ 0 ∷ []) lane0Ahead (log 0 (5 ∷ 0 ∷ 1 ∷ 1 ∷ set0 3)) (15 ∷ []) (0 ∷ []) refl
 
 -- 42. It binds a Mark
 unfoldable bindsMark : Design
@@ -875,3 +887,114 @@ lagFirst = formatsBy (λ z lag start m. cond (lagOk lag) (formatStep z lag start
 lag-first : CrashTheorem lagFirst → ⊥
 unfolding made lagFirst formatsBy
 lag-first = wrong-format lagFirst small maxLag (0 ∷ 0 ∷ []) [] 3 (0 ∷ []) (16 ∷ []) (1 ∷ []) refl
+
+-- ---- Log of no words
+-- a lane is settled after all where it would be refused by this number
+unfoldable despite : ℕ → Design
+despite n =
+    calling
+    (settling
+    (λ z L m. cond (eqb (settleRefusal z L m) n) (record { answer = Settled (m .state .clock + 2); machine = marked z L m }) (settleStep z L m)) callStep)
+
+-- 48. It answers a timestamp and takes the clock there, but appends nothing. Lane 0 commits at 4, is settled at 6 and drained; the commit is the boundary
+unfoldable appendsNothing : Design
+appendsNothing =
+    calling
+    (settling
+    (λ z L m.
+    let d = drained z L m in
+    let s = m .state .clock + 2 in
+    unless (settleRefusal z L m) m
+    (record { answer = Settled s; machine = record { state = withClock (d .state) s; cache = d .cache; nvm = d .nvm; flags = d .flags } }))
+    callStep)
+
+appends-nothing : SettledTheorem appendsNothing → ⊥
+unfolding made appendsNothing
+appends-nothing =
+    wrong-settled appendsNothing small maxLag (0 ∷ 0 ∷ []) (call (log 0 (set0 2)) ∷ call (redo 0) ∷ []) (log 0 []) (call (drain 0) ∷ fails junk ∷ [])
+    maxLag 1000 junk 6 4 (0 ∷ 0 ∷ []) (2 ∷ 0 ∷ []) refl
+
+-- 49. It appends before the lane is drained. Of a commit of both words, the first word and the mark, slot 3 of the log, are stored when power fails: the
+-- newest sequence is the mark, so nothing is undone, and half of the commit stays
+unfoldable undrained : Design
+undrained =
+    calling
+    (settling
+    (λ z L m.
+    unless (settleRefusal z L m) m
+    (record { answer = Settled (m .state .clock + 2); machine = appended z L [] Idle (laneAt (m .state) L .redo) m }))
+    callStep)
+
+un-drained : CrashTheorem undrained → ⊥
+unfolding made undrained
+un-drained =
+    wrong-recovery undrained small maxLag (0 ∷ 0 ∷ [])
+    (call (log 0 (1 ∷ 0 ∷ 0 ∷ 2 ∷ 1 ∷ 1 ∷ 0 ∷ 3 ∷ [])) ∷ call (redo 0) ∷ call (log 0 []) ∷ failsInDrain (drain 0) (1 ∷ 9 ∷ 10 ∷ []) junk ∷ [])
+    maxLag 1000 junk (2 ∷ 0 ∷ []) (2 ∷ 3 ∷ []) refl
+
+-- 50. The floor ends at once, not at the next drain. Lane 1's mark is not written back when power fails, so its commit at 4 is the boundary; but nothing
+-- kept lane 0's third transaction from being logged over its first one
+unfoldable endsAtOnce : Design
+endsAtOnce = calling (settling (λ z L m. unfloored L (settleStep z L m)) callStep)
+
+ends-at-once : CrashTheorem endsAtOnce → ⊥
+unfolding made endsAtOnce additions
+ends-at-once =
+    wrong-recovery endsAtOnce small maxLag (0 ∷ 0 ∷ [])
+    (call (log 1 (set1 9)) ∷ call (redo 1) ∷ call (log 1 []) ∷ threeOnLane0 ++ (writeBacks 0 71 ++ (fails junk ∷ [])))
+    maxLag 1000 junk (16 ∷ 0 ∷ []) (0 ∷ 0 ∷ []) refl
+
+-- 51. A logged transaction is dropped, as by a Mark
+drops-logged : CrashTheorem (despite 6) → ⊥
+unfolding made despite
+drops-logged = wrong-answer (despite 6) small maxLag (0 ∷ 0 ∷ []) (call (log 0 (set0 2)) ∷ []) (log 0 []) (0 ∷ 4 ∷ []) (6 ∷ []) refl
+
+-- 52. The lag limit does not bind it. Lane 0 is settled at 8 with a limit of 2, and the boundary is 2
+settles-late : LagTheorem (despite 15) → ⊥
+unfolding made despite
+settles-late = wrong-loss (despite 15) small 2 (0 ∷ 0 ∷ []) lane0Ahead current 0 [] (fails junk ∷ []) 8 2 refl
+
+-- 53. It is never refused with 9. Lane 1 is marked at 2 and keeps that floor; 34 marks have filled lane 0's log
+settles-over : CrashTheorem (despite 9) → ⊥
+unfolding made despite marksOf
+settles-over = wrong-answer (despite 9) small maxLag (0 ∷ 0 ∷ []) (call (mark 1) ∷ marksOf 0 34) (log 0 []) (0 ∷ 72 ∷ []) (9 ∷ []) refl
+
+-- 54. Two slots are counted for it. One is free
+unfoldable twoSlots : Design
+twoSlots = calling (settling (λ z L m. cond (wouldHit z L 2 m) (record { answer = Refused 9; machine = m }) (settleStep z L m)) callStep)
+
+two-slots : CrashTheorem twoSlots → ⊥
+unfolding made twoSlots marksOf
+two-slots = wrong-answer twoSlots small maxLag (0 ∷ 0 ∷ []) (call (mark 1) ∷ marksOf 0 33) (log 0 []) (9 ∷ []) (0 ∷ 70 ∷ []) refl
+
+-- 55. 15 comes before 6. Lane 1 has logged at 2; two marks of lane 0 take the clock past the limit
+unfoldable lagBeforeHeld : Design
+lagBeforeHeld = calling (settling (λ z L m. cond (wouldLag z L m) (record { answer = Refused 15; machine = m }) (settleStep z L m)) callStep)
+
+lag-before-held : CrashTheorem lagBeforeHeld → ⊥
+unfolding made lagBeforeHeld marksOf
+lag-before-held = wrong-answer lagBeforeHeld small 2 (0 ∷ 0 ∷ []) (call (log 1 (set1 9)) ∷ marksOf 0 2) (log 1 []) (15 ∷ []) (6 ∷ []) refl
+
+-- 56. It is checked as any transaction is, and refused with 5
+unfoldable refusesEmpty : Design
+refusesEmpty = calling (settling (λ z L m. logTxnStepBy current z L [] m) callStep)
+
+refuses-empty : CrashTheorem refusesEmpty → ⊥
+unfolding made refusesEmpty
+refuses-empty = wrong-answer refusesEmpty small maxLag (0 ∷ 0 ∷ []) [] (log 0 []) (5 ∷ []) (0 ∷ 2 ∷ []) refl
+
+-- 57. It answers count 0 without a timestamp, as a Log that writes nothing does
+unfoldable hidesStamp : Design
+hidesStamp = calling (settling (λ z L m. unless (settleRefusal z L m) m (record { answer = NoWrites; machine = marked z L m })) callStep)
+
+hides-stamp : CrashTheorem hidesStamp → ⊥
+unfolding made hidesStamp
+hides-stamp = wrong-answer hidesStamp small maxLag (0 ∷ 0 ∷ []) [] (log 0 []) (0 ∷ []) (0 ∷ 2 ∷ []) refl
+
+-- 58. Validate takes it too
+unfoldable validatesEmpty : Design
+validatesEmpty = calling (validating (λ r z L f m. cond (eqb (length f) 0) (settleStep z L m) (validateStepBy r z L f m)) callStep)
+
+validates-empty : CrashTheorem validatesEmpty → ⊥
+unfolding made validatesEmpty
+validates-empty = wrong-answer validatesEmpty small maxLag (0 ∷ 0 ∷ []) [] (validate 0 []) (0 ∷ 2 ∷ []) (5 ∷ []) refl

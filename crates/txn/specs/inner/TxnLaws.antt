@@ -40,6 +40,11 @@ length-runFrom W n (x ∷ xs) ws =
     let l = runFrom W (passed n x ws) xs (applied e ws) in
     omega (arith, length-append e l, length-emit W n x ws, length-runFrom W (passed n x ws) xs (applied e ws))
 
+-- no words write nothing
+pub run-none : (W : ℕ) (ws : List ℕ) → run W [] ws ≡ []
+unfolding run instructions instructionsFrom runFrom
+run-none W ws = refl
+
 -- at most one write an instruction
 pub length-run : (W : ℕ) (f ws : List ℕ) → length (run W f ws) ≤ length f / 4
 unfolding run instructions

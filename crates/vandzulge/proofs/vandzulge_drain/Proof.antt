@@ -1,5 +1,5 @@
 -- `vandzulge_drain` leaves what the call's own step says: a slice of another length is the call unfit, and
--- otherwise the record's words are written by `settle`. Assumes nothing.
+-- otherwise the record's words are written by `put_record`. Assumes nothing.
 use mathlib.Core.Path.{refl}
 use borrow.Author.Needs.{needs}
 use Rattle.vandzulge.specs.inner.ExportsLaws.{fits, fits-not, left-unfit, left-by}
@@ -15,8 +15,8 @@ record-from-requires c κs = search needs
 drain-requires : tie.Need-drain-requires
 drain-requires c κs = search needs
 
-settle-requires : tie.Need-settle-requires
-settle-requires c κs = search needs
+put-record-requires : tie.Need-put-record-requires
+put-record-requires c κs = search needs
 
 same-length : tie.Need-same-length
 same-length c = search needs
@@ -33,10 +33,11 @@ returns-2 c =
     let d = s .before .before .before .before .before .before in
     let f = d .before .before .before in
     let e = c .before .before .before .before .before .before .before .before .before .before .before .before .before in
-    left-by _ _ _ _ _ _ _ _ _ _ _ _ _ _ (fits _ (e .if1 .left)) (f .record-from .ensures) (d .drain .ensures) (s .settle .ensures .0) (s .settle .ensures .1)
+    left-by _ _ _ _ _ _ _ _ _ _ _ _ _ _ (fits _ (e .if1 .left)) (f .record-from .ensures) (d .drain .ensures) (s .put-record .ensures .0)
+    (s .put-record .ensures .1)
 
 pub vandzulge-drain-spec : {M : Type 1} → statement M
 vandzulge-drain-spec =
     tie.close
-    (tie.spec returns record-from-requires drain-requires settle-requires same-length same-length-2 same-length-3
+    (tie.spec returns record-from-requires drain-requires put-record-requires same-length same-length-2 same-length-3
     returns-2)

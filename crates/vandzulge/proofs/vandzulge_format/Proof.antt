@@ -1,5 +1,5 @@
 -- `vandzulge_format` leaves what the call's own step says: a slice of another length is the call unfit, and
--- otherwise the record's words are written by `settle`. Assumes nothing.
+-- otherwise the record's words are written by `put_record`. Assumes nothing.
 use mathlib.Core.Path.{refl}
 use borrow.Author.Needs.{needs}
 use Rattle.vandzulge.specs.inner.ExportsLaws.{fits, fits-not, left-unfit, left-by}
@@ -12,8 +12,8 @@ returns c = left-unfit _ _ _ _ _ _ _ (fits-not _ _ (c .if1 .taken) refl)
 format-requires : tie.Need-format-requires
 format-requires c κs = search needs
 
-settle-requires : tie.Need-settle-requires
-settle-requires c κs = search needs
+put-record-requires : tie.Need-put-record-requires
+put-record-requires c κs = search needs
 
 same-length : tie.Need-same-length
 same-length c = search needs
@@ -32,9 +32,9 @@ returns-2 c =
     let s = c .before .before in
     let d = s .before .before .before .before .before .before .before .before in
     let e = d .before .before .before .before in
-    left-by _ _ _ _ _ _ _ _ _ _ _ _ _ _ (fits _ (e .if1 .left)) refl (d .format .ensures) (s .settle .ensures .0) (s .settle .ensures .1)
+    left-by _ _ _ _ _ _ _ _ _ _ _ _ _ _ (fits _ (e .if1 .left)) refl (d .format .ensures) (s .put-record .ensures .0) (s .put-record .ensures .1)
 
 pub vandzulge-format-spec : {M : Type 1} → statement M
 vandzulge-format-spec =
     tie.close
-    (tie.spec returns format-requires settle-requires same-length same-length-2 same-length-3 same-length-4 returns-2)
+    (tie.spec returns format-requires put-record-requires same-length same-length-2 same-length-3 same-length-4 returns-2)

@@ -1,4 +1,5 @@
--- `vandzulge_validate` leaves and answers what the call's own step says: slices of another length are the call unfit, and otherwise `reply` and `settle` write.
+-- `vandzulge_validate` leaves and answers what the call's own step says: slices of another length are the call unfit, and otherwise `reply` and
+-- `put_record` write.
 -- Assumes nothing.
 use mathlib.Core.Path.{refl}
 use borrow.Author.Needs.{needs}
@@ -21,8 +22,8 @@ validate-requires c κs = search needs
 reply-requires : tie.Need-reply-requires
 reply-requires c κs = search needs
 
-settle-requires : tie.Need-settle-requires
-settle-requires c κs = search needs
+put-record-requires : tie.Need-put-record-requires
+put-record-requires c κs = search needs
 
 same-length : tie.Need-same-length
 same-length c = search needs
@@ -47,12 +48,12 @@ returns-3 c =
     let f = d .before .before .before .before in
     let e = d .before .before .before .before .before .before in
     let b = both _ _ (e .before .if1 .left) (e .if2 .left) in (
-      left-by _ _ _ _ _ _ _ _ _ _ _ _ _ _ b (f .record-from .ensures) (d .validate .ensures) (s .settle .ensures .0) (s .settle .ensures .1),
+      left-by _ _ _ _ _ _ _ _ _ _ _ _ _ _ b (f .record-from .ensures) (d .validate .ensures) (s .put-record .ensures .0) (s .put-record .ensures .1),
       reply-by _ _ _ _ _ _ _ _ _ _ _ _ _ b (f .record-from .ensures) (d .validate .ensures) (p .reply .ensures),
     )
 
 pub vandzulge-validate-spec : {M : Type 1} → statement M
 vandzulge-validate-spec =
     tie.close
-    (tie.spec returns returns-2 record-from-requires validate-requires reply-requires settle-requires same-length
+    (tie.spec returns returns-2 record-from-requires validate-requires reply-requires put-record-requires same-length
     same-length-2 same-length-3 same-length-4 same-length-5 returns-3)

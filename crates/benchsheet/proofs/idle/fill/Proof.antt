@@ -5,10 +5,10 @@ use Rattle.benchsheet.proofs.idle.fill.Statement.{statement}
 use Rattle.benchsheet.proofs.idle.fill.Tie as tie
 
 abbrev Inv-loop : tie.InvT-loop
-Inv-loop arena₀ counter₀ arena counter = Unit
+Inv-loop arena₀ count counter₀ arena counter = Unit
 
 abbrev μ-loop : tie.MeasureT-loop
-μ-loop arena₀ counter₀ arena counter = 17 - counter
+μ-loop arena₀ count counter₀ arena counter = count - counter
 
 loop-holds : tie.Need-loop-holds Inv-loop μ-loop
 loop-holds c = search needs

@@ -29,6 +29,9 @@ enum-told-6 c = search needs
 enum-told-7 : tie.Need-enum-told-7
 enum-told-7 c = search needs
 
+enum-told-8 : tie.Need-enum-told-8
+enum-told-8 c = search needs
+
 returns : tie.Need-returns
 unfolding said
 returns c = rw (c .before .answer .given .1)
@@ -61,8 +64,12 @@ returns-8 : tie.Need-returns-8
 unfolding said
 returns-8 c = rw (c .enum-told7 .given .1)
 
+returns-9 : tie.Need-returns-9
+unfolding said
+returns-9 c = rw (c .enum-told8 .given .1)
+
 pub number-in-spec : {M : Type 1} → statement M
 number-in-spec =
     tie.close
     (tie.spec enum-known-answer enum-told enum-told-2 enum-told-3 enum-told-4 enum-told-5 enum-told-6 enum-told-7
-    returns returns-2 returns-3 returns-4 returns-5 returns-6 returns-7 returns-8)
+    enum-told-8 returns returns-2 returns-3 returns-4 returns-5 returns-6 returns-7 returns-8 returns-9)

@@ -1,11 +1,11 @@
--- `answers::settle` returns the number and writes the record's words where it is 0.
+-- `answers::put_record` returns the number and writes the record's words where it is 0.
 -- Assumes nothing.
 use mathlib.Core.Path.{_≡_, sym, _∙_}
 use native.Mathlib.Omega.{arith}
 use borrow.Author.Needs.{needs}
 use Rattle.vandzulge.specs.inner.ExportsLaws.{taken, not-taken}
-use Rattle.vandzulge.proofs.answers.settle.Statement.{statement}
-use Rattle.vandzulge.proofs.answers.settle.Tie as tie
+use Rattle.vandzulge.proofs.answers.put_record.Statement.{statement}
+use Rattle.vandzulge.proofs.answers.put_record.Tie as tie
 
 number-in-requires : tie.Need-number-in-requires
 number-in-requires c κs = search needs
@@ -27,6 +27,6 @@ returns-2 c =
     let z : e .before .number-in .result ≡ 0 = omega arith in
     (sym z ∙ n, taken _ _ _ _ _ n z (r .record-to .ensures))
 
-pub settle-spec : {M : Type 1} → statement M
-settle-spec =
+pub put-record-spec : {M : Type 1} → statement M
+put-record-spec =
     tie.close (tie.spec number-in-requires returns record-to-requires same-length returns-2)

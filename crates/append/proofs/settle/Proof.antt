@@ -1,0 +1,68 @@
+-- `append::settle` meets its contract: the record changed once is the drained one with a mark appended.
+-- Assumes nothing.
+use Prim.Native.Nat.{_≤_, _<_}
+use mathlib.Core.List.{[]}
+use native.Mathlib.Omega.{arith}
+use lib.ListN.{length}
+use borrow.Author.Needs.{needs}
+use Rattle.record.specs.Record.{laneAt}
+use Rattle.record.proofs.Lengths.{lanes-eight}
+use Rattle.store.specs.inner.StoreLaws.{lane-small}
+use Rattle.store.specs.inner.CachedWritesLaws.{count-of}
+use Rattle.append.specs.inner.LogMarkLaws.{appended-by, settled-by}
+use Rattle.append.proofs.settle.Statement.{statement}
+use Rattle.append.proofs.settle.Tie as tie
+
+mul-old : tie.Need-mul-old
+mul-old c = let p = c .before .before .pre .appendable in omega (arith, lane-small _ _ (p .image .sizes-ok) (p .lane-below))
+
+element-copy-out-old : tie.Need-element-copy-out-old
+element-copy-out-old c = let p = c .before .before .pre .appendable in omega (arith, lane-small _ _ (p .image .sizes-ok) (p .lane-below))
+
+drained-lane-requires : tie.Need-drained-lane-requires
+drained-lane-requires c κs = search needs
+
+add-stamp : tie.Need-add-stamp
+add-stamp c = search needs
+
+none-requires : tie.Need-none-requires
+none-requires c κs = search needs
+
+appended-requires : tie.Need-appended-requires
+unfolding laneAt
+appended-requires c κs =
+    let d = c .before .before .before .before in
+    rw (d .drained-lane .ensures, c .none .ensures) (d .before .before .before .before .pre .appendable)
+
+stamped-requires : tie.Need-stamped-requires
+stamped-requires c κs =
+    let p = c .before .before .before .before .before .before .before .before .before .before .before .before .before .pre .appendable in
+    lane-small _ _ (p .image .sizes-ok) (p .lane-below)
+
+same-length : tie.Need-same-length
+same-length c = search needs
+
+same-length-2 : tie.Need-same-length-2
+same-length-2 c = search needs
+
+returns : tie.Need-returns
+unfolding laneAt
+returns c =
+    let a = c .before .before .before .before .before in
+    let n = a .before in
+    let d = n .before .before .before .before in
+    let s = d .before .before .before .before in
+    let k = s .pre .appendable in
+    let w = n .none .result in
+    let l : w .count ≤ length (w .list) = omega (arith, count-of w [] (n .none .ensures)) in
+    let h : s .args .lane < length (s .args .t2 .lanes) =
+    omega (arith, lanes-eight (s .args .t2) (s .good .1 .0), lane-small _ _ (k .image .sizes-ok) (k .lane-below)) in
+    λ nvm. settled-by _ _ _ _ _ (s .pre .found) _ (d .drained-lane .ensures) h nvm _ w (n .none .ensures) _
+    (appended-by _ _ _ _ _ (s .pre .found) _ (d .drained-lane .ensures) h _ _ nvm _ w l (a .appended .result) _ _ _ (a .appended .ensures .0)
+    (c .stamped .ensures) (a .appended .ensures .1 .0) (a .appended .ensures .1 .1))
+
+pub settle-spec : {M : Type 1} → statement M
+settle-spec =
+    tie.close
+    (tie.spec mul-old element-copy-out-old drained-lane-requires add-stamp none-requires appended-requires stamped-requires
+    same-length same-length-2 returns)
