@@ -1,6 +1,6 @@
 -- `append::plan_log` meets its contract: the checks, then the run on the data words and, where it writes or there are no words, the room for its sequence.
 -- Assumes nothing.
-use mathlib.Core.Path.{sym, _∙_}
+use mathlib.Core.Path.{refl, sym, _∙_}
 use mathlib.Core.Logic.{⊎-elim}
 use native.Mathlib.Omega.{arith}
 use borrow.Author.Tests.{eqb-true, eqb-false}
@@ -44,7 +44,8 @@ returns-2 c =
     let e = r .before in
     let v = run-on _ _ _ _ _ _ _ (r .writes-of .ensures) in
     record {
-      number = log-nothing _ _ _ _ (unrefused _ _ _ _ (sym (e .before .log-checks .ensures) ∙ e .if1 .left)) _ v (t .if2 .taken) (eqb-true _ 0 (c .if3 .taken));
+      number = log-nothing _ _ _ _ (unrefused _ _ _ _ (sym (e .before .log-checks .ensures) ∙ e .if1 .left)) _ v (λ h. omega (arith, t .if2 .taken))
+          (eqb-true _ 0 (c .if3 .taken));
       writes = λ z. v;
       latest = λ z. d .latest-in .ensures;
     }
@@ -76,8 +77,9 @@ returns-3 c =
     let e = r .before in
     let v = run-on _ _ _ _ _ _ _ (r .writes-of .ensures) in
     record {
-      number = log-room _ _ _ _ (unrefused _ _ _ _ (sym (e .before .log-checks .ensures) ∙ e .if1 .left)) _ v _ (c .append-refusal .ensures)
-          (⊎-elim (λ w. takes-some _ _ _ _ v (eqb-false _ 0 (w .2 .left))) (λ w. takes-none _ _ _ (w .left)) (j .if2 .came));
+      number = log-room _ _ _ _ (unrefused _ _ _ _ (sym (e .before .log-checks .ensures) ∙ e .if1 .left)) _ v _ _ _ (c .append-refusal .ensures)
+          (omega arith) refl
+          (⊎-elim (λ w. takes-some _ _ _ _ v (eqb-false _ 0 (w .2 .left))) (λ w. takes-none _ _ _ (omega (arith, w .left))) (j .if2 .came));
       writes = λ z. v;
       latest = λ z. d .latest-in .ensures;
     }

@@ -225,10 +225,10 @@ module _ (z : Sizes) (L : ℕ) (f : List ℕ) (m : Machine) where
         sym (log-left u ∙ first-fails _ _ (rw t) ∙ first-fails _ _ (rw t) ∙ first-fails _ _ (rw t) ∙ first-end)
 
     -- where it writes, or there are no words, those of an append
-    pub log-room : (number : ℕ) → number ≡ roomRefusal z (m .state) (m .cache) L (w .count + 1) true → takesStamp z f m ≡ true
-        → number ≡ logRefusal z L f m
+    pub log-room : (number n : ℕ) (binds : Bool) → number ≡ roomRefusal z (m .state) (m .cache) L n binds → n ≡ w .count + 1 → binds ≡ true
+        → takesStamp z f m ≡ true → number ≡ logRefusal z L f m
     unfolding clockSpent
-    log-room number r t = r ∙ rw (count-of w _ v) (room-bound z L (length (writesOn z f m) + 1) m ∙ sym (log-left u ∙ rw t))
+    log-room number n binds r e b t = r ∙ rw (e, b, count-of w _ v) (room-bound z L (length (writesOn z f m) + 1) m ∙ sym (log-left u ∙ rw t))
 
   log-unspent : logRefusal z L f m ≡ 0 → takesStamp z f m ≡ true → spent (m .state) ≡ false
   log-unspent e t =
