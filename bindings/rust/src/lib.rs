@@ -18,13 +18,21 @@
 //!
 //! The *lag limit*, given to Format and to each recovery, is how far a cut can go back: a Log is refused where its timestamp would be more than that above the least floor. So of the
 //! commits made before the last Log that took a timestamp a cut takes at most half the limit, timestamps being even, and of those since then at most one a lane.
+//!
+//! A *long transaction*, of up to 64 instructions, runs under a lock, of which the store has one: [`Store::long`] takes it, and each step of the [`LongTxn`] that it gives logs or
+//! writes a part of at most 16 writes. The last step commits it and frees the lock; after a cut in any of them all of it stands or none. Until then other steps are refused, while
+//! drains and write-backs go on, and the cached words show the parts that are written.
 
 pub mod images;
 pub mod plain;
 pub mod raw;
 
 /// Words of a record.
-pub const RECORD_WORDS: usize = 323;
+pub const RECORD_WORDS: usize = 457;
+/// The record's word that has the lag limit.
+pub const LAG_WORD: usize = 322;
+/// The first of the record's words for the lock: whether it is held, its lane, timestamp, count of writes, how many of them are logged, how many are written; then 64 pairs.
+pub const LOCK_WORD: usize = 323;
 /// Words of an answer.
 pub const ANSWER_WORDS: usize = 4;
 pub const MAX_WORDS: usize = 1024;
@@ -33,6 +41,8 @@ pub const MIN_SLOTS: usize = 34;
 pub const MAX_SLOTS: usize = 256;
 /// Words of the longest transaction: 16 instructions of four.
 pub const MAX_TXN_WORDS: usize = 64;
+/// Words of the longest transaction under the lock: 64 instructions of four.
+pub const MAX_LONG_TXN_WORDS: usize = 256;
 /// The greatest lag limit, which practically never binds; the least is 2.
 pub const GREATEST_LAG: u64 = 1 << 32;
 /// Words of the trailer, the last ones of an image: W, T, N, and how many words stand before these four.
@@ -71,21 +81,25 @@ pub enum Refusal {
     Lane,
     /// 4: no such word in the image
     Word,
-    /// 5: no well-formed transaction; one with the withdrawn POKE (code 4) is none, wherever it stands, and for Validate the empty one is none
+    /// 5: no well-formed transaction; one with the withdrawn POKE (code 4) is none, wherever it stands, and for Validate and Lock the empty one is none
     Txn,
-    /// 6: Log, also one that settles, on a lane that holds a transaction
+    /// 6: Log, also one that settles, or Lock on a lane that holds a transaction
     Logged,
-    /// 7: Redo or Validate on an idle lane
+    /// 7: Redo or Validate on an idle lane, or Continue while the lock is free
     Idle,
     /// 8: the clock is spent
     Spent,
-    /// 9: the append would overwrite a sequence that recovery may need, one not below the least floor
+    /// 9: the append would overwrite a sequence that recovery may need, one not below the least floor; a Lock asks for the slots of all its parts
     Overwrite,
     /// 10: recovery finds an odd base word
     OddBase,
+    /// 11: Log, Redo, Validate, Mark or Lock while the lock is held, or Continue on another lane than the lock's
+    Locked,
+    /// 12: Lock of a transaction that counts more than N - 17 slots: one an instruction, and one for each sixteen begun
+    TooLong,
     /// 14: recovery without sizes finds no trailer that agrees with the length and the ranges
     Trailer,
-    /// 15: Log, also one that settles, would take a timestamp further above the least floor than the lag limit
+    /// 15: Log, also one that settles, or Lock would take a timestamp further above the least floor than the lag limit
     LagPassed,
     /// 16: Format or recovery is given a lag limit that is odd, below 2 or above [`GREATEST_LAG`]
     LagRange,
@@ -94,7 +108,7 @@ pub enum Refusal {
 }
 
 impl Refusal {
-    const KNOWN: [Refusal; 13] = [
+    const KNOWN: [Refusal; 15] = [
         Refusal::Size,
         Refusal::Record,
         Refusal::Lane,
@@ -105,6 +119,8 @@ impl Refusal {
         Refusal::Spent,
         Refusal::Overwrite,
         Refusal::OddBase,
+        Refusal::Locked,
+        Refusal::TooLong,
         Refusal::Trailer,
         Refusal::LagPassed,
         Refusal::LagRange,
@@ -124,6 +140,8 @@ impl Refusal {
             Refusal::Spent => 8,
             Refusal::Overwrite => 9,
             Refusal::OddBase => 10,
+            Refusal::Locked => 11,
+            Refusal::TooLong => 12,
             Refusal::Trailer => 14,
             Refusal::LagPassed => 15,
             Refusal::LagRange => 16,
@@ -168,6 +186,22 @@ pub struct Mark {
     pub dropped: bool,
 }
 
+/// What Lock answers.
+#[derive(Debug, Clone, Copy, PartialEq, Eq)]
+pub enum Lock {
+    /// The transaction writes nothing. The lane is drained, the lock stays free, and no timestamp was taken.
+    NoWrites,
+    /// The lane has the lock, for so many writes, none of which is logged yet.
+    Taken(Progress),
+}
+
+/// How far a long transaction is. Where no writes are left it is committed, with this timestamp, and the lock is free.
+#[derive(Debug, Clone, Copy, PartialEq, Eq)]
+pub struct Progress {
+    pub left: u64,
+    pub stamp: u64,
+}
+
 /// What recovery answers.
 #[derive(Debug, Clone, Copy, PartialEq, Eq)]
 pub enum Recovery {
@@ -201,7 +235,7 @@ fn taken(number: u64) -> Result<(), Refusal> {
     }
 }
 
-impl Store<'_> {
+impl<'a> Store<'a> {
     /// Makes a new store of the given data words, in buffers of [`image_words`], with this lag limit.
     pub fn format(&mut self, max_lag: u64, start: &[u64]) -> Result<(), Refusal> {
         let Sizes { words, lanes, slots } = self.sizes;
@@ -273,6 +307,45 @@ impl Store<'_> {
         Ok(Mark { stamp: answer[1], dropped: answer[0] != 0 })
     }
 
+    /// Takes the lock for a transaction of 1 to 64 instructions, which it runs without leaving a change; its writes are kept in the record. [`Store::proceed`] makes them.
+    pub fn lock(&mut self, lane: usize, txn: &[u64]) -> Result<Lock, Refusal> {
+        let Sizes { words, lanes, slots } = self.sizes;
+        let mut answer: Answer = [0; ANSWER_WORDS];
+        taken(raw::lock(words, lanes, slots, self.cache, self.nvm, self.flags, self.record, &mut answer, lane, txn))?;
+        Ok(match answer {
+            [0, ..] => Lock::NoWrites,
+            [left, stamp, ..] => Lock::Taken(Progress { left, stamp }),
+        })
+    }
+
+    /// Continue: the next step of the lane's long transaction, by turns the log of a part, of at most 16 writes, and the writes of that part. The last writes commit it and free the
+    /// lock. Neither a spent clock nor the log's slots stop it.
+    pub fn proceed(&mut self, lane: usize) -> Result<Progress, Refusal> {
+        let Sizes { words, lanes, slots } = self.sizes;
+        let mut answer: Answer = [0; ANSWER_WORDS];
+        taken(raw::proceed(words, lanes, slots, self.cache, self.nvm, self.flags, self.record, &mut answer, lane))?;
+        Ok(Progress { left: answer[0], stamp: answer[1] })
+    }
+
+    /// Takes the lock as [`Store::lock`] does, and gives the long transaction to be run step by step; none where it writes nothing.
+    pub fn long(&mut self, lane: usize, txn: &[u64]) -> Result<Option<LongTxn<'_, 'a>>, Refusal> {
+        Ok(match self.lock(lane, txn)? {
+            Lock::NoWrites => None,
+            Lock::Taken(progress) => Some(LongTxn { store: self, lane, progress }),
+        })
+    }
+
+    /// The long transaction that has the lock, as the record tells it, where the lock is held; for one that was let go before its last step.
+    pub fn resume(&mut self) -> Option<LongTxn<'_, 'a>> {
+        match *self.record.get(LOCK_WORD..LOCK_WORD + 6)? {
+            [held, lane, stamp, count, _, written] if held != 0 => {
+                let progress = Progress { left: count.saturating_sub(written), stamp };
+                Some(LongTxn { store: self, lane: lane as usize, progress })
+            }
+            _ => None,
+        }
+    }
+
     /// Makes a store of the former length whole from non-volatile memory alone, with at most `limit` stores to it; `usize::MAX` is no limit. The sizes must be those of the image.
     /// The lag limit is that of the record which a finished recovery makes, and need not be the one before the power cut.
     pub fn recover(&mut self, max_lag: u64, limit: usize) -> Result<Recovery, Refusal> {
@@ -291,6 +364,49 @@ impl Store<'_> {
             self.sizes = Sizes { words: words as usize, lanes: lanes as usize, slots: slots as usize };
         }
         Ok(recovery(answer))
+    }
+}
+
+/// A long transaction and the store that it has locked. Dropping it frees no lock: [`Store::resume`] gives it again, and only its last step or a start frees the lock.
+#[derive(Debug)]
+pub struct LongTxn<'s, 'a> {
+    store: &'s mut Store<'a>,
+    lane: usize,
+    progress: Progress,
+}
+
+impl<'a> LongTxn<'_, 'a> {
+    pub fn lane(&self) -> usize {
+        self.lane
+    }
+
+    /// The timestamp of all its parts, with which it is committed.
+    pub fn stamp(&self) -> u64 {
+        self.progress.stamp
+    }
+
+    /// How many writes are not yet made.
+    pub fn left(&self) -> u64 {
+        self.progress.left
+    }
+
+    /// The store, for drains and write-backs between two steps, and to look at its words.
+    pub fn store(&mut self) -> &mut Store<'a> {
+        self.store
+    }
+
+    /// The next step, as [`Store::proceed`] makes it. After the one that leaves no writes there is none, and a further one is refused with [`Refusal::Idle`].
+    pub fn step(&mut self) -> Result<Progress, Refusal> {
+        self.progress = self.store.proceed(self.lane)?;
+        Ok(self.progress)
+    }
+
+    /// All steps that are left. The timestamp of the commit.
+    pub fn finish(mut self) -> Result<u64, Refusal> {
+        while self.left() > 0 {
+            self.step()?;
+        }
+        Ok(self.stamp())
     }
 }
 

@@ -113,6 +113,40 @@ mod ffi {
             answer_len: usize,
             lane: usize,
         ) -> u64;
+        pub fn vandzulge_lock(
+            words: usize,
+            lanes: usize,
+            slots: usize,
+            cache: *mut u64,
+            cache_len: usize,
+            nvm: *mut u64,
+            nvm_len: usize,
+            flags: *mut u8,
+            flags_len: usize,
+            record: *mut u64,
+            record_len: usize,
+            answer: *mut u64,
+            answer_len: usize,
+            lane: usize,
+            txn: *const u64,
+            txn_len: usize,
+        ) -> u64;
+        pub fn vandzulge_continue(
+            words: usize,
+            lanes: usize,
+            slots: usize,
+            cache: *mut u64,
+            cache_len: usize,
+            nvm: *mut u64,
+            nvm_len: usize,
+            flags: *mut u8,
+            flags_len: usize,
+            record: *mut u64,
+            record_len: usize,
+            answer: *mut u64,
+            answer_len: usize,
+            lane: usize,
+        ) -> u64;
         pub fn vandzulge_recover(
             words: usize,
             lanes: usize,
@@ -327,6 +361,75 @@ pub fn mark(
     // SAFETY: each pointer and length is that of a slice, and no slice that is written overlaps another.
     unsafe {
         ffi::vandzulge_mark(
+            words,
+            lanes,
+            slots,
+            cache.as_mut_ptr(),
+            cache.len(),
+            nvm.as_mut_ptr(),
+            nvm.len(),
+            flags.as_mut_ptr(),
+            flags.len(),
+            record.as_mut_ptr(),
+            record.len(),
+            answer.as_mut_ptr(),
+            answer.len(),
+            lane,
+        )
+    }
+}
+
+/// Lock for a transaction of up to 64 instructions. Answer: writes not yet made, timestamp, 0, 0; all 0 where it writes nothing, and no lock is taken.
+pub fn lock(
+    words: usize,
+    lanes: usize,
+    slots: usize,
+    cache: &mut [u64],
+    nvm: &mut [u64],
+    flags: &mut [u8],
+    record: &mut [u64],
+    answer: &mut [u64],
+    lane: usize,
+    txn: &[u64],
+) -> u64 {
+    // SAFETY: each pointer and length is that of a slice, and no slice that is written overlaps another.
+    unsafe {
+        ffi::vandzulge_lock(
+            words,
+            lanes,
+            slots,
+            cache.as_mut_ptr(),
+            cache.len(),
+            nvm.as_mut_ptr(),
+            nvm.len(),
+            flags.as_mut_ptr(),
+            flags.len(),
+            record.as_mut_ptr(),
+            record.len(),
+            answer.as_mut_ptr(),
+            answer.len(),
+            lane,
+            txn.as_ptr(),
+            txn.len(),
+        )
+    }
+}
+
+/// Continue (a name that Rust has taken): the next step of the long transaction. Answer: writes not yet made, 0 where it is committed and the lock free; timestamp; 0, 0.
+pub fn proceed(
+    words: usize,
+    lanes: usize,
+    slots: usize,
+    cache: &mut [u64],
+    nvm: &mut [u64],
+    flags: &mut [u8],
+    record: &mut [u64],
+    answer: &mut [u64],
+    lane: usize,
+) -> u64 {
+    // SAFETY: each pointer and length is that of a slice, and no slice that is written overlaps another.
+    unsafe {
+        ffi::vandzulge_continue(
             words,
             lanes,
             slots,

@@ -3,10 +3,10 @@
 
 mod common;
 
-use common::states::{every_outcome, BAD_LAGS, LAG_WORD};
+use common::states::{every_outcome, BAD_LAGS, LOCK_PAIRS};
 use common::{trailers, Call, Random, World, LIBRARY, PLAIN};
 use vandzulge::images;
-use vandzulge::{Sizes, GREATEST_LAG};
+use vandzulge::{Sizes, GREATEST_LAG, LAG_WORD, LOCK_WORD};
 
 /// Makes the call on both, compares all, and keeps what they left. Its number.
 fn both(world: &mut World, call: &Call, place: &str) -> u64 {
@@ -51,7 +51,7 @@ fn settled_as_by_a_mark() {
                 seen[1] += 1;
             }
             (15, 0) => seen[2] += 1,
-            (6, 8 | 9) | (15, 9) => {}
+            (6, 8 | 9 | 11) | (15, 9) => {}
             (number, mark) => assert_eq!(number, mark, "{place}, lane {lane}"),
         }
         world.call(&PLAIN, call)
@@ -206,6 +206,8 @@ fn mixed_lengths_are_refused() {
         Call::Redo(1),
         Call::Validate(1, vec![1, 1, 0, 7]),
         Call::Mark(0),
+        Call::Lock(0, vec![1, 0, 0, 7]),
+        Call::Continue(0),
         Call::Recover(usize::MAX),
         Call::RecoverRead(usize::MAX),
     ];
@@ -221,6 +223,8 @@ fn mixed_lengths_are_refused() {
             world.cache.truncate(cache);
             world.flags.truncate(flags);
             let expected = match (which, call) {
+                // the lock is free
+                (0 | 7, Call::Continue(_)) => 7,
                 (0, Call::Recover(_)) | (7, Call::Format(_)) => 1,
                 (7, Call::RecoverRead(_)) => 14,
                 (0 | 7, _) => 0,
@@ -325,6 +329,9 @@ fn lag_limits_of_a_damaged_record() {
         {
             assert_eq!(number(call), 2, "{max_lag}");
         }
+        for call in [Call::Lock(0, set.clone()), Call::Lock(2, vec![]), Call::Continue(0)] {
+            assert_eq!(number(call), 2, "{max_lag}");
+        }
         for call in [Call::WriteBack(0), Call::Format(vec![1; 2]), Call::RecoverRead(usize::MAX)] {
             assert_eq!(number(call), 0, "{max_lag}");
         }
@@ -394,4 +401,295 @@ fn a_floor_above_the_clock_does_not_bind() {
     assert_eq!(both(&mut world.clone(), &Call::Log(0, vec![]), "a floor of 1,000"), 0);
     assert_eq!(both(&mut world, &Call::Log(0, vec![1, 0, 0, 7]), "a floor of 1,000"), 0);
     assert_eq!((world.record[0], world.record[8], world.record[9]), (2, 1, 1_000));
+}
+
+// ---- Long transactions ----
+
+/// SETs of the words from 0 on and round again to 100, 101 and so on.
+fn sets(words: usize, count: u64) -> Vec<u64> {
+    (0..count).flat_map(|number| [1, number % words as u64, 0, 100 + number]).collect()
+}
+
+/// An entry for each of so many instructions, and a timestamp for each sixteen begun.
+fn slots_counted(instructions: u64) -> usize {
+    (instructions + instructions.div_ceil(16)) as usize
+}
+
+/// A new store, its data words 0.
+fn formatted(words: usize, lanes: usize, slots: usize) -> World {
+    let mut world = World::new(words, lanes, slots);
+    assert_eq!(both(&mut world, &Call::Format(vec![0; words]), "start"), 0);
+    world
+}
+
+/// Of each length, from each slot on: every step, and then a recovery. The pairs stay in the record when the lock is free.
+#[test]
+fn long_transactions_of_each_length() {
+    for (words, slots) in [(1, 34), (3, 85), (16, 86), (100, 256)] {
+        let mut world = formatted(words, 2, slots);
+        for count in (1..=64).filter(|&count| slots_counted(count) <= slots - 17) {
+            let place = format!("W {words}, N {slots}, {count} writes");
+            assert_eq!(both(&mut world, &Call::Lock(1, sets(words, count)), &place), 0);
+            let stamp = world.record[0];
+            let parts = count.div_ceil(16);
+            for part in 1..=parts {
+                let written = count.min(16 * part);
+                assert_eq!(both(&mut world, &Call::Continue(1), &place), 0);
+                assert_eq!(world.answer, [count - 16 * (part - 1), stamp, 0, 0], "{place}");
+                assert_eq!(both(&mut world, &Call::Continue(1), &place), 0);
+                assert_eq!(world.answer, [count - written, stamp, 0, 0], "{place}");
+            }
+            assert_eq!(both(&mut world, &Call::Continue(1), &place), 7);
+            assert_eq!((world.record[0], world.record[1], &world.record[LOCK_WORD..LOCK_PAIRS]), (stamp, stamp, &[0; 6][..]), "{place}");
+            let kept = &world.record[LOCK_PAIRS + 2 * count as usize - 2..];
+            assert!(kept[..2] == [(count - 1) % words as u64, 99 + count] && kept[2..].iter().all(|&word| word == 0), "{place}");
+            let mut cut = world.clone();
+            assert_eq!(both(&mut cut, &Call::RecoverRead(usize::MAX), &place), 0);
+            assert!(cut.record[LOCK_WORD..].iter().all(|&word| word == 0), "{place}");
+            // ends the floor, so that the next one finds room
+            assert_eq!(both(&mut world, &Call::Mark(1), &place), 0);
+            assert_eq!(both(&mut world, &Call::Drain(1), &place), 0);
+        }
+    }
+}
+
+/// Lock: 1 2 3 5 6 11 12 8 15 9, the last three not where it writes nothing; Continue: 1 2 3 7 11; and where 11 stands in the other steps.
+#[test]
+fn refusals_under_the_lock() {
+    const SPENT: u64 = u64::MAX - 1;
+    let mut start = formatted(2, 3, 34);
+    assert_eq!(both(&mut start, &Call::Log(1, sets(2, 1)), "start"), 0);
+    for _ in 0..33 {
+        assert_eq!(both(&mut start, &Call::Mark(0), "start"), 0);
+    }
+    // lane 1 holds a transaction, logged at 2, its floor; lane 0 has one slot left, and the clock is 68
+    let mut locked = start.clone();
+    assert_eq!(both(&mut locked, &Call::Lock(2, sets(2, 16)), "lock"), 0);
+    let number = |world: &World, clock: u64, max_lag: u64, call: Call| {
+        let mut world = world.clone();
+        (world.record[0], world.record[LAG_WORD]) = (clock.max(world.record[0]), max_lag);
+        both(&mut world, &call, "refusals")
+    };
+    let lock = |lane: usize, count: u64| Call::Lock(lane, sets(2, count));
+    let nothing = |lane: usize, count: usize| Call::Lock(lane, [&[5, 0, 0, 15][..], &sets(2, 15)].concat().repeat(count));
+    for (clock, max_lag) in [(0, GREATEST_LAG), (SPENT, 2)] {
+        for (call, expected) in [
+            (lock(3, 0), 3),
+            (lock(0, 0), 5),
+            (lock(0, 65), 5),
+            (lock(1, 65), 5),
+            (Call::Lock(0, vec![1, 0, 0]), 5),
+            (Call::Lock(0, vec![4, 0, 0, 7]), 5),
+            (Call::Lock(0, [&[5, 0, 0, 16][..], &sets(2, 20)].concat()), 5),
+            (lock(1, 64), 6),
+            (lock(1, 1), 6),
+        ] {
+            assert_eq!((number(&start, clock, max_lag, call.clone()), number(&locked, clock, max_lag, call.clone())), (expected, expected), "{call:?}");
+        }
+        for call in
+            [lock(0, 1), lock(2, 1), lock(0, 64), lock(2, 17), nothing(0, 1), nothing(0, 4), Call::Log(0, sets(2, 1)), Call::Log(2, vec![]), Call::Mark(0)]
+        {
+            assert_eq!(number(&locked, clock, max_lag, call.clone()), 11, "{call:?}");
+        }
+        for call in [Call::Mark(1), Call::Mark(2), Call::Redo(1), Call::Validate(1, sets(2, 1)), Call::Log(2, sets(2, 1)), Call::Continue(0), Call::Continue(1)]
+        {
+            assert_eq!(number(&locked, clock, max_lag, call.clone()), 11, "{call:?}");
+        }
+        for (call, expected) in [
+            (Call::Redo(0), 7),
+            (Call::Redo(2), 7),
+            (Call::Validate(2, sets(2, 1)), 7),
+            (Call::Validate(1, vec![]), 5),
+            (Call::Log(1, sets(2, 1)), 6),
+            (Call::Log(1, vec![]), 6),
+            (Call::Mark(3), 3),
+            (Call::Continue(3), 3),
+            // these go on
+            (Call::Continue(2), 0),
+            (Call::Drain(0), 0),
+            (Call::Drain(1), 0),
+            (Call::Drain(2), 0),
+            (Call::WriteBack(3), 0),
+        ] {
+            assert_eq!(number(&locked, clock, max_lag, call.clone()), expected, "{call:?}");
+        }
+        // 17 slots of 34 can be counted: 16 instructions and a timestamp
+        assert_eq!((number(&start, clock, max_lag, lock(2, 17)), number(&start, clock, max_lag, nothing(0, 2))), (12, 12));
+        assert_eq!((number(&start, clock, max_lag, nothing(0, 1)), number(&start, clock, max_lag, Call::Continue(0))), (0, 7));
+    }
+    // lane 1's floor is 2, and the next timestamp 70
+    assert_eq!((number(&start, SPENT, 2, lock(2, 16)), number(&start, SPENT, 2, lock(0, 1))), (8, 8));
+    assert_eq!((number(&start, 0, 66, lock(0, 1)), number(&start, 0, 66, lock(2, 16))), (15, 15));
+    assert_eq!((number(&start, 0, 68, lock(0, 1)), number(&start, 0, 68, lock(2, 16))), (9, 0));
+    let mut bad = locked.clone();
+    bad.record[LOCK_WORD + 1] = 3;
+    for call in
+        [lock(3, 1), Call::Continue(3), Call::Continue(2), Call::Drain(0), Call::Log(3, vec![]), Call::Redo(3), Call::Validate(3, vec![]), Call::Mark(3)]
+    {
+        assert_eq!(number(&bad, 0, GREATEST_LAG, call.clone()), 2, "{call:?}");
+        bad.flags.push(0);
+        assert_eq!(number(&bad, 0, GREATEST_LAG, call.clone()), 1, "{call:?}");
+        bad.flags.pop();
+    }
+}
+
+/// How many slots a Lock counts: the instructions, those passed over too, and one for each sixteen begun. No more than N - 17, and none of them may hit.
+#[test]
+fn slots_counted_for_the_lock() {
+    for slots in (34..=90).chain([255, 256]) {
+        let start = formatted(1, 1, slots);
+        for count in 1..=64 {
+            let expected = if slots_counted(count) > slots - 17 { 12 } else { 0 };
+            assert_eq!(both(&mut start.clone(), &Call::Lock(0, sets(1, count)), "slots"), expected, "{count} writes, N {slots}");
+        }
+    }
+    // lane 1 keeps its floor at 2; lane 0 goes on by marks, and is left so many slots
+    for left in 0..90 {
+        let mut world = formatted(1, 2, 90);
+        world.cache[1] = 1;
+        assert_eq!(both(&mut world, &Call::Mark(1), "start"), 0);
+        for _ in 0..90 - left {
+            assert_eq!(both(&mut world, &Call::Mark(0), "start"), 0);
+        }
+        for count in [1, 2, 15, 16, 17, 31, 32, 33, 47, 48, 49, 63, 64] {
+            let expected = if slots_counted(count) > left { 9 } else { 0 };
+            assert_eq!(both(&mut world.clone(), &Call::Lock(0, sets(1, count)), "slots"), expected, "{count} writes, {left} slots left");
+            // a SKIP of nothing, as word 0 is not 0, counts as an instruction
+            let skips = [&[5, 0, 0, 1][..], &sets(1, count - 1)].concat();
+            let expected = if count == 1 { 5 } else { expected };
+            assert_eq!(both(&mut world.clone(), &Call::Lock(0, skips), "slots"), expected, "{count} instructions, {left} slots left");
+        }
+    }
+}
+
+/// The lock's fields in a record, in range and not.
+#[test]
+fn locks_in_range() {
+    let start = formatted(3, 2, 100);
+    let number = |lock: [u64; 6], change: &dyn Fn(&mut World)| {
+        let mut world = start.clone();
+        world.record[0] = 40;
+        world.record[LOCK_WORD..LOCK_PAIRS].copy_from_slice(&lock);
+        change(&mut world);
+        both(&mut world, &Call::Continue(0), "a lock")
+    };
+    let as_it_is = |_: &mut World| {};
+    for count in [0, 1, 2, 15, 16, 17, 31, 32, 33, 47, 48, 49, 63, 64, 65, 80u64] {
+        for written in 0..=66u64 {
+            let near = |number: u64| number.saturating_sub(1)..=number + 1;
+            for logged in near(written).chain(near(written + 16)).chain(near(count)).chain([0, 16, 64]) {
+                let good = (1..=64).contains(&count) && written % 16 == 0 && written < count && (logged == written || logged == count.min(written + 16));
+                assert_eq!(
+                    number([1, 0, 40, count, logged, written], &as_it_is),
+                    if good { 0 } else { 2 },
+                    "{count} pairs, {logged} logged, {written} written"
+                );
+            }
+        }
+    }
+    for (lock, expected) in [
+        ([1, 1, 40, 1, 0, 0], 11),
+        ([u64::MAX, 0, 40, 1, 0, 0], 0),
+        ([1, 2, 40, 1, 0, 0], 2),
+        ([1, 1 << 32, 40, 1, 0, 0], 2),
+        ([1, 0, 0, 1, 0, 0], 0),
+        ([1, 0, 39, 1, 0, 0], 2),
+        ([1, 0, 42, 1, 0, 0], 2),
+        ([1, 0, 40, u64::MAX, 0, 0], 2),
+        ([1, 0, 40, 64, u64::MAX, 0], 2),
+        ([1, 0, 40, 64, 0, u64::MAX - 15], 2),
+        ([1, 0, 40, u64::MAX, 0, u64::MAX - 15], 2),
+        // free: the other words and the pairs say nothing
+        ([0, 9, 41, 99, 99, 99], 7),
+    ] {
+        assert_eq!(number(lock, &as_it_is), expected, "{lock:?}");
+    }
+    let lock = [1, 0, 40, 20, 0, 0];
+    assert_eq!(number(lock, &|world| world.record[LOCK_PAIRS + 38] = 2), 0);
+    assert_eq!(number(lock, &|world| world.record[LOCK_PAIRS + 38] = 3), 2);
+    assert_eq!(number(lock, &|world| world.record[LOCK_PAIRS + 40] = 3), 0);
+    assert_eq!(number([0; 6], &|world| world.record[LOCK_PAIRS..].fill(u64::MAX)), 7);
+    // the lock's lane must be idle: lane 0 is made to hold a transaction, and then lane 1
+    let logged = |lane: usize| move |world: &mut World| world.record[2 + 40 * lane..][..4].copy_from_slice(&[1, 0, 1, 2]);
+    assert_eq!((number(lock, &logged(0)), number(lock, &logged(1))), (2, 0));
+}
+
+/// Any pairs, also those that no run gives: the entries have running old values, a word written twice in one part and in two.
+#[test]
+fn parts_of_any_pairs() {
+    for seed in 1..=300 {
+        let random = &mut Random::new(5_000 + seed);
+        let words = random.pick(&[1, 2, 5, 20]);
+        let mut world = formatted(words, 2, random.pick(&[34, 35, 40, 90, 256]));
+        for word in &mut world.cache[1..=words] {
+            *word = random.word();
+        }
+        let count = 1 + random.below(64);
+        (world.record[0], world.record[1]) = (100, 10);
+        let (next, wrap) = (random.below(world.slots as u64), random.below(2));
+        (world.record[2 + 4], world.record[2 + 5]) = (next, wrap);
+        world.record[LOCK_WORD..LOCK_PAIRS].copy_from_slice(&[1, 0, 2 * random.below(51), count, 0, 0]);
+        for pair in world.record[LOCK_PAIRS..].chunks_exact_mut(2) {
+            pair.copy_from_slice(&[random.below(words as u64), random.word()]);
+        }
+        for step in 0..2 * count.div_ceil(16) {
+            let place = format!("seed {seed}, step {step}");
+            assert_eq!(both(&mut world, &Call::Continue(0), &place), 0);
+            let mut cut = world.clone();
+            assert_eq!(both(&mut cut, &Call::RecoverRead(usize::MAX), &place), 0);
+        }
+        assert_eq!(world.record[LOCK_WORD], 0, "seed {seed}");
+    }
+}
+
+/// Logs of equal timestamps on two laps, one from some slot on the next one: which sequence is a lane's latest, for its floor and for the boundary, and the order in which they are
+/// undone, by the words that are left after each number of stores.
+#[test]
+fn equal_timestamps_on_two_laps() {
+    let (mut with_boundary, mut without) = (0, 0);
+    for seed in 1..=400 {
+        let random = &mut Random::new(7_000 + seed);
+        let sizes = Sizes { words: random.pick(&[1, 2, 7]), lanes: 1 + random.index(3), slots: random.pick(&[34, 35, 50]) };
+        let mut image = images::image(sizes, images::Logs::Empty);
+        let stamps = 1 + random.below(3);
+        for log in image[1 + sizes.words..1 + sizes.words + 2 * sizes.lanes * sizes.slots].chunks_exact_mut(2 * sizes.slots) {
+            let turn = random.index(sizes.slots + 1);
+            let first_wrap = random.below(2);
+            // sequences of 0 to 3 entries, from the slot of the turn on and round again
+            let mut left = 0;
+            let mut entries = 0;
+            for offset in 0..sizes.slots {
+                let slot = (turn + offset) % sizes.slots;
+                let wrap = if slot < turn { first_wrap } else { 1 - first_wrap };
+                let words = if left > 0 {
+                    left -= 1;
+                    [8 * (random.below(sizes.words as u64) + 1) + 2 * random.below(2) + wrap, random.word() & !1 | wrap]
+                } else {
+                    let closes = entries;
+                    entries = random.below(4);
+                    left = entries;
+                    [8 * (4096 + closes) + wrap, 2 * (1 + random.below(stamps)) + wrap]
+                };
+                log[2 * slot..2 * slot + 2].copy_from_slice(&words);
+            }
+        }
+        for lane in 0..sizes.lanes {
+            let mut world = formatted(sizes.words, sizes.lanes, sizes.slots);
+            world.cache.clone_from(&image);
+            world.record[0] = 100;
+            assert_eq!(both(&mut world, &Call::Drain(lane), &format!("seed {seed}")), 0);
+        }
+        let stores = vandzulge::plain::recovery_read_stores(&image).len() - 2 * sizes.lanes * sizes.slots;
+        for limit in (0..=stores).chain([usize::MAX]) {
+            let mut world = cut(sizes, image.clone());
+            assert_eq!(both(&mut world, &Call::RecoverRead(limit), &format!("seed {seed}, limit {limit}")), 0);
+            match world.answer[0] {
+                1 => without += 1,
+                2 => with_boundary += 1,
+                _ => {}
+            }
+        }
+    }
+    println!("finished with a boundary: {with_boundary}, without: {without}");
+    assert!(with_boundary > 100 && without > 20);
 }

@@ -216,6 +216,22 @@ impl Replay<'_> {
                 recovery_line(out, self.call_on(Call::RecoverRead(limit), cells, cached, flags));
             }
             17 => self.max_lag = input.word()?,
+            18 => {
+                let lane = input.word()? as usize;
+                let txn = input.counted(272)?.to_vec();
+                match self.call(Call::Lock(lane, txn)) {
+                    (0, [0, ..]) => line(out, "lock 0"),
+                    (0, [left, stamp, ..]) => line(out, format_args!("lock {left} {stamp}")),
+                    (number, _) => line(out, format_args!("lock refused {number}")),
+                }
+            }
+            19 => {
+                let lane = input.word()? as usize;
+                match self.call(Call::Continue(lane)) {
+                    (0, [left, stamp, ..]) => line(out, format_args!("continue {left} {stamp}")),
+                    (number, _) => line(out, format_args!("continue refused {number}")),
+                }
+            }
             _ => return None,
         }
         Some(true)
@@ -240,10 +256,15 @@ fn sizes(input: &mut Input) -> Option<[usize; 3]> {
     Some([words[0] as usize, words[1] as usize, words[2] as usize])
 }
 
-/// Record words as they are dumped: 0 or 1 for phase and floor, and 0 for what an idle lane or one without floor does not have.
+/// Record words as they are dumped: 0 or 1 for phase, floor and lock, and 0 for what an idle lane, one without floor or a free lock does not have; the lock's pairs stay.
 fn normal(words: &[u64]) -> Vec<u64> {
     let mut words = words.to_vec();
-    for lane in words[2..].chunks_exact_mut(40) {
+    let lock = &mut words[323..329];
+    if lock[0] == 0 {
+        lock.fill(0);
+    }
+    lock[0] = lock[0].min(1);
+    for lane in words[2..322].chunks_exact_mut(40) {
         if lane[0] == 0 {
             lane[1..4].fill(0);
         }

@@ -1,7 +1,8 @@
 //! The safe wrappers: every call and every answer by way of `Store`, with the two-lane scenario of the specification.
 
 use vandzulge::{
-    former_words, image_words, Log, Mark, Recovery, Redo, Refusal, Sizes, Store, Validate, GREATEST_LAG, MAX_FORMER_WORDS, MAX_IMAGE_WORDS, RECORD_WORDS,
+    former_words, image_words, Lock, Log, Mark, Progress, Recovery, Redo, Refusal, Sizes, Store, Validate, GREATEST_LAG, LAG_WORD, LOCK_WORD, MAX_FORMER_WORDS,
+    MAX_IMAGE_WORDS, MAX_LONG_TXN_WORDS, RECORD_WORDS,
 };
 
 /// Runs the test on a new store of the given sizes, not formatted.
@@ -220,7 +221,7 @@ fn what_stops_a_lane_from_being_settled() {
         assert_eq!(store.log(1, &SET_1_TO_7), Err(Refusal::Overwrite));
         assert_eq!(store.settle(1), Ok(70));
         let mut refused = |clock: u64, max_lag: u64, lane: usize| {
-            (store.record[0], store.record[RECORD_WORDS - 1]) = (clock, max_lag);
+            (store.record[0], store.record[LAG_WORD]) = (clock, max_lag);
             let before = all_words(store);
             let number = store.settle(lane).expect_err("refused");
             assert!(all_words(store) == before, "{number:?}");
@@ -234,7 +235,7 @@ fn what_stops_a_lane_from_being_settled() {
         assert_eq!(store.mark(1), Err(Refusal::Overwrite));
         assert_eq!((store.mark(0), store.drain(0)), (Ok(Mark { stamp: 72, dropped: true }), Ok(())));
         assert_eq!((store.settle(1), floor(store, 1)), (Ok(74), Some(74)));
-        (store.sizes.slots, store.record[RECORD_WORDS - 1]) = (33, 3);
+        (store.sizes.slots, store.record[LAG_WORD]) = (33, 3);
         assert_eq!(store.settle(1), Err(Refusal::Size));
     });
 }
@@ -474,20 +475,30 @@ fn a_marked_lane_keeps_no_slots() {
     });
 }
 
-/// Of two sequences with one timestamp the one in the higher slot decides whether the lane was marked. No run of calls leaves such a log.
+/// Of two sequences with one timestamp the later decides whether the lane was marked: on one lap the one in the higher slot, on two the one whose wrap bit is not that of the
+/// highest slot. No run of calls leaves a mark and entries with one timestamp.
 #[test]
-fn of_equal_timestamps_the_higher_slot_decides() {
-    // the old value 9 of word 0, the timestamp 2 that closes it, and the timestamp 2 of a mark
+fn of_equal_timestamps_the_later_decides() {
+    // the old value 9 of word 0, the timestamp 2 that closes it, and the timestamp 2 of a mark; and the last two with wrap bit 0
     let (entry, closing, marked) = ([11, 9], [32_777, 3], [32_769, 3]);
-    for (slots, given, undone, word) in [([entry, closing, marked], None, 0, 0), ([marked, entry, closing], Some(2), 1, 9)] {
+    let (entry_0, closing_0, marked_0) = ([10, 8], [32_776, 2], [32_768, 2]);
+    for (slots, given, undone, word) in [
+        ([entry, closing, marked], None, 0, 0),
+        ([marked, entry, closing], Some(2), 1, 9),
+        ([entry, closing, marked_0], Some(2), 1, 9),
+        ([marked, entry_0, closing_0], None, 0, 0),
+        ([entry_0, closing_0, marked], Some(2), 1, 9),
+        ([marked_0, entry, closing], None, 0, 0),
+        ([marked_0, marked, marked], None, 0, 0),
+    ] {
         with_store(SIZES, |store| {
             assert_eq!(store.format(GREATEST_LAG, &[0, 0]), Ok(()));
             store.nvm[3..9].copy_from_slice(slots.as_flattened());
             store.cache[3..9].copy_from_slice(slots.as_flattened());
             assert_eq!(store.drain(0), Ok(()));
-            assert_eq!(floor(store, 0), given);
-            assert_eq!(store.recover_read(GREATEST_LAG, usize::MAX), finished(given, undone));
-            assert_eq!(store.nvm[..3], [2, word, 0]);
+            assert_eq!(floor(store, 0), given, "{slots:?}");
+            assert_eq!(store.recover_read(GREATEST_LAG, usize::MAX), finished(given, undone), "{slots:?}");
+            assert_eq!(store.nvm[..3], [2, word, 0], "{slots:?}");
         });
     }
 }
@@ -520,7 +531,7 @@ fn a_new_poke_is_refused_and_a_logged_one_ends_by_redo_or_mark() {
 
 /// The lag limit of the record.
 fn lag_limit(store: &Store) -> u64 {
-    store.record[RECORD_WORDS - 1]
+    store.record[LAG_WORD]
 }
 
 /// Two lanes and the lag limit 4. Lane 1 commits at 4 and rests, with that floor; a Log of lane 0 may then take 6 or 8, and not 10, until lane 1 is marked and drained.
@@ -608,7 +619,7 @@ fn each_start_is_given_a_lag_limit() {
         assert_eq!(lag_limit(store), 6);
         assert_eq!(store.recover_read(8, usize::MAX), finished(Some(2), 1));
         assert_eq!(lag_limit(store), 8);
-        store.record[RECORD_WORDS - 1] = 7;
+        store.record[LAG_WORD] = 7;
         assert_eq!(store.mark(0), Err(Refusal::Record));
     });
     with_length(SIZES, former_words(SIZES), |store| {
@@ -719,10 +730,239 @@ fn refusals_have_their_numbers() {
         Refusal::Spent,
         Refusal::Overwrite,
         Refusal::OddBase,
+        Refusal::Locked,
+        Refusal::TooLong,
         Refusal::Trailer,
         Refusal::LagPassed,
         Refusal::LagRange,
     ]
     .map(Refusal::number);
-    assert_eq!(numbers, [1, 2, 3, 4, 5, 6, 7, 8, 9, 10, 14, 15, 16]);
+    assert_eq!(numbers, [1, 2, 3, 4, 5, 6, 7, 8, 9, 10, 11, 12, 14, 15, 16]);
+}
+
+// ---- Long transactions ----
+
+const LONG: Sizes = Sizes { words: 4, lanes: 2, slots: 64 };
+
+/// So many ADDs of 1, to words 0 to 3 in turn.
+fn adds(count: u64) -> Vec<u64> {
+    (0..count).flat_map(|number| [3, number % 4, number % 4, 1]).collect()
+}
+
+/// A store of four words 0 whose lane 1 holds a transaction logged at 2, its floor.
+fn with_lane_1_logged(test: impl FnOnce(&mut Store)) {
+    with_store(LONG, |store| {
+        assert_eq!(store.format(GREATEST_LAG, &[0; 4]), Ok(()));
+        assert_eq!(store.log(1, &SET_1_TO_7), Ok(Log::Logged { count: 1, stamp: 2 }));
+        test(store);
+    });
+}
+
+/// The lock's words in the record, without its pairs.
+fn lock_words(store: &Store) -> [u64; 6] {
+    store.record[LOCK_WORD..LOCK_WORD + 6].try_into().unwrap()
+}
+
+/// 18 writes in two parts: what each step leaves in the record, the logs and the data words. All timestamps are the lock's.
+#[test]
+fn a_long_transaction_step_by_step() {
+    with_lane_1_logged(|store| {
+        assert_eq!(store.log(0, &SET_0_TO_5), Ok(Log::Logged { count: 1, stamp: 4 }));
+        assert_eq!(store.redo(0), Ok(Redo::Committed { stamp: 6 }));
+        let log = |store: &Store, slot: usize| [store.cache[5 + 2 * slot], store.cache[6 + 2 * slot]];
+        let before = store.cache.to_vec();
+        // it drains, and takes timestamp and lock; no cached word changes, and the lane's newest timestamp is still its commit's
+        assert_eq!(store.lock(0, &adds(18)), Ok(Lock::Taken(Progress { left: 18, stamp: 8 })));
+        assert_eq!((store.record[0], store.record[1], floor(store, 0), lock_words(store)), (8, 6, Some(6), [1, 0, 8, 18, 0, 0]));
+        assert_eq!((store.cache.to_vec(), store.nvm[1], store.flags[..143].iter().filter(|&&flag| flag & 1 != 0).count()), (before, 5, 0));
+        assert_eq!(store.record[LOCK_WORD + 6..LOCK_WORD + 12], [0, 6, 1, 1, 2, 1]);
+        assert_eq!(store.record[LOCK_WORD + 38..LOCK_WORD + 44], [0, 10, 1, 5, 0, 0]);
+        // the first part: 16 entries behind slots 0 and 1, with running old values, and the timestamp in slot 18
+        assert_eq!(store.proceed(0), Ok(Progress { left: 18, stamp: 8 }));
+        assert_eq!((lock_words(store), store.record[1], store.record[6]), ([1, 0, 8, 18, 16, 0], 6, 19));
+        assert_eq!((log(store, 2), log(store, 3), log(store, 6), log(store, 17)), ([11, 5], [17, 1], [9, 7], [35, 3]));
+        assert_eq!((log(store, 18), log(store, 19), store.cache[1..5].to_vec()), ([32_897, 9], [0, 0], vec![5, 0, 0, 0]));
+        assert_eq!((store.flags[5 + 4], store.nvm[5 + 4], floor(store, 0)), (1, 0, Some(6)));
+        // its writes, behind a drain of the entries: they show in the cache
+        assert_eq!(store.proceed(0), Ok(Progress { left: 2, stamp: 8 }));
+        assert_eq!((lock_words(store), store.record[1], floor(store, 0)), ([1, 0, 8, 18, 16, 16], 6, Some(8)));
+        assert_eq!((store.cache[1..5].to_vec(), store.nvm[1..5].to_vec()), (vec![9, 4, 4, 4], vec![5, 0, 0, 0]));
+        assert_eq!((store.flags[..9].to_vec(), store.nvm[5 + 4], log(store, 18)), (vec![0, 1, 1, 1, 1, 0, 0, 0, 0], 11, [32_897, 9]));
+        // the second part
+        assert_eq!(store.proceed(0), Ok(Progress { left: 2, stamp: 8 }));
+        assert_eq!((lock_words(store), log(store, 19), log(store, 20), log(store, 21)), ([1, 0, 8, 18, 18, 16], [11, 9], [17, 5], [32_785, 9]));
+        assert_eq!(store.proceed(0), Ok(Progress { left: 0, stamp: 8 }));
+        assert_eq!((lock_words(store), store.record[0], store.record[1]), ([0; 6], 8, 8));
+        assert_eq!(store.cache[1..5], [10, 5, 4, 4]);
+        // the pairs stay
+        assert_eq!(store.record[LOCK_WORD + 38..LOCK_WORD + 44], [0, 10, 1, 5, 0, 0]);
+        assert_eq!(store.proceed(0), Err(Refusal::Idle));
+        // lane 1's transaction, logged at 2, is stale now
+        assert_eq!(store.redo(1), Ok(Redo::Stale));
+        mark(store, 0, 10);
+        assert_eq!((store.drain(0), store.mark(1), store.drain(1)), (Ok(()), Ok(Mark { stamp: 12, dropped: true }), Ok(())));
+        cut_and_recover(store, None, 0);
+        assert_eq!(store.nvm[..5], [12, 10, 5, 4, 4]);
+        assert!(store.record[LOCK_WORD..].iter().all(|&word| word == 0));
+    });
+}
+
+/// The handle tells timestamp and writes left, lets drains and write-backs go on, and can be let go and taken up again.
+#[test]
+fn a_long_transaction_by_its_handle() {
+    with_lane_1_logged(|store| {
+        assert!(store.resume().is_none());
+        let mut long = store.long(0, &adds(40)).expect("taken").expect("writes");
+        let mut seen = vec![];
+        while long.left() > 8 {
+            seen.push(long.left());
+            assert_eq!(long.step(), Ok(Progress { left: long.left(), stamp: 4 }));
+            assert_eq!((long.store().drain(0), long.store().drain(1), long.store().write_back(1)), (Ok(()), Ok(()), Ok(())));
+        }
+        assert_eq!((seen, long.lane(), long.stamp(), long.left()), (vec![40, 40, 24, 24], 0, 4, 8));
+        // the first two parts show
+        assert_eq!(long.store().cache[1..5], [8, 8, 8, 8]);
+        assert_eq!(store.redo(1), Err(Refusal::Locked));
+        let mut long = store.resume().expect("held");
+        assert_eq!((long.lane(), long.stamp(), long.left()), (0, 4, 8));
+        assert_eq!(long.step(), Ok(Progress { left: 8, stamp: 4 }));
+        assert_eq!(long.finish(), Ok(4));
+        assert_eq!(store.cache[1..5], [10, 10, 10, 10]);
+        assert!(store.resume().is_none());
+        assert_eq!(store.long(0, &adds(1)).expect("taken").expect("writes").finish(), Ok(6));
+        assert_eq!(store.cache[1], 11);
+    });
+}
+
+/// While the lock is held each step but the next one is refused, those of its own lane too; drains, write-backs and starts are not.
+#[test]
+fn the_lock_stops_other_steps() {
+    with_lane_1_logged(|store| {
+        assert!(matches!(store.lock(0, &adds(20)), Ok(Lock::Taken(_))));
+        for step in 0..3 {
+            let before = all_words(store);
+            for lane in 0..2 {
+                assert_eq!(store.mark(lane), Err(Refusal::Locked));
+            }
+            assert_eq!(
+                (store.log(0, &SET_0_TO_5), store.log(0, &PASS_OVER), store.settle(0)),
+                (Err(Refusal::Locked), Err(Refusal::Locked), Err(Refusal::Locked))
+            );
+            assert_eq!(
+                (store.lock(0, &adds(1)), store.lock(0, &PASS_OVER), store.proceed(1)),
+                (Err(Refusal::Locked), Err(Refusal::Locked), Err(Refusal::Locked))
+            );
+            assert_eq!((store.redo(1), store.validate(1, &SET_1_TO_7)), (Err(Refusal::Locked), Err(Refusal::Locked)));
+            // what comes before it
+            assert_eq!((store.log(1, &SET_0_TO_5), store.lock(1, &adds(1)), store.redo(0)), (Err(Refusal::Logged), Err(Refusal::Logged), Err(Refusal::Idle)));
+            assert_eq!((store.lock(0, &[]), store.validate(0, &SET_1_TO_7), store.proceed(2)), (Err(Refusal::Txn), Err(Refusal::Idle), Err(Refusal::Lane)));
+            assert!(all_words(store) == before, "step {step}");
+            assert_eq!((store.drain(0), store.drain(1), store.write_back(5)), (Ok(()), Ok(()), Ok(())));
+            assert!(store.proceed(0).is_ok());
+        }
+        assert_eq!(store.proceed(0), Ok(Progress { left: 0, stamp: 4 }));
+        assert_eq!((store.mark(0), store.redo(1)), (Ok(Mark { stamp: 6, dropped: false }), Ok(Redo::Stale)));
+    });
+    with_lane_1_logged(|store| {
+        assert!(matches!(store.lock(0, &adds(20)), Ok(Lock::Taken(_))));
+        assert_eq!(store.recover_read(GREATEST_LAG, usize::MAX), finished(None, 0));
+        assert!(store.record[LOCK_WORD..].iter().all(|&word| word == 0));
+        assert_eq!(store.proceed(0), Err(Refusal::Idle));
+        assert!(matches!(store.lock(0, &adds(20)), Ok(Lock::Taken(_))));
+        assert_eq!(store.format(GREATEST_LAG, &[0; 4]), Ok(()));
+        assert!(store.record[LOCK_WORD..].iter().all(|&word| word == 0));
+    });
+}
+
+/// What writes nothing takes no lock, also where the clock is spent, but drains; it counts its slots all the same.
+#[test]
+fn a_long_transaction_without_writes() {
+    with_lane_1_logged(|store| {
+        let passes = [&[5, 0, 0, 15][..], &adds(15)].concat();
+        assert!(store.long(0, &passes.repeat(2)).expect("taken").is_none());
+        assert_eq!(store.lock(0, &passes), Ok(Lock::NoWrites));
+        assert_eq!((store.record[0], lock_words(store)), (2, [0; 6]));
+        assert_eq!(store.lock(0, &passes.repeat(3)), Err(Refusal::TooLong));
+        mark(store, 0, 4);
+        store.record[0] = u64::MAX - 1;
+        assert_eq!(store.lock(0, &adds(1)), Err(Refusal::Spent));
+        assert_eq!(store.lock(0, &passes), Ok(Lock::NoWrites));
+        assert_eq!((floor(store, 0), store.nvm[6]), (None, 5));
+    });
+}
+
+/// Of 64 slots 47 can be counted: 44 instructions and three timestamps. More words than 64 instructions have are no transaction.
+#[test]
+fn what_is_too_long() {
+    assert_eq!(MAX_LONG_TXN_WORDS, 256);
+    with_lane_1_logged(|store| {
+        assert_eq!(
+            (store.lock(0, &adds(65)), store.lock(0, &adds(64)), store.lock(0, &adds(45))),
+            (Err(Refusal::Txn), Err(Refusal::TooLong), Err(Refusal::TooLong))
+        );
+        assert_eq!(store.lock(0, &adds(44)), Ok(Lock::Taken(Progress { left: 44, stamp: 4 })));
+    });
+    with_lane_1_logged(|store| {
+        // lane 1's floor is 2: 47 slots of lane 0 are left, just enough
+        for number in 2..19 {
+            mark(store, 0, 2 * number);
+        }
+        assert_eq!(store.lock(0, &adds(44)), Ok(Lock::Taken(Progress { left: 44, stamp: 38 })));
+    });
+    with_lane_1_logged(|store| {
+        // and here 46
+        for number in 2..20 {
+            mark(store, 0, 2 * number);
+        }
+        assert_eq!((store.lock(0, &adds(44)), store.lock(0, &PASS_OVER)), (Err(Refusal::Overwrite), Ok(Lock::NoWrites)));
+        store.record[LAG_WORD] = 36;
+        assert_eq!((store.lock(0, &adds(44)), store.lock(0, &adds(1))), (Err(Refusal::LagPassed), Err(Refusal::LagPassed)));
+        store.record[LAG_WORD] = 38;
+        assert_eq!(store.lock(0, &adds(43)), Ok(Lock::Taken(Progress { left: 43, stamp: 40 })));
+    });
+}
+
+/// A cut while some parts are written, with all of them in the memory: the boundary is the lock's timestamp, and every part is undone, the later one first. A word that two parts write
+/// gets back what it had before the first.
+#[test]
+fn a_cut_takes_all_parts_back() {
+    for steps in 0..6 {
+        with_store(LONG, |store| {
+            assert_eq!(store.format(GREATEST_LAG, &[1, 2, 3, 4]), Ok(()));
+            let mut long = store.long(0, &adds(40)).expect("taken").expect("writes");
+            for _ in 0..steps {
+                assert!(long.step().is_ok());
+            }
+            for word in 0..image_words(LONG) {
+                assert_eq!(store.write_back(word), Ok(()));
+            }
+            let (boundary, undone) = [(None, 0), (Some(2), 16), (Some(2), 16), (Some(2), 32), (Some(2), 32), (Some(2), 40)][steps];
+            cut_and_recover(store, boundary, undone);
+            assert_eq!(store.nvm[1..5], [1, 2, 3, 4]);
+        });
+    }
+}
+
+/// The parts of one transaction on two laps of the log: slots 60 to 63 and on from slot 0. By the slots alone the part in the higher ones would be undone first.
+#[test]
+fn parts_around_the_end_of_the_log() {
+    for marks in [30, 40, 46, 47, 48, 60, 63] {
+        with_store(LONG, |store| {
+            assert_eq!(store.format(GREATEST_LAG, &[1, 2, 3, 4]), Ok(()));
+            for number in 1..=marks {
+                mark(store, 0, 2 * number);
+            }
+            assert_eq!(store.drain(0), Ok(()));
+            let mut long = store.long(0, &adds(40)).expect("taken").expect("writes");
+            while long.left() > 8 {
+                assert!(long.step().is_ok());
+            }
+            assert!(long.step().is_ok());
+            for word in 0..image_words(LONG) {
+                assert_eq!(store.write_back(word), Ok(()));
+            }
+            cut_and_recover(store, Some(2 * marks + 2), 40);
+            assert_eq!(store.nvm[1..5], [1, 2, 3, 4], "{marks} marks");
+        });
+    }
 }

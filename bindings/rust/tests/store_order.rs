@@ -49,7 +49,7 @@ fn expected(before: &World, call: &Call, made: &[(usize, u64)]) -> Vec<(usize, u
             let zero_already = |&(word, _): &(usize, u64)| word > data_words && before.nvm[word] == 0;
             recovery_stores(before, call).into_iter().take(*limit).filter(|store| !zero_already(store)).collect()
         }
-        Call::Drain(lane) | Call::Log(lane, _) | Call::Redo(lane) | Call::Validate(lane, _) | Call::Mark(lane) => {
+        Call::Drain(lane) | Call::Log(lane, _) | Call::Redo(lane) | Call::Validate(lane, _) | Call::Mark(lane) | Call::Lock(lane, _) | Call::Continue(lane) => {
             let place = |word| made.iter().position(|store| store.0 == word).unwrap_or(made.len());
             let mut flushed: Vec<usize> = (0..before.flags.len()).filter(|&word| before.flags[word] >> lane & 1 == 1).collect();
             flushed.sort_by_key(|&word| place(word));
@@ -86,6 +86,26 @@ fn every_call_stores_in_order() {
         Call::Format(_) => world.call(&LIBRARY, call),
         _ => library(world, call, place),
     });
+}
+
+/// The longest transaction under the lock, twice around the log.
+#[test]
+fn a_long_transaction_stores_in_order() {
+    for (words, lanes, slots) in [(1, 1, 85), (7, 3, 101), (1024, 8, 256)] {
+        let mut world = World::new(words, lanes, slots);
+        assert_eq!(world.call(&LIBRARY, &Call::Format(vec![5; words])), 0);
+        let txn: Vec<u64> = (0..64).flat_map(|number| [3, number % words as u64, number % words as u64, 1]).collect();
+        let lane = lanes - 1;
+        for turn in 0..8 {
+            let place = format!("turn {turn}");
+            assert_eq!(library(&mut world, &Call::Lock(lane, txn.clone()), &place), 0);
+            for left in [64, 48, 48, 32, 32, 16, 16, 0] {
+                assert_eq!(library(&mut world, &Call::Continue(lane), &place), 0);
+                assert_eq!(world.answer[0], left, "{place}");
+            }
+            assert_eq!((library(&mut world, &Call::Mark(lane), &place), library(&mut world, &Call::Drain(lane), &place)), (0, 0));
+        }
+    }
 }
 
 #[test]

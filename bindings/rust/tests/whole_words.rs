@@ -91,6 +91,24 @@ fn no_call_but_format() {
     });
 }
 
+/// The longest transaction under the lock, twice around the log, with every step's drain.
+#[test]
+fn no_step_of_a_long_transaction() {
+    let mut world = World::new(1024, 8, 256);
+    assert_eq!(watched(&mut world, &LIBRARY, &Call::Format(vec![5; 1024])).0, 0);
+    let txn: Vec<u64> = (0..64).flat_map(|number| [3, 16 * number, 16 * number, 1]).collect();
+    for turn in 0..8 {
+        let place = format!("turn {turn}");
+        assert_eq!(clean(&mut world, &Call::Lock(7, txn.clone()), &place), 0);
+        for left in [64, 48, 48, 32, 32, 16, 16, 0] {
+            assert_eq!(clean(&mut world, &Call::Continue(7), &place), 0);
+            assert_eq!(world.answer[0], left, "{place}");
+        }
+        assert_eq!((clean(&mut world, &Call::Mark(7), &place), clean(&mut world, &Call::Drain(7), &place)), (0, 0));
+    }
+    assert_eq!((world.nvm[1], world.nvm[2], world.nvm[1 + 16 * 63]), (13, 5, 13));
+}
+
 #[test]
 fn no_recovery_with_any_limit() {
     for (words, lanes, slots) in [(1, 1, 34), (16, 1, 34), (16, 3, 101), (256, 4, 64), (1024, 8, 256)] {

@@ -56,7 +56,7 @@ fn none() -> Writes
 // limit above the lower bound, where the limit binds the call; a slot of a sequence at or above the lower bound would
 // be overwritten. Floors are as after the lane's drain, which finds this latest sequence. It looks at the slots that
 // the append writes and 16 more.
-fn append_refusal(
+pub fn append_refusal(
     sizes: Sizes,
     state: Record,
     latest: Latest,
@@ -97,6 +97,7 @@ fn append_refusal(
 fn log_checks(
     sizes: Sizes,
     state: Record,
+    pairs: &[u64],
     cache: &[u64],
     nvm: &[u64],
     flags: &[u8],
@@ -104,19 +105,23 @@ fn log_checks(
     txn: &[u64],
 ) -> u64
     ensures { λ r. ⌜ r ≡ logChecks sizes lane (now (txn .entry))
-        (machineOf state (now (cache .entry)) (now (nvm .entry)) (now (flags .entry))) ⌝ }
+        (machineOf state (now (pairs .entry)) (now (cache .entry)) (now (nvm .entry)) (now (flags .entry))) ⌝ }
 {
-    let number = store::drain_refusal(sizes, state, cache, nvm, flags, lane);
+    let number = store::drain_refusal(sizes, state, pairs, cache, nvm, flags, lane);
     if number != 0 {
         return number;
     }
-    if txn.len() != 0 && !txn::txn_ok(txn, sizes.words) {
+    if txn.len() != 0 && !txn::txn_ok(txn, sizes.words, txn::MAX_WRITES) {
         return 5;
     }
     let at = state.lanes[lane];
     let phase = at.phase;
     if record::is_logged(phase) {
         return 6;
+    }
+    let lock = state.lock;
+    if record::is_held(lock) {
+        return 11;
     }
     0
 }
@@ -137,6 +142,7 @@ fn writes_of(sizes: Sizes, cache: &[u64], txn: &[u64]) -> Writes
 fn plan_log(
     sizes: Sizes,
     state: Record,
+    pairs: &[u64],
     cache: &[u64],
     nvm: &[u64],
     flags: &[u8],
@@ -145,12 +151,12 @@ fn plan_log(
 ) -> Plan
     ensures { λ r. ⌜ Planned r
         (logRefusal sizes lane (now (txn .entry))
-        (machineOf state (now (cache .entry)) (now (nvm .entry)) (now (flags .entry))))
+        (machineOf state (now (pairs .entry)) (now (cache .entry)) (now (nvm .entry)) (now (flags .entry))))
         (writesOn sizes (now (txn .entry))
-        (machineOf state (now (cache .entry)) (now (nvm .entry)) (now (flags .entry))))
+        (machineOf state (now (pairs .entry)) (now (cache .entry)) (now (nvm .entry)) (now (flags .entry))))
         (latestIn sizes (now (cache .entry)) lane) ⌝ }
 {
-    let number = log_checks(sizes, state, cache, nvm, flags, lane, txn);
+    let number = log_checks(sizes, state, pairs, cache, nvm, flags, lane, txn);
     if number != 0 {
         return Plan {
             number,
@@ -178,6 +184,7 @@ fn plan_log(
 pub fn log_refusal(
     sizes: Sizes,
     state: Record,
+    pairs: &[u64],
     cache: &[u64],
     nvm: &[u64],
     flags: &[u8],
@@ -185,15 +192,15 @@ pub fn log_refusal(
     txn: &[u64],
 ) -> u64
     ensures { λ r. ⌜ r ≡ logRefusal sizes lane (now (txn .entry))
-        (machineOf state (now (cache .entry)) (now (nvm .entry)) (now (flags .entry))) ⌝ }
+        (machineOf state (now (pairs .entry)) (now (cache .entry)) (now (nvm .entry)) (now (flags .entry))) ⌝ }
 {
-    let plan = plan_log(sizes, state, cache, nvm, flags, lane, txn);
+    let plan = plan_log(sizes, state, pairs, cache, nvm, flags, lane, txn);
     plan.number
 }
 
 // A sequence of these writes at this timestamp, appended to a lane that is drained: the lane then, with this phase and
 // redo log. All cached changes of an append are made here, and no non-volatile memory is lent: it stores no cell.
-fn appended(
+pub fn appended(
     sizes: Sizes,
     drained: Lane,
     cache: &mut [u64],
@@ -240,10 +247,10 @@ fn log_writes(
     writes: Writes,
 ) -> Outcome
     requires { ⌜ AfterDrain sizes state latest (now cache) (now flags) lane writes ⌝ }
-    ensures { λ r. ⌜ ((nvm : List ℕ)
-        → stepOf r (now (cache .exit)) nvm (now (flags .exit))
+    ensures { λ r. ⌜ ((pairs nvm : List ℕ)
+        → stepOf r pairs (now (cache .exit)) nvm (now (flags .exit))
         ≡ loggedStep sizes lane (take (writes .count) (writes .list))
-        (machineOf (drainedState sizes (now (cache .entry)) lane state) (now (cache .entry)) nvm
+        (machineOf (drainedState sizes (now (cache .entry)) lane state) pairs (now (cache .entry)) nvm
         (now (flags .entry)))) ⌝ }
 {
     let old = state.lanes[lane];
@@ -274,10 +281,10 @@ fn settle(
     lane: usize,
 ) -> Outcome
     requires { ⌜ AfterDrain sizes state latest (now cache) (now flags) lane (writesOf maxWrites []) ⌝ }
-    ensures { λ r. ⌜ ((nvm : List ℕ)
-        → stepOf r (now (cache .exit)) nvm (now (flags .exit))
+    ensures { λ r. ⌜ ((pairs nvm : List ℕ)
+        → stepOf r pairs (now (cache .exit)) nvm (now (flags .exit))
         ≡ settledStep sizes lane
-        (machineOf (drainedState sizes (now (cache .entry)) lane state) (now (cache .entry)) nvm
+        (machineOf (drainedState sizes (now (cache .entry)) lane state) pairs (now (cache .entry)) nvm
         (now (flags .entry)))) ⌝ }
 {
     let old = state.lanes[lane];
@@ -298,17 +305,18 @@ fn settle(
 pub fn log(
     sizes: Sizes,
     state: Record,
+    pairs: &[u64],
     cache: &mut [u64],
     nvm: &mut [u64],
     flags: &mut [u8],
     lane: usize,
     txn: &[u64],
 ) -> Outcome
-    ensures { λ r. ⌜ stepOf r (now (cache .exit)) (now (nvm .exit)) (now (flags .exit))
+    ensures { λ r. ⌜ stepOf r (now (pairs .entry)) (now (cache .exit)) (now (nvm .exit)) (now (flags .exit))
         ≡ logStep sizes lane (now (txn .entry))
-        (machineOf state (now (cache .entry)) (now (nvm .entry)) (now (flags .entry))) ⌝ }
+        (machineOf state (now (pairs .entry)) (now (cache .entry)) (now (nvm .entry)) (now (flags .entry))) ⌝ }
 {
-    let plan = plan_log(sizes, state, cache, nvm, flags, lane, txn);
+    let plan = plan_log(sizes, state, pairs, cache, nvm, flags, lane, txn);
     let number = plan.number;
     let writes = plan.writes;
     let latest = plan.latest;
@@ -331,19 +339,29 @@ pub fn log(
 fn plan_mark(
     sizes: Sizes,
     state: Record,
+    pairs: &[u64],
     cache: &[u64],
     nvm: &[u64],
     flags: &[u8],
     lane: usize,
 ) -> Plan
     ensures { λ r. ⌜ Planned r
-        (markRefusal sizes lane (machineOf state (now (cache .entry)) (now (nvm .entry)) (now (flags .entry)))) []
+        (markRefusal sizes lane
+        (machineOf state (now (pairs .entry)) (now (cache .entry)) (now (nvm .entry)) (now (flags .entry)))) []
         (latestIn sizes (now (cache .entry)) lane) ⌝ }
 {
-    let number = store::drain_refusal(sizes, state, cache, nvm, flags, lane);
+    let number = store::drain_refusal(sizes, state, pairs, cache, nvm, flags, lane);
     if number != 0 {
         return Plan {
             number,
+            writes: none(),
+            latest: Latest::Nothing,
+        };
+    }
+    let lock = state.lock;
+    if record::is_held(lock) {
+        return Plan {
+            number: 11,
             writes: none(),
             latest: Latest::Nothing,
         };
@@ -360,15 +378,16 @@ fn plan_mark(
 pub fn mark_refusal(
     sizes: Sizes,
     state: Record,
+    pairs: &[u64],
     cache: &[u64],
     nvm: &[u64],
     flags: &[u8],
     lane: usize,
 ) -> u64
     ensures { λ r. ⌜ r ≡ markRefusal sizes lane
-        (machineOf state (now (cache .entry)) (now (nvm .entry)) (now (flags .entry))) ⌝ }
+        (machineOf state (now (pairs .entry)) (now (cache .entry)) (now (nvm .entry)) (now (flags .entry))) ⌝ }
 {
-    let plan = plan_mark(sizes, state, cache, nvm, flags, lane);
+    let plan = plan_mark(sizes, state, pairs, cache, nvm, flags, lane);
     plan.number
 }
 
@@ -377,15 +396,17 @@ pub fn mark_refusal(
 pub fn mark(
     sizes: Sizes,
     state: Record,
+    pairs: &[u64],
     cache: &mut [u64],
     nvm: &mut [u64],
     flags: &mut [u8],
     lane: usize,
 ) -> Outcome
-    ensures { λ r. ⌜ stepOf r (now (cache .exit)) (now (nvm .exit)) (now (flags .exit))
-        ≡ markStep sizes lane (machineOf state (now (cache .entry)) (now (nvm .entry)) (now (flags .entry))) ⌝ }
+    ensures { λ r. ⌜ stepOf r (now (pairs .entry)) (now (cache .exit)) (now (nvm .exit)) (now (flags .exit))
+        ≡ markStep sizes lane
+        (machineOf state (now (pairs .entry)) (now (cache .entry)) (now (nvm .entry)) (now (flags .entry))) ⌝ }
 {
-    let plan = plan_mark(sizes, state, cache, nvm, flags, lane);
+    let plan = plan_mark(sizes, state, pairs, cache, nvm, flags, lane);
     let number = plan.number;
     let writes = plan.writes;
     let latest = plan.latest;

@@ -1,6 +1,7 @@
 // A call on the store and on the second implementation, from the same state, and the comparison of all that the two
 // leave.
 use crate::convert;
+use crate::regions::PAIR_WORDS;
 use crate::regions::ROOM;
 use crate::regions::SPOILED;
 use crate::regions::SPOILED_WORD;
@@ -51,6 +52,12 @@ fn put_answer(arena: &mut Arena, answer: Answer) {
             appended.stamp,
         ),
         Answer::Settled(stamp) => convert::put_answer(arena, second::SETTLED, 0, stamp),
+        Answer::Locked(progress) => convert::put_answer(
+            arena,
+            second::LOCKED,
+            progress.left as u64,
+            progress.stamp,
+        ),
         Answer::Committed(stamp) => convert::put_answer(arena, second::COMMITTED, 0, stamp),
         Answer::Stale => convert::put_answer(arena, second::STALE, 0, 0),
         Answer::Changed => convert::put_answer(arena, second::CHANGED, 0, 0),
@@ -106,55 +113,81 @@ fn lag(arena: &Arena) -> u64 {
 }
 
 // ---- the number that the store says beforehand a call will be refused with, or 0
-fn lane_refusal(arena: &Arena, cache: &[u64], nvm: &[u64], flags: &[u8]) -> u64 {
+fn lane_refusal(arena: &Arena, pairs: &[u64], cache: &[u64], nvm: &[u64], flags: &[u8]) -> u64 {
     let sizes = convert::sizes(arena);
     let state = convert::record(arena);
     let lane = number(arena);
     match get(arena, STATE, CODE) {
-        second::REDO => commit::redo_refusal(sizes, state, cache, nvm, flags, lane),
-        second::MARK => append::mark_refusal(sizes, state, cache, nvm, flags, lane),
-        _ => store::drain_refusal(sizes, state, cache, nvm, flags, lane),
+        second::REDO => commit::redo_refusal(sizes, state, pairs, cache, nvm, flags, lane),
+        second::MARK => append::mark_refusal(sizes, state, pairs, cache, nvm, flags, lane),
+        second::CONTINUE => lock::proceed_refusal(sizes, state, pairs, cache, nvm, flags, lane),
+        _ => store::drain_refusal(sizes, state, pairs, cache, nvm, flags, lane),
     }
 }
 
-fn txn_refusal(arena: &Arena, cache: &[u64], nvm: &[u64], flags: &[u8], txn: &[u64]) -> u64 {
+fn txn_refusal(
+    arena: &Arena,
+    pairs: &[u64],
+    cache: &[u64],
+    nvm: &[u64],
+    flags: &[u8],
+    txn: &[u64],
+) -> u64 {
     let sizes = convert::sizes(arena);
     let state = convert::record(arena);
     let lane = number(arena);
-    if get(arena, STATE, CODE) == second::LOG {
-        return append::log_refusal(sizes, state, cache, nvm, flags, lane, txn);
+    match get(arena, STATE, CODE) {
+        second::LOG => append::log_refusal(sizes, state, pairs, cache, nvm, flags, lane, txn),
+        second::LOCK => lock::begin_refusal(sizes, state, pairs, cache, nvm, flags, lane, txn),
+        _ => commit::validate_refusal(sizes, state, pairs, cache, nvm, flags, lane, txn),
     }
-    commit::validate_refusal(sizes, state, cache, nvm, flags, lane, txn)
 }
 
-fn refusal(arena: &Arena, cache: &[u64], nvm: &[u64], flags: &[u8], words: &[u64]) -> u64 {
+fn refusal(
+    arena: &Arena,
+    pairs: &[u64],
+    cache: &[u64],
+    nvm: &[u64],
+    flags: &[u8],
+    words: &[u64],
+) -> u64 {
     let sizes = convert::sizes(arena);
     match get(arena, STATE, CODE) {
-        second::LOG | second::VALIDATE => txn_refusal(arena, cache, nvm, flags, words),
+        second::LOG | second::VALIDATE | second::LOCK => {
+            txn_refusal(arena, pairs, cache, nvm, flags, words)
+        }
         second::WRITE_BACK => store::write_back_refusal(sizes, cache, nvm, flags, number(arena)),
         second::RECOVER => recovery::recover_refusal(sizes, lag(arena), cache, nvm, flags),
         second::RECOVER_READ => recovery::recover_read_refusal(lag(arena), cache, nvm, flags),
         second::FORMAT => store::format_refusal(sizes, lag(arena), words, cache, nvm, flags),
-        _ => lane_refusal(arena, cache, nvm, flags),
+        _ => lane_refusal(arena, pairs, cache, nvm, flags),
     }
 }
 
 // ---- the calls on the store
-// Redo, Mark, Drain.
-fn on_lane(arena: &Arena, cache: &mut [u64], nvm: &mut [u64], flags: &mut [u8]) -> Outcome {
+// Redo, Mark, Drain, Continue.
+fn on_lane(
+    arena: &Arena,
+    pairs: &[u64],
+    cache: &mut [u64],
+    nvm: &mut [u64],
+    flags: &mut [u8],
+) -> Outcome {
     let sizes = convert::sizes(arena);
     let state = convert::record(arena);
     let lane = number(arena);
     match get(arena, STATE, CODE) {
-        second::REDO => commit::redo(sizes, state, cache, nvm, flags, lane),
-        second::MARK => append::mark(sizes, state, cache, nvm, flags, lane),
-        _ => store::drain(sizes, state, cache, nvm, flags, lane),
+        second::REDO => commit::redo(sizes, state, pairs, cache, nvm, flags, lane),
+        second::MARK => append::mark(sizes, state, pairs, cache, nvm, flags, lane),
+        second::CONTINUE => lock::proceed(sizes, state, pairs, cache, nvm, flags, lane),
+        _ => store::drain(sizes, state, pairs, cache, nvm, flags, lane),
     }
 }
 
-// Log and Validate.
+// Log, Validate and Lock, which sets the lock's pairs.
 fn with_txn(
     arena: &Arena,
+    pairs: &mut [u64],
     cache: &mut [u64],
     nvm: &mut [u64],
     flags: &mut [u8],
@@ -163,21 +196,11 @@ fn with_txn(
     let sizes = convert::sizes(arena);
     let state = convert::record(arena);
     let lane = number(arena);
-    if get(arena, STATE, CODE) == second::LOG {
-        return append::log(sizes, state, cache, nvm, flags, lane, txn);
+    match get(arena, STATE, CODE) {
+        second::LOG => append::log(sizes, state, pairs, cache, nvm, flags, lane, txn),
+        second::LOCK => lock::begin(sizes, state, pairs, cache, nvm, flags, lane, txn),
+        _ => commit::validate(sizes, state, pairs, cache, nvm, flags, lane, txn),
     }
-    commit::validate(sizes, state, cache, nvm, flags, lane, txn)
-}
-
-fn format(
-    arena: &Arena,
-    cache: &mut [u64],
-    nvm: &mut [u64],
-    flags: &mut [u8],
-    words: &[u64],
-) -> Outcome {
-    let sizes = convert::sizes(arena);
-    store::format(sizes, lag(arena), words, cache, nvm, flags)
 }
 
 // It takes no record, so the record stays.
@@ -189,17 +212,26 @@ fn write_back(arena: &Arena, cache: &[u64], nvm: &mut [u64], flags: &[u8]) -> Ou
 
 fn step(
     arena: &Arena,
+    pairs: &mut [u64],
     cache: &mut [u64],
     nvm: &mut [u64],
     flags: &mut [u8],
     words: &[u64],
 ) -> Outcome {
     match get(arena, STATE, CODE) {
-        second::LOG | second::VALIDATE => with_txn(arena, cache, nvm, flags, words),
+        second::LOG | second::VALIDATE | second::LOCK => {
+            with_txn(arena, pairs, cache, nvm, flags, words)
+        }
         second::WRITE_BACK => write_back(arena, cache, nvm, flags),
-        second::FORMAT => format(arena, cache, nvm, flags, words),
-        _ => on_lane(arena, cache, nvm, flags),
+        _ => on_lane(arena, pairs, cache, nvm, flags),
     }
+}
+
+// ---- the starts, of which each leaves pairs of 0
+fn format(arena: &mut Arena, cache: &mut [u64], nvm: &mut [u64], flags: &mut [u8], words: &[u64]) {
+    let sizes = convert::sizes(arena);
+    let outcome = store::format(sizes, lag(arena), words, cache, nvm, flags);
+    put_outcome(arena, outcome);
 }
 
 fn recover(arena: &mut Arena, cache: &mut [u64], nvm: &mut [u64], flags: &mut [u8]) {
@@ -214,21 +246,38 @@ fn recover_read(arena: &mut Arena, cache: &mut [u64], nvm: &mut [u64], flags: &m
     put_restart(arena, restart);
 }
 
-fn act(arena: &mut Arena, cache: &mut [u64], nvm: &mut [u64], flags: &mut [u8], words: &[u64]) {
+fn act(
+    arena: &mut Arena,
+    pairs: &mut [u64],
+    cache: &mut [u64],
+    nvm: &mut [u64],
+    flags: &mut [u8],
+    words: &[u64],
+) {
     match get(arena, STATE, CODE) {
+        second::FORMAT => format(arena, cache, nvm, flags, words),
         second::RECOVER => recover(arena, cache, nvm, flags),
         second::RECOVER_READ => recover_read(arena, cache, nvm, flags),
         _ => {
-            let outcome = step(arena, cache, nvm, flags, words);
+            let outcome = step(arena, pairs, cache, nvm, flags, words);
             put_outcome(arena, outcome);
+            convert::keep_pairs(arena, pairs);
         }
     }
 }
 
 // The call on the store; what it leaves beside the buffers is put into STORED.
-fn call(arena: &mut Arena, cache: &mut [u64], nvm: &mut [u64], flags: &mut [u8], words: &[u64]) {
-    let asked = refusal(arena, cache, nvm, flags, words);
-    act(arena, cache, nvm, flags, words);
+fn call(
+    arena: &mut Arena,
+    pairs: &mut [u64],
+    cache: &mut [u64],
+    nvm: &mut [u64],
+    flags: &mut [u8],
+    words: &[u64],
+) {
+    convert::load_pairs(arena, pairs);
+    let asked = refusal(arena, pairs, cache, nvm, flags, words);
+    act(arena, pairs, cache, nvm, flags, words);
     put(arena, STORED, second::REFUSAL, asked);
 }
 
@@ -322,8 +371,9 @@ fn run_in(
     flags: &mut [u8],
     words: &mut [u64],
 ) -> bool {
+    let mut pairs = [0u64; PAIR_WORDS as usize];
     load_all(arena, cache, nvm, flags, words);
-    call(arena, cache, nvm, flags, words);
+    call(arena, &mut pairs, cache, nvm, flags, words);
     keep_all(arena, cache, nvm, flags);
     spoil(arena);
     second::call(arena);

@@ -4,6 +4,8 @@ use image::MAX_LANES;
 use image::Sizes;
 use log::Timestamp;
 use record::Lane;
+use record::Lock;
+use record::Locked;
 use record::Logged;
 use record::Pair;
 use record::Phase;
@@ -18,6 +20,7 @@ use second::words::WORDS;
 use second::words::cell;
 use second::words::clear;
 use second::words::get;
+use second::words::plus;
 use second::words::put;
 use second::words::set_row;
 use txn::MAX_WRITES;
@@ -71,6 +74,38 @@ fn lane_from(arena: &Arena, lane: u64) -> Lane {
     }
 }
 
+fn lock_from(arena: &Arena) -> Lock {
+    if get(arena, RECORD, fields::LOCKED) == 0 {
+        return Lock::Free;
+    }
+    Lock::Held(Locked {
+        lane: get(arena, RECORD, fields::LOCK_LANE) as usize,
+        stamp: get(arena, RECORD, fields::LOCK_STAMP),
+        count: get(arena, RECORD, fields::LOCK_COUNT) as usize,
+        logged: get(arena, RECORD, fields::LOCK_LOGGED) as usize,
+        written: get(arena, RECORD, fields::LOCK_WRITTEN) as usize,
+    })
+}
+
+// Where word k of the lock's pairs stands, which have a word and a value each.
+fn pair_place(k: usize) -> u64 {
+    plus(fields::LOCK_PAIRS, (k as u64) << 1)
+}
+
+// The lock's pairs, of the words in RECORD.
+pub(crate) fn load_pairs(arena: &Arena, pairs: &mut [u64]) {
+    for k in 0..pairs.len() {
+        pairs[k] = get(arena, RECORD, pair_place(k));
+    }
+}
+
+// Their words, in STORED.
+pub(crate) fn keep_pairs(arena: &mut Arena, pairs: &[u64]) {
+    for k in 0..pairs.len() {
+        put(arena, STORED, pair_place(k), pairs[k]);
+    }
+}
+
 // The record of the words in RECORD.
 pub(crate) fn record(arena: &Arena) -> Record {
     let mut lanes = [lane_from(arena, 0); MAX_LANES];
@@ -82,6 +117,7 @@ pub(crate) fn record(arena: &Arena) -> Record {
         last: get(arena, RECORD, fields::LAST),
         lanes,
         lag: get(arena, RECORD, fields::LAG),
+        lock: lock_from(arena),
     }
 }
 
@@ -138,9 +174,40 @@ fn put_lane(arena: &mut Arena, at: u64, lane: Lane) {
     put_pairs(arena, at, redo);
 }
 
-// The words of a record, in STORED.
-pub(crate) fn put_record(arena: &mut Arena, state: Record) {
-    clear(arena, STORED, fields::LENGTH);
+fn put_locked(arena: &mut Arena, locked: Locked) {
+    let lane = locked.lane as u64;
+    let count = locked.count as u64;
+    let logged = locked.logged as u64;
+    set_row(
+        arena,
+        STORED,
+        fields::LOCK_ROW,
+        1,
+        lane,
+        locked.stamp,
+        count,
+    );
+    set_row(
+        arena,
+        STORED,
+        fields::LOCK_PARTS_ROW,
+        logged,
+        locked.written as u64,
+        0,
+        0,
+    );
+}
+
+fn put_lock(arena: &mut Arena, lock: Lock) {
+    match lock {
+        Lock::Free => {}
+        Lock::Held(locked) => put_locked(arena, locked),
+    }
+}
+
+// Clock, last commit, lag limit and lock.
+fn put_shared(arena: &mut Arena, state: Record) {
+    let lock = state.lock;
     set_row(
         arena,
         STORED,
@@ -150,6 +217,13 @@ pub(crate) fn put_record(arena: &mut Arena, state: Record) {
         state.lag,
         0,
     );
+    put_lock(arena, lock);
+}
+
+// The words of a record, in STORED; those of the lock's pairs are 0.
+pub(crate) fn put_record(arena: &mut Arena, state: Record) {
+    clear(arena, STORED, fields::LENGTH);
+    put_shared(arena, state);
     for l in 0..MAX_LANES {
         let lane = state.lanes[l];
         put_lane(arena, l as u64, lane);

@@ -71,7 +71,7 @@ fn said(arena: &Arena) {
     let kind = session::kind(arena);
     match kind {
         second::REFUSED => answered(arena, b"refused "),
-        second::LOGGED | second::SETTLED => logged(arena),
+        second::LOGGED | second::SETTLED | second::LOCKED => logged(arena),
         second::COMMITTED | second::MARKED => stamped(arena, b"stamp "),
         second::RECOVERED => recovered(arena),
         second::UNBOUNDED => unbounded(arena),
@@ -94,6 +94,8 @@ fn call(code: u64) {
         second::WRITE_BACK => text(b"write-back"),
         second::RECOVER => text(b"recovery with sizes"),
         second::RECOVER_READ => text(b"recovery without sizes"),
+        second::LOCK => text(b"Lock"),
+        second::CONTINUE => text(b"Continue"),
         _ => text(b"Format"),
     }
 }
@@ -102,7 +104,7 @@ fn call(code: u64) {
 pub fn called(arena: &Arena) {
     let code = get(arena, STATE, CODE);
     call(code);
-    let takes = code == second::LOG || code == second::VALIDATE;
+    let takes = code == second::LOG || code == second::VALIDATE || code == second::LOCK;
     if takes && get(arena, STATE, USED) == 0 {
         text(b" of no words");
     }
@@ -211,6 +213,7 @@ fn step_kinds(arena: &Arena) {
 
 fn more_kinds(arena: &Arena) {
     kind(arena, b", changed ", second::CHANGED);
+    kind(arena, b", locked ", second::LOCKED);
     kind(arena, b", marked ", second::MARKED);
     kind(arena, b", cut ", second::CUT);
     kind(arena, b", recovered ", second::RECOVERED);
@@ -226,7 +229,7 @@ fn refusal(arena: &Arena, n: u64) {
 // How often there was each refusal.
 fn refusals(arena: &Arena) {
     text(b"\n  refused");
-    for n in 1..11 {
+    for n in 1..13 {
         refusal(arena, n);
     }
     refusal(arena, 14);

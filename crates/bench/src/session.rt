@@ -26,7 +26,7 @@ pub(crate) const DIFFER: u64 = 1;
 
 pub(crate) const BY_KIND: u64 = 2;
 
-pub(crate) const FOUND_TORN: u64 = 14;
+pub(crate) const FOUND_TORN: u64 = 15;
 
 pub(crate) const BY_NUMBER: u64 = 16;
 

@@ -15,6 +15,7 @@ use second::words::FLAGS;
 use second::words::LANES;
 use second::words::MAX_LAG;
 use second::words::MAX_LANES;
+use second::words::MAX_LONG;
 use second::words::MAX_SLOTS;
 use second::words::MAX_STAMP;
 use second::words::MAX_WORDS;
@@ -28,6 +29,7 @@ use second::words::TRAILER;
 use second::words::WORDS;
 use second::words::clear;
 use second::words::get;
+use second::words::least;
 use second::words::minus;
 use second::words::move_word;
 use second::words::only;
@@ -294,13 +296,71 @@ fn fill_time(arena: &mut Arena) {
     fields::set_lag(arena, lag);
 }
 
-// All eight lanes, those that are not in use too.
+fn fill_lock_pairs(arena: &mut Arena) {
+    for i in 0..MAX_LONG {
+        let word = below(arena, get(arena, STATE, WORDS));
+        let new = value(arena);
+        set_row(arena, RECORD, fields::lock_pair(i), word, 0, new, 0);
+    }
+}
+
+// Now and then one of the lock's pairs has a word that is not there.
+fn spoil_lock_pair(arena: &mut Arena) {
+    if once_in(arena, 20) {
+        let i = below(arena, MAX_LONG);
+        let words = get(arena, STATE, WORDS);
+        set_row(arena, RECORD, fields::lock_pair(i), words, 0, 0, 0);
+    }
+}
+
+// How many pairs the lock has, now and then out of its range.
+fn lock_count(arena: &mut Arena) -> u64 {
+    match below(arena, 100) {
+        0 => 0,
+        1 => 65,
+        2..=40 => plus(1, below(arena, 16)),
+        _ => plus(1, below(arena, MAX_LONG)),
+    }
+}
+
+// How many of them are logged and written: whole parts, of which one may be logged only; now and then not so.
+fn fill_parts(arena: &mut Arena, count: u64) {
+    let parts = plus(count, 15) / MAX_WRITES;
+    let written = below(arena, parts) << 4;
+    let part = only(once_in(arena, 2), least(MAX_WRITES, minus(count, written)));
+    let off = only(once_in(arena, 30), 1);
+    let shift = only(once_in(arena, 40), 8);
+    fields::set_parts(arena, plus(written, plus(part, off)), plus(written, shift));
+}
+
+// The lock is held, mostly by a lane that is idle.
+fn hold_lock(arena: &mut Arena) {
+    let lane = about_size(arena, LANES);
+    let stamp = about_stamp(arena);
+    let count = lock_count(arena);
+    if !once_in(arena, 20) {
+        fields::set_held(arena, least(lane, MAX_LANES - 1), 0, 0, 0, 0);
+    }
+    fields::set_lock(arena, lane, stamp, count);
+    fill_parts(arena, count);
+}
+
+fn fill_lock(arena: &mut Arena) {
+    fill_lock_pairs(arena);
+    spoil_lock_pair(arena);
+    if once_in(arena, 4) {
+        hold_lock(arena);
+    }
+}
+
+// All eight lanes, those that are not in use too, and the lock.
 fn fill_record(arena: &mut Arena) {
     clear(arena, RECORD, fields::LENGTH);
     fill_time(arena);
     for lane in 0..MAX_LANES {
         fill_lane(arena, lane);
     }
+    fill_lock(arena);
 }
 
 // A length, now and then one word off, or the other one of the two.
@@ -348,25 +408,40 @@ fn any_limit(arena: &mut Arena) -> u64 {
     below(arena, restart::length(arena) << 1)
 }
 
+// Mostly the lane that has the lock.
+fn any_owner(arena: &mut Arena) -> u64 {
+    if once_in(arena, 8) {
+        return about_size(arena, LANES);
+    }
+    get(arena, RECORD, fields::LOCK_LANE)
+}
+
 fn any_number(arena: &mut Arena, code: u64) -> u64 {
     match code {
         second::WRITE_BACK => about(arena, session::length(arena)),
         second::RECOVER | second::RECOVER_READ => any_limit(arena),
+        second::CONTINUE => any_owner(arena),
         _ => about_size(arena, LANES),
+    }
+}
+
+// A transaction, or start words: how many words.
+fn any_words(arena: &mut Arena, code: u64) -> u64 {
+    match code {
+        second::FORMAT => get(arena, STATE, WORDS),
+        second::LOCK => lists::make_long(arena),
+        _ => lists::make_txn(arena),
     }
 }
 
 // Any call.
 fn any_call(arena: &mut Arena) {
-    let code = plus(1, below(arena, 9));
+    let code = plus(1, below(arena, 11));
     about_lengths(arena, code);
     let lag = about_lag(arena);
     session::set_lag(arena, lag);
     let number = any_number(arena, code);
-    let mut used = lists::make_txn(arena);
-    if code == second::FORMAT {
-        used = get(arena, STATE, WORDS);
-    }
+    let used = any_words(arena, code);
     session::call(arena, code, number, used);
 }
 

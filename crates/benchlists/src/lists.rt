@@ -1,6 +1,7 @@
 // Pseudo-random lists of calls, from a Format on: transactions, some of them damaged and some of no words, commits,
-// marks, drains, write-backs, power failures and recoveries. Now and then an image loses its trailer, and is one of the
-// former length from then on. Half of the lag limits are small.
+// marks, drains, write-backs, power failures and recoveries. About one step in twenty takes the lock for a long
+// transaction, with drains and write-backs, and calls that the lock keeps out, between its parts. Now and then an image
+// loses its trailer, and is one of the former length from then on. Half of the lag limits are small.
 use bench::generator::below;
 use bench::generator::once_in;
 use bench::generator::value;
@@ -10,16 +11,19 @@ use bench::regions::SEED;
 use bench::regions::START;
 use bench::regions::STORED_NVM;
 use bench::session;
+use second::fields;
 use second::restart;
 use second::words::Arena;
 use second::words::LAG;
 use second::words::LANES;
 use second::words::MAX_LAG;
 use second::words::MAX_LANES;
+use second::words::MAX_LONG;
 use second::words::MAX_SLOTS;
 use second::words::MAX_WORDS;
 use second::words::MAX_WRITES;
 use second::words::MIN_SLOTS;
+use second::words::RECORD;
 use second::words::SLOTS;
 use second::words::STATE;
 use second::words::TXN;
@@ -53,14 +57,15 @@ fn k_for(code: u64, k: u64, distance: u64) -> u64 {
     }
 }
 
-// Instruction `at`, well formed but for its code where that is POKE's, with `after` instructions after it.
-fn make_instruction(arena: &mut Arena, at: u64, after: u64) {
+// Instruction `at`, well formed but for its code where that is POKE's, with `after` instructions after it. The more
+// `picks` there are the fewer of them are SKIPs and POKEs.
+fn make_instruction(arena: &mut Arena, at: u64, after: u64, picks: u64) {
     let words = get(arena, STATE, WORDS);
     let a = below(arena, words);
     let b = below(arena, words);
     let k = value(arena);
     let distance = plus(1, below(arena, least(after, 15)));
-    let code = code_for(below(arena, 40), after);
+    let code = code_for(below(arena, picks), after);
     set_row(
         arena,
         TXN,
@@ -89,12 +94,31 @@ fn damage(arena: &mut Arena) -> u64 {
     }
 }
 
+// Of a long transaction: mostly as many as there are slots enough for, now and then too many.
+fn long_instructions(arena: &mut Arena) -> u64 {
+    if once_in(arena, 8) {
+        return plus(1, below(arena, MAX_LONG + 2));
+    }
+    let most = minus(get(arena, STATE, SLOTS), 19);
+    plus(1, below(arena, least(most, MAX_LONG)))
+}
+
 // Makes a transaction, now and then one that is damaged, and one in thirty of no words; its length in words.
 pub(crate) fn make_txn(arena: &mut Arena) -> u64 {
-    clear(arena, TXN, START);
     let count = instructions(arena);
+    make_instructions(arena, count, 40)
+}
+
+// The same for a long one.
+pub(crate) fn make_long(arena: &mut Arena) -> u64 {
+    let count = long_instructions(arena);
+    make_instructions(arena, count, 160)
+}
+
+fn make_instructions(arena: &mut Arena, count: u64, picks: u64) -> u64 {
+    clear(arena, TXN, START);
     for at in 0..count {
-        make_instruction(arena, at, minus(count, plus(at, 1)));
+        make_instruction(arena, at, minus(count, plus(at, 1)), picks);
     }
     spoil_txn(arena, count << 2)
 }
@@ -130,7 +154,26 @@ fn log(arena: &mut Arena, lane: u64) {
     catch_up(arena);
 }
 
-// Where the lag limit refused a Log, now and then some lane is marked and drained: it may be the one that lags behind.
+// Takes the lock for a new long transaction.
+fn lock(arena: &mut Arena, lane: u64) {
+    let used = make_long(arena);
+    session::call(arena, second::LOCK, lane, used);
+    catch_up(arena);
+}
+
+// While the lock is held: half of the calls are its own lane's next step, half of the others drains and write-backs.
+fn step_locked(arena: &mut Arena, lane: u64, word: u64) {
+    let owner = get(arena, RECORD, fields::LOCK_LANE);
+    match below(arena, 8) {
+        0 => session::call(arena, second::DRAIN, lane, 0),
+        1 => session::call(arena, second::WRITE_BACK, word, 0),
+        2..=3 => step(arena, lane, word),
+        _ => session::call(arena, second::CONTINUE, owner, 0),
+    }
+}
+
+// Where the lag limit refused a Log or a Lock, now and then some lane is marked and drained: it may be the one that
+// lags behind.
 fn catch_up(arena: &mut Arena) {
     if session::refusal(arena) == 15 && once_in(arena, 3) {
         let lane = below(arena, get(arena, STATE, LANES));
@@ -272,15 +315,18 @@ fn code_of(pick: u64) -> u64 {
         36..=48 => second::REDO,
         49..=50 => second::MARK,
         51..=55 => second::DRAIN,
+        64..=67 => second::LOCK,
+        68 => second::CONTINUE,
         _ => second::WRITE_BACK,
     }
 }
 
 fn step(arena: &mut Arena, lane: u64, word: u64) {
-    let code = code_of(below(arena, 64));
+    let code = code_of(below(arena, 69));
     match code {
         second::LOG => log(arena, lane),
         second::VALIDATE => validate(arena, lane),
+        second::LOCK => lock(arena, lane),
         second::WRITE_BACK => session::call(arena, code, word, 0),
         _ => session::call(arena, code, lane, 0),
     }
@@ -292,6 +338,8 @@ fn event(arena: &mut Arena, calm: u64) {
     let word = below(arena, plus(session::length(arena), 1));
     if once_in(arena, calm) {
         start(arena, lane);
+    } else if get(arena, RECORD, fields::LOCKED) != 0 {
+        step_locked(arena, lane, word);
     } else {
         step(arena, lane, word);
     }
@@ -307,11 +355,15 @@ fn list(arena: &mut Arena, calm: u64) {
     }
 }
 
-// Sizes at which logs wrap often.
+// Sizes at which logs wrap often: one in three has slots enough for transactions of three and four parts.
 pub(crate) fn small_sizes(arena: &mut Arena) {
     let words = plus(1, below(arena, 6));
     let lanes = plus(1, below(arena, 3));
-    let slots = plus(MIN_SLOTS, below(arena, 7));
+    let mut more = 7;
+    if once_in(arena, 3) {
+        more = 60;
+    }
+    let slots = plus(MIN_SLOTS, below(arena, more));
     session::set_sizes(arena, words, lanes, slots);
 }
 

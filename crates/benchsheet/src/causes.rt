@@ -14,7 +14,8 @@ use second::words::TXN;
 use second::words::minus;
 use second::words::put;
 
-// A set of causes is a number. Its bits are the causes in the order in which they win: 1, 14, 16, 2 to 8, 15, 9, 10.
+// A set of causes is a number. Its bits are the causes in the order in which they win: 1, 14, 16, 2 to 7, 11, 12, 8,
+// 15, 9, 10.
 fn has(set: u64, cause: u64) -> bool {
     set & cause != 0
 }
@@ -37,16 +38,20 @@ const HOLDS: u64 = 128;
 
 const IDLE: u64 = 256;
 
-const SPENT: u64 = 512;
+const LOCKED: u64 = 512;
 
-const LAGS: u64 = 1024;
+const LONG: u64 = 1024;
 
-const OVERWRITES: u64 = 2048;
+const SPENT: u64 = 2048;
 
-const ODD: u64 = 4096;
+const LAGS: u64 = 4096;
 
-// The sets of thirteen causes.
-const SETS: u64 = 8192;
+const OVERWRITES: u64 = 8192;
+
+const ODD: u64 = 16384;
+
+// The sets of fifteen causes.
+const SETS: u64 = 32768;
 
 // Each set with each call.
 pub(crate) const CASES: u64 = edges::CALLS * SETS;
@@ -54,24 +59,28 @@ pub(crate) const CASES: u64 = edges::CALLS * SETS;
 // The causes that a call knows. SPECIFICATION, "Calls".
 fn known(call: u64) -> u64 {
     match call {
-        // 1 2 3 5 6 8 15 9
-        second::LOG => 3801,
-        // 1 2 3 6 8 15 9
-        edges::NO_WORDS => 3737,
-        // 1 2 3 7 8
-        second::REDO => 793,
-        // 1 2 3 5 7 8
-        second::VALIDATE => 857,
-        // 1 2 3 8 9
-        second::MARK => 2585,
+        // 1 2 3 5 6 11 8 15 9
+        second::LOG => 15065,
+        // 1 2 3 6 11 8 15 9
+        edges::NO_WORDS => 15001,
+        // 1 2 3 7 11 8
+        second::REDO => 2841,
+        // 1 2 3 5 7 11 8
+        second::VALIDATE => 2905,
+        // 1 2 3 11 8 9
+        second::MARK => 10777,
+        // 1 2 3 5 6 11 12 8 15 9
+        second::LOCK => 16089,
+        // 1 2 3 7 11
+        second::CONTINUE => 793,
         // 1 2 3
         second::DRAIN => 25,
         // 1 4
         second::WRITE_BACK => 33,
         // 1 16 10
-        second::RECOVER => 4101,
+        second::RECOVER => 16389,
         // 1 14 16 10
-        second::RECOVER_READ => 4103,
+        second::RECOVER_READ => 16391,
         // 1 16
         _ => 5,
     }
@@ -83,9 +92,12 @@ fn number_of(bit: u64) -> u64 {
         0 => 1,
         1 => 14,
         2 => 16,
-        10 => 15,
-        11 => 9,
-        12 => 10,
+        9 => 11,
+        10 => 12,
+        11 => 8,
+        12 => 15,
+        13 => 9,
+        14 => 10,
         _ => minus(bit, 1),
     }
 }
@@ -93,7 +105,7 @@ fn number_of(bit: u64) -> u64 {
 // The number that wins of a set, or 0.
 fn first(set: u64) -> u64 {
     let mut rest = set;
-    for bit in 0..13 {
+    for bit in 0..15 {
         if rest % 2 == 1 {
             return number_of(bit);
         }
@@ -116,7 +128,7 @@ fn number_for(call: u64, set: u64) -> u64 {
     0
 }
 
-// Puts the causes 1, 16, 2 and 5 into lengths, lag limit, record and transaction.
+// Puts the causes 1, 16, 2, 5 and 12 into lengths, lag limit, record and transaction.
 fn spoil_arguments(arena: &mut Arena, set: u64) {
     if has(set, LENGTHS) {
         let length = session::length(arena);
@@ -128,8 +140,29 @@ fn spoil_arguments(arena: &mut Arena, set: u64) {
     if has(set, RECORDS) {
         set_field(arena, 1, fields::PRESENT, 2);
     }
+    if has(set, LONG) {
+        edges::put_sets(arena);
+    }
     if has(set, BAD_TXN) {
         put(arena, TXN, 0, 0);
+    }
+}
+
+// How many words the call is given: for 12 those of 17 instructions, which count as 19 slots, two more than 34 less 17.
+fn used_by(arena: &Arena, call: u64, set: u64) -> u64 {
+    if has(set, LONG) {
+        return 68;
+    }
+    edges::used_by(arena, call)
+}
+
+// Puts the cause 11 into the record: lane 1 has the lock, and no call is on it. Continue without 7 and 11 is on the
+// lane that has the lock.
+fn spoil_lock(arena: &mut Arena, call: u64, set: u64) {
+    if has(set, LOCKED) {
+        edges::hold_lock(arena, 1);
+    } else if call == second::CONTINUE && !has(set, IDLE) {
+        edges::hold_lock(arena, 0);
     }
 }
 
@@ -168,16 +201,22 @@ pub(crate) fn call_with(arena: &mut Arena, call: u64, set: u64) {
     edges::prepare(arena, number, held(call, set));
     spoil_arguments(arena, set);
     spoil_state(arena, set, number);
-    let used = edges::used_by(arena, call);
+    spoil_lock(arena, call, set);
+    let used = used_by(arena, call, set);
     edges::probe(arena, edges::code_of(call), number, used);
     edges::expect(arena, first(set));
+}
+
+// Can these causes hold together? Where no lock is held, no other lane has it.
+fn agrees(call: u64, set: u64) -> bool {
+    call != second::CONTINUE || !has(set, IDLE) || !has(set, LOCKED)
 }
 
 // Each call with each set of which it knows all causes.
 pub(crate) fn every_set(arena: &mut Arena, i: u64) {
     let call = i / SETS + 1;
     let set = i % SETS;
-    if set & known(call) == set {
+    if set & known(call) == set && agrees(call, set) {
         call_with(arena, call, set);
     }
 }

@@ -24,6 +24,7 @@ use second::words::WORDS;
 use second::words::clear;
 use second::words::copy;
 use second::words::get;
+use second::words::least;
 use second::words::minus;
 use second::words::only;
 use second::words::plus;
@@ -35,10 +36,10 @@ pub(crate) const LENGTH: u64 = 143;
 
 pub(crate) const FORMER: u64 = 139;
 
-// The calls are 1 to 9; a Log of no words, which settles its lane, is one more here.
-pub(crate) const NO_WORDS: u64 = 10;
+// The calls are 1 to 11; a Log of no words, which settles its lane, is one more here.
+pub(crate) const NO_WORDS: u64 = 12;
 
-pub(crate) const CALLS: u64 = 10;
+pub(crate) const CALLS: u64 = 12;
 
 pub(crate) fn code_of(call: u64) -> u64 {
     if call == NO_WORDS {
@@ -57,7 +58,7 @@ pub(crate) fn used_by(arena: &Arena, call: u64) -> u64 {
 }
 
 // An empty store of these sizes with the greatest lag limit, and a transaction that sets word 0 to 3.
-fn start_with(arena: &mut Arena, words: u64, lanes: u64, slots: u64) {
+pub(crate) fn start_with(arena: &mut Arena, words: u64, lanes: u64, slots: u64) {
     session::set_sizes(arena, words, lanes, slots);
     session::fit(arena);
     clear(arena, CACHE, ROOM);
@@ -131,10 +132,20 @@ pub(crate) fn commits(call: u64) -> bool {
     call == second::REDO || call == second::VALIDATE
 }
 
-// A start with a lane prepared for a call.
+// The lock is held by a lane, with timestamp 8 and that transaction's one write, of which nothing is logged yet.
+pub(crate) fn hold_lock(arena: &mut Arena, lane: u64) {
+    fields::set_lock(arena, lane, 8, 1);
+    fields::set_parts(arena, 0, 0);
+    set_row(arena, RECORD, fields::lock_pair(0), 0, 0, 3, 0);
+}
+
+// A start with a lane prepared for a call. Where the lane is not in use, another one has the lock.
 pub(crate) fn start_for(arena: &mut Arena, call: u64, lane: u64) {
     start(arena);
     prepare(arena, lane, commits(call));
+    if call == second::CONTINUE {
+        hold_lock(arena, least(lane, 1));
+    }
 }
 
 // ---- sizes. The first seven cases are in range.
@@ -217,17 +228,21 @@ fn wrong_length(arena: &mut Arena, i: u64) {
     }
 }
 
+// The cases of a wrong length.
+const WRONG_BUFFERS: u64 = 6 * CALLS;
+
 pub(crate) fn buffers(arena: &mut Arena, i: u64) {
     start(arena);
-    if i < 60 {
+    if i < WRONG_BUFFERS {
         let call = i % CALLS + 1;
         fit_for(arena, call);
         wrong_length(arena, i / CALLS);
         probe_empty(arena, call);
         expect(arena, 1);
     } else {
-        probe(arena, second::FORMAT, 0, i - 59);
-        expect(arena, only(i != 61, 1));
+        let used = plus(minus(i, WRONG_BUFFERS), 1);
+        probe(arena, second::FORMAT, 0, used);
+        expect(arena, only(used != 2, 1));
     }
 }
 
@@ -264,25 +279,27 @@ fn lane_case(i: u64) -> u64 {
     }
 }
 
-// The six calls on a lane.
-fn lane_call(i: u64) -> u64 {
-    if i == 5 {
-        return NO_WORDS;
+// The eight calls on a lane.
+pub(crate) fn lane_call(i: u64) -> u64 {
+    match i {
+        5 => NO_WORDS,
+        6 => second::LOCK,
+        7 => second::CONTINUE,
+        _ => plus(i, 1),
     }
-    plus(i, 1)
 }
 
 // Each lane case with each of them.
 pub(crate) fn lanes(arena: &mut Arena, i: u64) {
-    let call = lane_call(i % 6);
-    let lane = lane_case(i / 6);
+    let call = lane_call(i % 8);
+    let lane = lane_case(i / 8);
     start_for(arena, call, lane);
-    probe_at(arena, call, lane, only(6 <= i, 3), b", lane ", lane);
+    probe_at(arena, call, lane, only(8 <= i, 3), b", lane ", lane);
 }
 
 // ---- transactions
-fn put_sets(arena: &mut Arena) {
-    for at in 0..20 {
+pub(crate) fn put_sets(arena: &mut Arena) {
+    for at in 0..68 {
         set_row(arena, TXN, at, 1, 0, 0, 3);
     }
 }
@@ -376,14 +393,15 @@ pub(crate) fn put_skip(arena: &mut Arena) {
 
 // The calls that take a timestamp.
 fn clock_call(i: u64) -> u64 {
-    if i == 4 {
-        return NO_WORDS;
+    match i {
+        4 => NO_WORDS,
+        5 => second::LOCK,
+        _ => plus(i, 1),
     }
-    plus(i, 1)
 }
 
 pub(crate) fn clocks(arena: &mut Arena, i: u64) {
-    if i == 10 {
+    if i == 12 {
         no_writes(arena);
     } else if i % 2 == 0 {
         clock_case(arena, clock_call(i / 2), LATE, 0);
@@ -466,10 +484,10 @@ fn hold_all(arena: &mut Arena) {
 
 // Each case with each call on a lane.
 pub(crate) fn records(arena: &mut Arena, i: u64) {
-    let call = lane_call(i % 6);
+    let call = lane_call(i % 8);
     start(arena);
     hold_all(arena);
-    edit(arena, i / 6);
+    edit(arena, i / 8);
     probe(arena, code_of(call), 0, used_by(arena, call));
-    session::expect(arena, (session::refusal(arena) == 2) == is_bad(i / 6));
+    session::expect(arena, (session::refusal(arena) == 2) == is_bad(i / 8));
 }

@@ -1,6 +1,6 @@
-// The lag limit: which numbers Format, recoveries and the record take for one, where it refuses a Log, and where it
-// does not refuse. Log takes the clock plus 2, which may not be more than the limit above the least floor, with words
-// or without.
+// The lag limit: which numbers Format, recoveries and the record take for one, where it refuses a Log or a Lock, and
+// where it does not refuse. They take the clock plus 2, which may not be more than the limit above the least floor; a
+// Log also without words.
 use crate::edges;
 use crate::idle;
 use crate::logs;
@@ -114,10 +114,10 @@ fn say(arena: &Arena, clock: u64, own: u64, other: u64, sequence: u64, lag: u64)
     print::floors(arena);
 }
 
-// A Log of lane 0 in such a case, of so many words, with this limit, and its refusal or 0.
+// A Log of lane 0 in such a case, one of no words, or a Lock, with this limit, and its refusal or 0.
 fn log(
     arena: &mut Arena,
-    used: u64,
+    call: u64,
     clock: u64,
     own: u64,
     other: u64,
@@ -127,26 +127,26 @@ fn log(
 ) {
     set_case(arena, clock, own, other, sequence);
     fields::set_lag(arena, lag);
-    edges::probe(arena, second::LOG, 0, used);
+    edges::probe(arena, edges::code_of(call), 0, edges::used_by(arena, call));
     edges::expect(arena, number);
     expect_lag(arena, lag);
     say(arena, clock, own, other, sequence, lag);
 }
 
 // The log is empty: a floor is what the record says.
-fn log_by_record(arena: &mut Arena, i: u64, used: u64) {
+fn log_by_record(arena: &mut Arena, i: u64, call: u64) {
     match i {
-        0 => log(arena, used, 8, NONE, 2, 0, 8, 0),
-        1 => log(arena, used, 8, NONE, 2, 0, 6, 15),
-        2 => log(arena, used, 10, NONE, 2, 0, 8, 15),
-        3 => log(arena, used, 8, 2, NONE, 0, 8, 0),
-        4 => log(arena, used, 8, 2, NONE, 0, 6, 15),
-        5 => log(arena, used, 8, 8, 2, 0, 6, 15),
-        6 => log(arena, used, 8, 2, 8, 0, 6, 15),
-        7 => log(arena, used, 8, 8, 4, 0, 6, 0),
-        8 => log(arena, used, 8, 8, 8, 0, 2, 0),
-        9 => log(arena, used, 8, 8, 6, 0, 2, 15),
-        _ => log(arena, used, 8, NONE, NONE, 0, 2, 0),
+        0 => log(arena, call, 8, NONE, 2, 0, 8, 0),
+        1 => log(arena, call, 8, NONE, 2, 0, 6, 15),
+        2 => log(arena, call, 10, NONE, 2, 0, 8, 15),
+        3 => log(arena, call, 8, 2, NONE, 0, 8, 0),
+        4 => log(arena, call, 8, 2, NONE, 0, 6, 15),
+        5 => log(arena, call, 8, 8, 2, 0, 6, 15),
+        6 => log(arena, call, 8, 2, 8, 0, 6, 15),
+        7 => log(arena, call, 8, 8, 4, 0, 6, 0),
+        8 => log(arena, call, 8, 8, 8, 0, 2, 0),
+        9 => log(arena, call, 8, 8, 6, 0, 2, 15),
+        _ => log(arena, call, 8, NONE, NONE, 0, 2, 0),
     }
 }
 
@@ -154,43 +154,43 @@ fn log_by_record(arena: &mut Arena, i: u64, used: u64) {
 const HIGH: u64 = MAX_STAMP - MAX_LAG;
 
 // The greatest limit, and the greatest timestamp.
-fn log_late(arena: &mut Arena, i: u64, used: u64) {
+fn log_late(arena: &mut Arena, i: u64, call: u64) {
     match i {
-        0 => log(arena, used, MAX_LAG - 2, NONE, 0, 0, MAX_LAG, 0),
-        1 => log(arena, used, MAX_LAG, NONE, 0, 0, MAX_LAG, 15),
-        2 => log(arena, used, edges::LATE, NONE, NONE, 0, 2, 0),
-        3 => log(arena, used, edges::LATE, NONE, HIGH, 0, MAX_LAG, 0),
-        4 => log(arena, used, edges::LATE, NONE, HIGH - 2, 0, MAX_LAG, 15),
-        _ => log(arena, used, edges::LATE, NONE, 2, 0, MAX_LAG, 15),
+        0 => log(arena, call, MAX_LAG - 2, NONE, 0, 0, MAX_LAG, 0),
+        1 => log(arena, call, MAX_LAG, NONE, 0, 0, MAX_LAG, 15),
+        2 => log(arena, call, edges::LATE, NONE, NONE, 0, 2, 0),
+        3 => log(arena, call, edges::LATE, NONE, HIGH, 0, MAX_LAG, 0),
+        4 => log(arena, call, edges::LATE, NONE, HIGH - 2, 0, MAX_LAG, 15),
+        _ => log(arena, call, edges::LATE, NONE, 2, 0, MAX_LAG, 15),
     }
 }
 
-pub(crate) fn at_limit(arena: &mut Arena, i: u64, used: u64) {
+pub(crate) fn at_limit(arena: &mut Arena, i: u64, call: u64) {
     if i < 11 {
-        log_by_record(arena, i, used);
+        log_by_record(arena, i, call);
     } else {
-        log_late(arena, i - 11, used);
+        log_late(arena, i - 11, call);
     }
 }
 
 // The lane's own floor is the one after its drain: that of its sequence, none where that is a mark, the record's where
 // it is not complete. Only a damaged log has one that is not below 10, the timestamp that comes next.
-pub(crate) fn drained(arena: &mut Arena, i: u64, used: u64) {
+pub(crate) fn drained(arena: &mut Arena, i: u64, call: u64) {
     match i {
-        0 => log(arena, used, 8, 2, NONE, 61, 4, 0),
-        1 => log(arena, used, 8, 2, NONE, 61, 2, 15),
-        2 => log(arena, used, 8, 8, NONE, 41, 4, 15),
-        3 => log(arena, used, 8, NONE, NONE, 41, 4, 15),
-        4 => log(arena, used, 8, NONE, NONE, 41, 6, 0),
-        5 => log(arena, used, 8, 2, NONE, 82, 6, 15),
-        6 => log(arena, used, 8, 2, 6, 61, 4, 0),
-        7 => log(arena, used, 8, 2, NONE, 60, 2, 0),
-        8 => log(arena, used, 8, 2, 8, 60, 2, 0),
-        9 => log(arena, used, 8, 2, 6, 60, 2, 15),
-        10 => log(arena, used, 8, 2, NONE, 101, 2, 0),
-        11 => log(arena, used, 8, 2, NONE, 121, 2, 0),
-        12 => log(arena, used, 8, 2, 8, 121, 2, 0),
-        _ => log(arena, used, 8, 2, 6, 121, 2, 15),
+        0 => log(arena, call, 8, 2, NONE, 61, 4, 0),
+        1 => log(arena, call, 8, 2, NONE, 61, 2, 15),
+        2 => log(arena, call, 8, 8, NONE, 41, 4, 15),
+        3 => log(arena, call, 8, NONE, NONE, 41, 4, 15),
+        4 => log(arena, call, 8, NONE, NONE, 41, 6, 0),
+        5 => log(arena, call, 8, 2, NONE, 82, 6, 15),
+        6 => log(arena, call, 8, 2, 6, 61, 4, 0),
+        7 => log(arena, call, 8, 2, NONE, 60, 2, 0),
+        8 => log(arena, call, 8, 2, 8, 60, 2, 0),
+        9 => log(arena, call, 8, 2, 6, 60, 2, 15),
+        10 => log(arena, call, 8, 2, NONE, 101, 2, 0),
+        11 => log(arena, call, 8, 2, NONE, 121, 2, 0),
+        12 => log(arena, call, 8, 2, 8, 121, 2, 0),
+        _ => log(arena, call, 8, 2, 6, 121, 2, 15),
     }
 }
 

@@ -1,17 +1,20 @@
 // The bench sheet's half that is run on fixed lists of calls: both sides of the ends of each range, trailers and the
 // lengths that each call takes, the withdrawn POKE, sets of causes of a refusal, the two-lane scenario with recovery
-// cut after each store, marked lanes, the lag limit, transactions of no words. The control, which spoils what the store
-// left, is here too. Prints what it ran, what the store answered, and how many calls differed from the second
-// implementation.
+// cut after each store, marked lanes, the lag limit, transactions of no words, long transactions under the lock. The
+// control, which spoils what the store left, is here too. Prints what it ran, what the store answered, and how many
+// calls differed from the second implementation.
 mod boundaries;
 mod causes;
 mod control;
 mod edges;
+mod equals;
 mod floors;
 mod idle;
 mod lag;
 mod lengths;
+mod locks;
 mod logs;
+mod long;
 mod overwriting;
 mod scenario;
 mod settling;
@@ -114,6 +117,32 @@ const ONE_SLOT: u64 = 42;
 
 const SETTLED_CUTS: u64 = 43;
 
+const LOCK_LENGTHS: u64 = 44;
+
+const LOCK_SLOTS: u64 = 45;
+
+const LOCK_ORDER: u64 = 46;
+
+const KEPT_OUT: u64 = 47;
+
+const WAIVED: u64 = 48;
+
+const LOCK_AT_LIMIT: u64 = 49;
+
+const LOCK_DRAINED: u64 = 50;
+
+const LOCK_OVERWRITING: u64 = 51;
+
+const LOCK_RECORDS: u64 = 52;
+
+const LOCK_WHOLE: u64 = 53;
+
+const LOCK_LIST: u64 = 54;
+
+const LOCK_CUTS: u64 = 55;
+
+const EQUALS: u64 = 56;
+
 // Case i of an edge.
 fn edge(arena: &mut Arena, group: u64, i: u64) {
     match group {
@@ -161,8 +190,8 @@ fn lagging(arena: &mut Arena, group: u64, i: u64) {
     match group {
         LAGS_GIVEN => lag::given(arena, i),
         LAGS_RECORDED => lag::recorded(arena, i),
-        AT_LIMIT => lag::at_limit(arena, i, 4),
-        AT_LIMIT_DRAINED => lag::drained(arena, i, 4),
+        AT_LIMIT => lag::at_limit(arena, i, second::LOG),
+        AT_LIMIT_DRAINED => lag::drained(arena, i, second::LOG),
         PAST_LIMIT => lag::past_limit(arena, i),
         _ => lag::list(arena),
     }
@@ -173,12 +202,37 @@ fn settled(arena: &mut Arena, group: u64, i: u64) {
     match group {
         FEW_WORDS => settling::words(arena, i),
         SETTLING_ORDER => settling::order(arena, i),
-        SETTLING_AT_LIMIT => lag::at_limit(arena, i, 0),
-        SETTLING_DRAINED => lag::drained(arena, i, 0),
+        SETTLING_AT_LIMIT => lag::at_limit(arena, i, edges::NO_WORDS),
+        SETTLING_DRAINED => lag::drained(arena, i, edges::NO_WORDS),
         SETTLING_SLOTS => settling::slots(arena, i),
         SETTLED_LANE => settling::list(arena),
         ONE_SLOT => settling::one_slot(arena),
         _ => settling::cut(arena, i),
+    }
+}
+
+// Case i of the lock.
+fn locked(arena: &mut Arena, group: u64, i: u64) {
+    match group {
+        LOCK_LENGTHS => locks::lengths(arena, i),
+        LOCK_SLOTS => locks::counts(arena, i),
+        LOCK_ORDER => locks::order(arena, i),
+        KEPT_OUT => locks::keeps_out(arena, i),
+        WAIVED => locks::waived(arena, i),
+        LOCK_AT_LIMIT => lag::at_limit(arena, i, second::LOCK),
+        LOCK_DRAINED => lag::drained(arena, i, second::LOCK),
+        LOCK_OVERWRITING => overwriting::locking(arena, i),
+        _ => locks::records(arena, i),
+    }
+}
+
+// Case i of long transactions.
+fn long_case(arena: &mut Arena, group: u64, i: u64) {
+    match group {
+        LOCK_WHOLE => long::whole(arena, i),
+        LOCK_LIST => long::list(arena),
+        LOCK_CUTS => long::cut(arena, i),
+        _ => equals::cases(arena, i),
     }
 }
 
@@ -191,6 +245,17 @@ fn case(arena: &mut Arena, group: u64, i: u64) {
         TWO_LANES => scenario::run(arena),
         CUTS => scenario::run_cut(arena, i),
         _ => scenario::run_former(arena, i),
+    }
+}
+
+// Case i of what was added last.
+fn later(arena: &mut Arena, group: u64, i: u64) {
+    if group <= SETTLED_CUTS {
+        settled(arena, group, i);
+    } else if group <= LOCK_RECORDS {
+        locked(arena, group, i);
+    } else {
+        long_case(arena, group, i);
     }
 }
 
@@ -209,7 +274,7 @@ fn cases(arena: &mut Arena, group: u64, count: u64) {
         } else if group <= LAGGING {
             lagging(arena, group, i);
         } else {
-            settled(arena, group, i);
+            later(arena, group, i);
         }
     }
 }
@@ -222,18 +287,18 @@ fn run(arena: &mut Arena, group: u64, count: u64, name: &[u8]) {
 
 // Both sides of the ends of each range.
 fn first_edges(arena: &mut Arena) {
-    run(arena, SIZES, 160, b"sizes");
-    run(arena, BUFFERS, 63, b"buffers");
+    run(arena, SIZES, 192, b"sizes");
+    run(arena, BUFFERS, 75, b"buffers");
     run(arena, WORDS, 4, b"words, image of 143");
     run(arena, FORMER_WORDS, 4, b"words, image of 139");
-    run(arena, LANES, 18, b"lanes, T 2");
+    run(arena, LANES, 24, b"lanes, T 2");
 }
 
 fn more_edges(arena: &mut Arena) {
     run(arena, TXNS, 2156, b"transactions");
     run(arena, WITHDRAWN, 7, b"POKE withdrawn");
-    run(arena, CLOCKS, 11, b"clocks");
-    run(arena, RECORDS, 240, b"records");
+    run(arena, CLOCKS, 13, b"clocks");
+    run(arena, RECORDS, 320, b"records");
 }
 
 fn lengths_and_trailers(arena: &mut Arena) {
@@ -370,6 +435,68 @@ fn more_no_words(arena: &mut Arena) {
     );
 }
 
+fn the_lock(arena: &mut Arena) {
+    run(arena, LOCK_LENGTHS, locks::LENGTHS, b"long transactions");
+    run(arena, LOCK_SLOTS, locks::COUNTS, b"Lock, slots counted");
+    run(
+        arena,
+        LOCK_ORDER,
+        locks::ORDER,
+        b"Lock and Continue, order of refusals",
+    );
+    run(
+        arena,
+        KEPT_OUT,
+        locks::KEPT_OUT,
+        b"calls while the lock is held",
+    );
+    run(
+        arena,
+        WAIVED,
+        locks::WAIVED,
+        b"Lock and Continue, refusals waived",
+    );
+}
+
+fn more_lock(arena: &mut Arena) {
+    run(arena, LOCK_AT_LIMIT, 17, b"Locks at the lag limit");
+    run(
+        arena,
+        LOCK_DRAINED,
+        14,
+        b"Locks at the lag limit, as after the drain",
+    );
+    run(
+        arena,
+        LOCK_OVERWRITING,
+        overwriting::LOCK_CASES,
+        b"overwriting, slots counted by a Lock",
+    );
+    run(arena, LOCK_RECORDS, locks::RECORDS, b"records, the lock");
+}
+
+fn long_transactions(arena: &mut Arena) {
+    run(
+        arena,
+        LOCK_WHOLE,
+        long::WHOLE,
+        b"long transactions run whole",
+    );
+    run(
+        arena,
+        LOCK_LIST,
+        1,
+        b"a long transaction beside another lane",
+    );
+    run(
+        arena,
+        LOCK_CUTS,
+        long::CUTS,
+        b"a long transaction, power fails",
+    );
+    run(arena, EQUALS, equals::CASES, b"equal timestamps of a lane");
+}
+
 fn main() {
     let mut arena = [0u64; ALL];
     first_edges(&mut arena);
@@ -385,4 +512,7 @@ fn main() {
     more_lag_limit(&mut arena);
     no_words(&mut arena);
     more_no_words(&mut arena);
+    the_lock(&mut arena);
+    more_lock(&mut arena);
+    long_transactions(&mut arena);
 }

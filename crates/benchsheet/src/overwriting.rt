@@ -1,5 +1,5 @@
-// Refusal 9 at each slot: a Mark and Logs over two sequences of lane 0, of which the newer one closes an entry or is a
-// mark.
+// Refusal 9 at each slot: a Mark, Logs and a Lock over two sequences of lane 0, of which the newer one closes an entry
+// or is a mark.
 use crate::edges;
 use bench::print;
 use bench::session;
@@ -8,6 +8,7 @@ use second::words::Arena;
 use second::words::MIN_SLOTS;
 use second::words::TXN;
 use second::words::minus;
+use second::words::only;
 use second::words::plus;
 use second::words::set_row;
 
@@ -125,6 +126,20 @@ pub(crate) fn cases(arena: &mut Arena, i: u64) {
     set_case(arena, next, own_case(i % 4), other);
     two_sequences(arena, false);
     append(arena, writes, hits(next, plus(writes, 1), other));
+}
+
+pub(crate) const LOCK_CASES: u64 = 4 * MIN_SLOTS;
+
+// A Lock counts its slots by the instructions: of these three a SKIP passes over one, and one writes, but they count as
+// four slots.
+pub(crate) fn locking(arena: &mut Arena, i: u64) {
+    let other = floor_case(i / MIN_SLOTS);
+    let next = i % MIN_SLOTS;
+    set_case(arena, next, 2, other);
+    edges::put_skip(arena);
+    two_sequences(arena, false);
+    edges::probe(arena, second::LOCK, 0, 12);
+    edges::expect(arena, only(hits(next, 4, other), 9));
 }
 
 pub(crate) const MARKED_CASES: u64 = 5 * APPENDS;

@@ -74,17 +74,18 @@ fn refused(arena: &mut Arena, set: u64, what: &[u8]) {
 }
 
 // All of its causes, then each time without the first one.
-pub(crate) const ORDER: u64 = 8;
+pub(crate) const ORDER: u64 = 9;
 
 pub(crate) fn order(arena: &mut Arena, i: u64) {
     match i {
-        0 => refused(arena, 3737, b"no words, causes 1 2 3 6 8 15 9"),
-        1 => refused(arena, 3736, b"no words, causes 2 3 6 8 15 9"),
-        2 => refused(arena, 3728, b"no words, causes 3 6 8 15 9"),
-        3 => refused(arena, 3712, b"no words, causes 6 8 15 9"),
-        4 => refused(arena, 3584, b"no words, causes 8 15 9"),
-        5 => refused(arena, 3072, b"no words, causes 15 9"),
-        6 => refused(arena, 2048, b"no words, cause 9"),
+        0 => refused(arena, 15001, b"no words, causes 1 2 3 6 11 8 15 9"),
+        1 => refused(arena, 15000, b"no words, causes 2 3 6 11 8 15 9"),
+        2 => refused(arena, 14992, b"no words, causes 3 6 11 8 15 9"),
+        3 => refused(arena, 14976, b"no words, causes 6 11 8 15 9"),
+        4 => refused(arena, 14848, b"no words, causes 11 8 15 9"),
+        5 => refused(arena, 14336, b"no words, causes 8 15 9"),
+        6 => refused(arena, 12288, b"no words, causes 15 9"),
+        7 => refused(arena, 8192, b"no words, cause 9"),
         _ => refused(arena, 0, b"no words, no cause"),
     }
 }

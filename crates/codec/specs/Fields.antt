@@ -1,4 +1,5 @@
--- The record as words: clock, last commit, for each of 8 lanes a head and 16 pairs, and the lag limit. SPECIFICATION, "The record as words". Assumes nothing.
+-- The record as words: clock, last commit, for each of 8 lanes a head and 16 pairs, the lag limit, the lock; behind them stand the lock's pairs, which are
+-- words already. SPECIFICATION, "The record as words". Assumes nothing.
 use Prim.Native.Nat.{ℕ, zero, suc, _+_, _*_}
 use mathlib.Core.Bool.{Bool, true, false, cond}
 use mathlib.Core.List.{List, [], _∷_, _++_}
@@ -8,14 +9,16 @@ use Rattle.txn.specs.Txn.{maxWrites}
 use Rattle.image.specs.Image.{maxLanes}
 use Rattle.log.specs.declared.Timestamp.{Timestamp}
 use Rattle.log.specs.declared.Timestamp.the-variants.{None, At}
-use Rattle.record.specs.Record.{isLogged, loggedIn}
+use Rattle.record.specs.Record.{isLogged, loggedIn, lockLength, isHeld, lockedIn}
 use Rattle.record.specs.declared.Pair.{Pair}
 use Rattle.record.specs.declared.Phase.{Phase}
 use Rattle.record.specs.declared.Phase.the-variants.{Idle, Holds}
 use Rattle.record.specs.declared.Lane.{Lane}
+use Rattle.record.specs.declared.Lock.{Lock}
+use Rattle.record.specs.declared.Lock.the-variants.{Free, Held}
 use Rattle.record.specs.declared.Record.{Record}
 
--- ---- how many words: of a lane before its pairs, of its pairs, of a lane, of a record (323)
+-- ---- how many words: of a lane before its pairs, of its pairs, of a lane
 abbrev pub headLength : ℕ
 headLength = 8
 
@@ -25,8 +28,18 @@ pairsLength = 2 * maxWrites
 abbrev pub laneLength : ℕ
 laneLength = headLength + pairsLength
 
+-- of what stands before the lag limit, of the lock without its pairs, of a record without them (329), and with them (457)
+abbrev pub lanesEnd : ℕ
+lanesEnd = 2 + maxLanes * laneLength
+
+abbrev pub holderLength : ℕ
+holderLength = 6
+
 abbrev pub recordLength : ℕ
-recordLength = 2 + maxLanes * laneLength + 1
+recordLength = lanesEnd + 1 + holderLength
+
+abbrev pub stateLength : ℕ
+stateLength = recordLength + lockLength
 
 -- ---- from words: each list begins at the field's own first word
 -- n elements in a row, of `size` words each
@@ -54,13 +67,19 @@ laneOf ws =
       redo = rowOf 2 pairOf maxWrites (drop headLength ws);
     }
 
+unfoldable pub lockOf : List ℕ → Lock
+lockOf ws =
+    cond (eqb (getD ws 0 0) 0) Free
+    (Held (record { lane = getD ws 1 0; stamp = getD ws 2 0; count = getD ws 3 0; logged = getD ws 4 0; written = getD ws 5 0 }))
+
 unfoldable pub recordOf : List ℕ → Record
 recordOf ws =
     record {
       clock = getD ws 0 0;
       last = getD ws 1 0;
       lanes = rowOf laneLength laneOf maxLanes (drop 2 ws);
-      lag = getD ws (2 + maxLanes * laneLength) 0;
+      lag = getD ws lanesEnd 0;
+      lock = lockOf (drop (lanesEnd + 1) ws);
     }
 
 -- ---- to words
@@ -101,5 +120,10 @@ pairWords p = p.word ∷ p.value ∷ []
 unfoldable pub laneWords : Lane → List ℕ
 laneWords l = headWords l ++ rowWords pairWords (l .redo)
 
+-- 0 for what a free lock does not have
+unfoldable pub lockWords : Lock → List ℕ
+lockWords k =
+    bitFor (isHeld k) ∷ lockedIn k .lane ∷ lockedIn k .stamp ∷ lockedIn k .count ∷ lockedIn k .logged ∷ lockedIn k .written ∷ []
+
 unfoldable pub wordsOf : Record → List ℕ
-wordsOf r = r .clock ∷ r .last ∷ (rowWords laneWords (r .lanes) ++ (r .lag ∷ []))
+wordsOf r = r .clock ∷ r .last ∷ (rowWords laneWords (r .lanes) ++ (r .lag ∷ lockWords (r .lock)))

@@ -1,9 +1,13 @@
 // The record as words: clock, last commit, for each lane phase, first slot, count, timestamp, next slot, wrap bit,
-// whether there is a floor, floor, and 16 pairs, then the lag limit. A field of a lane is read in `lane_from` and
-// written in `head`.
+// whether there is a floor, floor, and 16 pairs, then the lag limit, and of the lock whether it is held, its lane,
+// timestamp, count, how many are logged and how many written. A field of a lane is read in `lane_from` and written in
+// `head`. The lock's pairs follow, which are words already and so are nothing to this crate.
 use image::MAX_LANES;
 use log::Timestamp;
+use record::LOCK_WORDS;
 use record::Lane;
+use record::Lock;
+use record::Locked;
 use record::Logged;
 use record::Pair;
 use record::Phase;
@@ -13,9 +17,10 @@ ghost use mathlib.Core.Path.{_≡_};
 ghost use Prim.Native.Nat.{_≤_};
 ghost use lib.ListN.{length};
 ghost use Rattle.txn.specs.Txn.{maxWrites};
-ghost use Rattle.codec.specs.Fields.{pairsLength, laneLength, recordLength};
-ghost use Rattle.codec.specs.Fields.{phaseOf, floorOf, pairOf, rowOf, laneOf, recordOf};
-ghost use Rattle.codec.specs.Fields.{bitFor, isSet, stampOf, headWords, pairWords, rowWords, laneWords, wordsOf};
+ghost use Rattle.codec.specs.Fields.{pairsLength, laneLength, holderLength, recordLength};
+ghost use Rattle.codec.specs.Fields.{phaseOf, floorOf, pairOf, rowOf, laneOf, lockOf, recordOf};
+ghost use Rattle.codec.specs.Fields.{bitFor, isSet, stampOf, headWords, pairWords, rowWords, laneWords};
+ghost use Rattle.codec.specs.Fields.{lockWords, wordsOf};
 
 // How many words a lane has before its pairs.
 const HEAD_WORDS: usize = 8;
@@ -26,8 +31,13 @@ const LANE_WORDS: usize = HEAD_WORDS + 2 * MAX_WRITES;
 // Where the words of the record after its lanes stand.
 const LANES_END: usize = 2 + MAX_LANES * LANE_WORDS;
 
-// How many words the record has.
-pub const RECORD_WORDS: usize = LANES_END + 1;
+// How many words the lock has before its pairs.
+const HOLDER_WORDS: usize = 6;
+
+// How many words the record has before the lock's pairs, and with them.
+pub const RECORD_WORDS: usize = LANES_END + 1 + HOLDER_WORDS;
+
+pub const STATE_WORDS: usize = RECORD_WORDS + LOCK_WORDS;
 
 fn phase_from(words: &[u64]) -> Phase
     requires { ⌜ laneLength ≤ length (now words) ⌝ }
@@ -150,8 +160,41 @@ fn put_lane(lane: Lane, words: &mut [u64])
     put_pairs(redo, &mut words[HEAD_WORDS..]);
 }
 
-// The record of these words. An idle lane's first slot, count and timestamp are dropped, and the floor of a lane that
-// has none.
+fn lock_from(words: &[u64]) -> Lock
+    requires { ⌜ holderLength ≤ length (now words) ⌝ }
+    ensures { λ r. ⌜ r ≡ lockOf (now (words .entry)) ⌝ }
+{
+    if words[0] == 0 {
+        return Lock::Free;
+    }
+    Lock::Held(Locked {
+        lane: words[1] as usize,
+        stamp: words[2],
+        count: words[3] as usize,
+        logged: words[4] as usize,
+        written: words[5] as usize,
+    })
+}
+
+// The words of the lock before its pairs.
+fn holder(lock: Lock) -> [u64; HOLDER_WORDS]
+    ensures { λ r. ⌜ r ≡ lockWords lock ⌝ }
+{
+    match lock {
+        Lock::Free => [0, 0, 0, 0, 0, 0],
+        Lock::Held(held) => [
+            1,
+            held.lane as u64,
+            held.stamp,
+            held.count as u64,
+            held.logged as u64,
+            held.written as u64,
+        ],
+    }
+}
+
+// The record of these words. What stands behind a phase, a floor or a lock of 0 is dropped: an idle lane's first slot,
+// count and timestamp, the floor of a lane that has none, the lane, timestamp and counts of a free lock.
 pub fn record_from(words: &[u64]) -> Record
     requires { ⌜ length (now words) ≡ recordLength ⌝ }
     ensures { λ r. ⌜ r ≡ recordOf (now (words .entry)) ⌝ }
@@ -165,10 +208,11 @@ pub fn record_from(words: &[u64]) -> Record
         last: words[1],
         lanes,
         lag: words[LANES_END],
+        lock: lock_from(&words[LANES_END + 1..]),
     }
 }
 
-// Stores the words of a record: 0 where a lane is idle or has no floor.
+// Stores the words of a record: 0 where a lane is idle or has no floor, and where the lock is free.
 pub fn record_to(state: Record, words: &mut [u64])
     requires { ⌜ length (now words) ≡ recordLength ⌝ }
     ensures { λ r. ⌜ now (words .exit) ≡ wordsOf state ⌝ }
@@ -181,4 +225,7 @@ pub fn record_to(state: Record, words: &mut [u64])
         put_lane(lane, &mut words[at..at + LANE_WORDS]);
     }
     words[LANES_END] = state.lag;
+    let lock = state.lock;
+    let last = holder(lock);
+    image::bulk::copy_words(&last, &mut words[LANES_END + 1..]);
 }

@@ -27,12 +27,15 @@ use store::Outcome;
 use txn::Write;
 use txn::Writes;
 
-// Causes 7 and 8, of a lane of this phase: it holds no logged transaction, or the clock is spent.
-fn commit_refusal(phase: Phase, spent: bool) -> u64
-    ensures { λ r. ⌜ r ≡ commitRefusal phase spent ⌝ }
+// Causes 7, 11 and 8, of a lane of this phase: it holds no logged transaction, the lock is held, or the clock is spent.
+fn commit_refusal(phase: Phase, held: bool, spent: bool) -> u64
+    ensures { λ r. ⌜ r ≡ commitRefusal phase held spent ⌝ }
 {
     if !record::is_logged(phase) {
         return 7;
+    }
+    if held {
+        return 11;
     }
     if spent {
         return 8;
@@ -44,25 +47,27 @@ fn commit_refusal(phase: Phase, spent: bool) -> u64
 pub fn redo_refusal(
     sizes: Sizes,
     state: Record,
+    pairs: &[u64],
     cache: &[u64],
     nvm: &[u64],
     flags: &[u8],
     lane: usize,
 ) -> u64
     ensures { λ r. ⌜ r ≡ redoRefusal sizes lane
-        (machineOf state (now (cache .entry)) (now (nvm .entry)) (now (flags .entry))) ⌝ }
+        (machineOf state (now (pairs .entry)) (now (cache .entry)) (now (nvm .entry)) (now (flags .entry))) ⌝ }
 {
-    let number = store::drain_refusal(sizes, state, cache, nvm, flags, lane);
+    let number = store::drain_refusal(sizes, state, pairs, cache, nvm, flags, lane);
     if number != 0 {
         return number;
     }
     let at = state.lanes[lane];
     let phase = at.phase;
-    commit_refusal(phase, record::spent(state))
+    let lock = state.lock;
+    commit_refusal(phase, record::is_held(lock), record::spent(state))
 }
 
 // Writes the first `count` pairs to the cached data words, in order, each flushed.
-fn write_pairs(
+pub fn write_pairs(
     cache: &mut [u64],
     flags: &mut [u8],
     lane: usize,
@@ -138,9 +143,9 @@ fn redo_drained(
     lane: usize,
 ) -> Outcome
     requires { ⌜ Committable sizes drained (now cache) (now flags) lane ⌝ }
-    ensures { λ r. ⌜ ((nvm : List ℕ)
-        → stepOf r (now (cache .exit)) nvm (now (flags .exit))
-        ≡ redoDrained sizes lane (machineOf drained (now (cache .entry)) nvm (now (flags .entry)))) ⌝ }
+    ensures { λ r. ⌜ ((pairs nvm : List ℕ)
+        → stepOf r pairs (now (cache .exit)) nvm (now (flags .exit))
+        ≡ redoDrained sizes lane (machineOf drained pairs (now (cache .entry)) nvm (now (flags .entry)))) ⌝ }
 {
     let at = drained.lanes[lane];
     let phase = at.phase;
@@ -165,15 +170,17 @@ fn redo_drained(
 pub fn redo(
     sizes: Sizes,
     state: Record,
+    pairs: &[u64],
     cache: &mut [u64],
     nvm: &mut [u64],
     flags: &mut [u8],
     lane: usize,
 ) -> Outcome
-    ensures { λ r. ⌜ stepOf r (now (cache .exit)) (now (nvm .exit)) (now (flags .exit))
-        ≡ redoStep sizes lane (machineOf state (now (cache .entry)) (now (nvm .entry)) (now (flags .entry))) ⌝ }
+    ensures { λ r. ⌜ stepOf r (now (pairs .entry)) (now (cache .exit)) (now (nvm .exit)) (now (flags .exit))
+        ≡ redoStep sizes lane
+        (machineOf state (now (pairs .entry)) (now (cache .entry)) (now (nvm .entry)) (now (flags .entry))) ⌝ }
 {
-    let number = redo_refusal(sizes, state, cache, nvm, flags, lane);
+    let number = redo_refusal(sizes, state, pairs, cache, nvm, flags, lane);
     if number != 0 {
         return store::refused(number, state);
     }
@@ -186,6 +193,7 @@ pub fn redo(
 pub fn validate_refusal(
     sizes: Sizes,
     state: Record,
+    pairs: &[u64],
     cache: &[u64],
     nvm: &[u64],
     flags: &[u8],
@@ -193,18 +201,19 @@ pub fn validate_refusal(
     txn: &[u64],
 ) -> u64
     ensures { λ r. ⌜ r ≡ validateRefusal sizes lane (now (txn .entry))
-        (machineOf state (now (cache .entry)) (now (nvm .entry)) (now (flags .entry))) ⌝ }
+        (machineOf state (now (pairs .entry)) (now (cache .entry)) (now (nvm .entry)) (now (flags .entry))) ⌝ }
 {
-    let number = store::drain_refusal(sizes, state, cache, nvm, flags, lane);
+    let number = store::drain_refusal(sizes, state, pairs, cache, nvm, flags, lane);
     if number != 0 {
         return number;
     }
-    if !txn::txn_ok(txn, sizes.words) {
+    if !txn::txn_ok(txn, sizes.words, txn::MAX_WRITES) {
         return 5;
     }
     let at = state.lanes[lane];
     let phase = at.phase;
-    commit_refusal(phase, record::spent(state))
+    let lock = state.lock;
+    commit_refusal(phase, record::is_held(lock), record::spent(state))
 }
 
 // Is a slot a whole entry of this write's word and old value?
@@ -271,10 +280,10 @@ fn validate_drained(
     requires { ⌜ writes .count ≤ maxWrites ⌝ }
     requires { ⌜ length (writes .list) ≡ maxWrites ⌝ }
     requires { ⌜ WordsBelow (sizes .words) (take (writes .count) (writes .list)) ⌝ }
-    ensures { λ r. ⌜ ((nvm : List ℕ)
-        → stepOf r (now (cache .exit)) nvm (now (flags .exit))
+    ensures { λ r. ⌜ ((pairs nvm : List ℕ)
+        → stepOf r pairs (now (cache .exit)) nvm (now (flags .exit))
         ≡ validateDrained sizes lane (take (writes .count) (writes .list))
-        (machineOf drained (now (cache .entry)) nvm (now (flags .entry)))) ⌝ }
+        (machineOf drained pairs (now (cache .entry)) nvm (now (flags .entry)))) ⌝ }
 {
     let at = drained.lanes[lane];
     let phase = at.phase;
@@ -299,17 +308,18 @@ fn validate_drained(
 pub fn validate(
     sizes: Sizes,
     state: Record,
+    pairs: &[u64],
     cache: &mut [u64],
     nvm: &mut [u64],
     flags: &mut [u8],
     lane: usize,
     txn: &[u64],
 ) -> Outcome
-    ensures { λ r. ⌜ stepOf r (now (cache .exit)) (now (nvm .exit)) (now (flags .exit))
+    ensures { λ r. ⌜ stepOf r (now (pairs .entry)) (now (cache .exit)) (now (nvm .exit)) (now (flags .exit))
         ≡ validateStep sizes lane (now (txn .entry))
-        (machineOf state (now (cache .entry)) (now (nvm .entry)) (now (flags .entry))) ⌝ }
+        (machineOf state (now (pairs .entry)) (now (cache .entry)) (now (nvm .entry)) (now (flags .entry))) ⌝ }
 {
-    let number = validate_refusal(sizes, state, cache, nvm, flags, lane, txn);
+    let number = validate_refusal(sizes, state, pairs, cache, nvm, flags, lane, txn);
     if number != 0 {
         return store::refused(number, state);
     }

@@ -18,6 +18,9 @@ use Rattle.crash.proofs.ties.Start.{ties-starts, ties-writes}
 use Rattle.crash.proofs.ties.Drain.{ties-drains, ties-gives-up}
 use Rattle.crash.proofs.ties.Append.{ties-appends, ties-marks}
 use Rattle.crash.proofs.ties.Commit.{ties-redoes, ties-validates}
+use Rattle.crash.proofs.ties.Lock.{ties-locks}
+use Rattle.crash.proofs.ties.Part.{ties-parts}
+use Rattle.crash.proofs.ties.Write.{ties-makes}
 use Rattle.crash.proofs.ties.Cut.{ties-cut}
 
 pub ties-laws : (z : Sizes) → sizesOk z ≡ true → LogLaws z (Ties z)
@@ -34,6 +37,9 @@ ties-laws z ok =
       validates = ties-validates z;
       gives-up = ties-gives-up z;
       marks = ties-marks z;
+      locks = ties-locks z;
+      parts = λ base m h k b t. ties-parts z base m h k b t;
+      makes = λ base m h k b t. ties-makes z base m h k b t;
     }
 
 pub crash-theorem : CrashTheorem vandzulge

@@ -5,6 +5,8 @@ pub mod Agree
 pub mod Answers
 pub mod Words
 pub mod Ranges
+pub mod Parts
 pub mod Onward
 pub mod Books
+pub mod BooksLock
 pub mod Start

@@ -5,6 +5,7 @@ pub mod Trailer
 pub mod Skeleton
 pub mod FromLogs
 pub mod Lists
+pub mod Fits
 pub mod Pages
 pub mod Kept
 pub mod Idle

@@ -1,5 +1,7 @@
 -- One lane's log, its ghost history, and what a cut shows of it; then all lanes.
 pub mod Absolute
+pub mod Lap
+pub mod Later
 pub mod Ghost
 pub mod Found
 pub mod Room

@@ -6,4 +6,8 @@ pub mod Start
 pub mod Drain
 pub mod Append
 pub mod Commit
+pub mod Lock
+pub mod Part
+pub mod Write
+pub mod Order
 pub mod Cut

@@ -1,13 +1,13 @@
 -- What users are promised beside the crash theorem; it follows from that: when a commit can no longer be lost, that a lane which is marked and drained
 -- and then stays idle delays nobody, how much work a power cut can take at most, and what a lane that is settled keeps. SPECIFICATION, "Corollaries".
 -- Assumes nothing.
-use Prim.Native.Nat.{ℕ, _+_, _-_, _≤_, _<_}
+use Prim.Native.Nat.{ℕ, _+_, _-_, _<_}
 use mathlib.Core.Bool.{Bool, true, false, not, _&&_, _||_}
 use mathlib.Core.List.{List, [], _∷_}
+use mathlib.Core.Option.{Option, none, some}
 use mathlib.Core.Path.{_≡_}
 use lib.Dec.{eqb}
 use lib.ListN.{set}
-use Rattle.txn.specs.Txn.{Rule}
 use Rattle.image.specs.Image.{dataOf}
 use Rattle.image.specs.declared.Sizes.{Sizes}
 use Rattle.log.specs.declared.Timestamp.{Timestamp}
@@ -18,10 +18,10 @@ use Rattle.store.specs.Calls.{formatRefusal}
 use Rattle.recovery.specs.Recovery.{boundary, told}
 use Rattle.recovery.specs.declared.Recovered.{Recovered}
 use Rattle.recovery.specs.declared.Recovered.the-variants.{Refused, Cut, Finished}
-use Rattle.crash.specs.Events.{Call, logBy, redo, validateBy, mark, drain, laneOf, Junk, System, live, down, Design, foundOr, happens}
+use Rattle.crash.specs.Events.{Call, logBy, redo, validateBy, mark, drain, lock, proceed, laneOf, Junk, System, live, down, Design, foundOr, happens}
 use Rattle.crash.specs.Events.{Event, format, writeBack, call, recover, fails, failsInDrain, failsAfterDrain, failsInRecovery}
 use Rattle.crash.specs.Events.{Reply, answered, recovered, failed, ignored}
-use Rattle.crash.specs.History.{Commit, History, blankPage, isBelow, wordsBelow, leastFloorOf, fed}
+use Rattle.crash.specs.History.{Commit, Holder, History, blankPage, isBelow, wordsBelow, leastFloorOf, fed}
 
 -- ---- a store with its history, after an event and after a list of them
 pub record World : Type 0 where
@@ -94,15 +94,20 @@ unfoldable pub goesOn : Design → Sizes → World → List Event → Bool
 goesOn d z w [] = true
 goesOn d z w (e ∷ es) = not (startsAnew e (happens d z (w .system) e .reply)) && goesOn d z (nextWorld d z w e) es
 
--- once the least floor is above s, which is not above the clock, or no lane has a floor: whatever happens until the next start, a recovery that then
--- finishes keeps every commit up to s
+-- the least timestamp that a commit to come can have: the lock's while it is held, else the next one
+unfoldable pub nextCommit : Option Holder → (clock : ℕ) → ℕ
+nextCommit none clock = clock + 2
+nextCommit (some k) clock = k .stamp
+
+-- once the least floor is above s, or no lane has a floor, and every commit to come is above s: s is not above the clock, and below the timestamp of a
+-- transaction that holds the lock. Whatever happens until the next start, a recovery that then finishes keeps every commit up to s
 unfoldable pub SafeTheorem : Design → Type 0
 SafeTheorem d =
     (z : Sizes) (lag : ℕ) (start : List ℕ) (m : Machine) (h : History) → formatRefusal z lag start m ≡ 0
     → (es fs : List Event) (s : ℕ) →
     let a = worldAfter d z (record { system = live m; history = h }) (format lag start ∷ es) in
     let b = worldAfter d z a fs in
-    s ≤ a .history .clock → isBelow (leastFloorOf (a .history .pages)) s ≡ true → goesOn d z a fs ≡ true
+    s < nextCommit (a .history .lock) (a .history .clock) → isBelow (leastFloorOf (a .history .pages)) s ≡ true → goesOn d z a fs ≡ true
     → (lag₁ limit : ℕ) (j : Junk) → let r = happens d z (b .system) (recover lag₁ limit j) in
     Kept z (b .history) (At (s + 1)) (r .system) (r .reply)
 
@@ -113,6 +118,8 @@ isDrain (redo L) = false
 isDrain (validateBy r L f) = false
 isDrain (mark L) = false
 isDrain (drain L) = true
+isDrain (lock L f) = false
+isDrain (proceed L) = false
 
 unfoldable pub isIdle : ℕ → Event → Bool
 isIdle L (format lag start) = true
@@ -140,6 +147,8 @@ isMark (redo L) = false
 isMark (validateBy r L f) = false
 isMark (mark L) = true
 isMark (drain L) = false
+isMark (lock L f) = false
+isMark (proceed L) = false
 
 -- a lane is marked, and drained later, and stays idle between the two and afterwards: then a recovery that finishes, whatever happened since and wherever
 -- power was cut, keeps every commit below the least floor of the other lanes, and every commit where these have none
@@ -169,16 +178,27 @@ unfoldable pub cutCells : System → List ℕ
 cutCells (live m) = m .nvm
 cutCells (down nvm j found) = foundOr nvm found
 
--- a Log has answered timestamp s: whatever happens until the next start and wherever power is cut, s is not more than the lag limit above the boundary of
--- the cut, if there is one, by the very test that Log makes of the lower bound; and a recovery that then finishes keeps every commit that is further below
+-- is a call bound by the lag limit: Log, by either rule and of no words too, and Lock
+unfoldable pub isBound : Call → Bool
+isBound (logBy r L f) = true
+isBound (redo L) = false
+isBound (validateBy r L f) = false
+isBound (mark L) = false
+isBound (drain L) = false
+isBound (lock L f) = true
+isBound (proceed L) = false
+
+-- a Log or a Lock has answered timestamp s: whatever happens until the next start and wherever power is cut, s is not more than the lag limit above the
+-- boundary of the cut, if there is one, by the very test that the call makes of the lower bound; and a recovery that then finishes keeps every commit that
+-- is further below
 unfoldable pub LagTheorem : Design → Type 0
 LagTheorem d =
     (z : Sizes) (lag : ℕ) (start : List ℕ) (m : Machine) (h : History) → formatRefusal z lag start m ≡ 0
-    → (es fs : List Event) (q : Rule) (L : ℕ) (f : List ℕ) (s : ℕ) →
+    → (es fs : List Event) (x : Call) (s : ℕ) →
     let a = worldAfter d z (record { system = live m; history = h }) (format lag start ∷ es) in
-    let b = nextWorld d z a (call (logBy q L f)) in
+    let b = nextWorld d z a (call x) in
     let c = worldAfter d z b fs in
-    stampsIn (happens d z (a .system) (call (logBy q L f)) .reply) ≡ s ∷ [] → goesOn d z b fs ≡ true
+    isBound x ≡ true → stampsIn (happens d z (a .system) (call x) .reply) ≡ s ∷ [] → goesOn d z b fs ≡ true
     → (lagPassed (a .history .lag) s (boundary z (cutCells (c .system))) ≡ false)
     × ((lag₁ limit : ℕ) (j : Junk) → let r = happens d z (c .system) (recover lag₁ limit j) in
     Kept z (c .history) (At (s - a .history .lag)) (r .system) (r .reply))
@@ -205,9 +225,20 @@ unfoldable pub getsDrained : Design → Sizes → ℕ → World → List Event �
 getsDrained d z L w [] = false
 getsDrained d z L w (e ∷ es) = drainsLane L e (happens d z (w .system) e .reply) || getsDrained d z L (nextWorld d z w e) es
 
--- a call on a lane has answered timestamp s: a Log of no words, which settles the lane, a Mark, or any other. Every commit before it is below s; and once
--- the lane is drained after it, whatever happens until the next start and wherever power is cut: where the floor of every other lane is above k or none, a
--- commit at k below s is below the boundary of the cut, if there is one, and a recovery that then finishes keeps every commit up to k
+-- is a call Lock: its timestamp is answered before anything is appended with it
+unfoldable pub isLock : Call → Bool
+isLock (logBy r L f) = false
+isLock (redo L) = false
+isLock (validateBy r L f) = false
+isLock (mark L) = false
+isLock (drain L) = false
+isLock (lock L f) = true
+isLock (proceed L) = false
+
+-- a call on a lane has answered timestamp s: a Log of no words, which settles the lane, a Mark, a Continue, or any other. Every commit before it is below
+-- s. And once the lane is drained after it, whatever happens until the next start and wherever power is cut, if the call is not Lock: where the floor of
+-- every other lane is above k or none, a commit at k below s is below the boundary of the cut, if there is one, and a recovery that then finishes keeps
+-- every commit up to k
 unfoldable pub SettledTheorem : Design → Type 0
 SettledTheorem d =
     (z : Sizes) (lag : ℕ) (start : List ℕ) (m : Machine) (h : History) → formatRefusal z lag start m ≡ 0
@@ -217,7 +248,7 @@ SettledTheorem d =
     let c = worldAfter d z b fs in
     stampsIn (happens d z (a .system) (call x) .reply) ≡ s ∷ []
     → (areBelow (At s) (a .history .commits) ≡ true)
-    × (goesOn d z b fs ≡ true → getsDrained d z (laneOf x) b fs ≡ true
+    × (isLock x ≡ false → goesOn d z b fs ≡ true → getsDrained d z (laneOf x) b fs ≡ true
     → (k : ℕ) → k < s → isBelow (othersFloor (laneOf x) (c .history)) k ≡ true
     → (isBelow (boundary z (cutCells (c .system))) k ≡ true)
     × ((lag₁ limit : ℕ) (j : Junk) → let r = happens d z (c .system) (recover lag₁ limit j) in

@@ -10,15 +10,16 @@ use Rattle.txn.specs.Txn.{Rule, current}
 use Rattle.image.specs.Image.{formerLength, sizesAtEnd}
 use Rattle.image.specs.Flush.{flushed, writtenBack, drainedNvm}
 use Rattle.image.specs.declared.Sizes.{Sizes}
-use Rattle.record.specs.Record.{blankRecord}
+use Rattle.record.specs.Record.{noPairs, blankRecord}
 use Rattle.store.specs.Machine.{Machine, Step, said}
 use Rattle.store.specs.Calls.{formatStep, writeBackStep, drainStep, logStepBy, redoStep, validateStepBy, markStep}
+use Rattle.store.specs.Locks.{lockStep, proceedStep}
 use Rattle.store.specs.declared.Answer.{Answer}
 use Rattle.recovery.specs.Recovery.{Restarted, recoverStep, recoverReadStep, recoveredNvm}
 use Rattle.recovery.specs.declared.Recovered.{Recovered}
 use Rattle.recovery.specs.declared.Recovered.the-variants.{Refused, Cut, Finished}
 
--- the calls that take a record: the four steps, and Drain. No function offers a Log or a Validate by the former rule: they are here so that a store which
+-- the calls that take a record: the six steps, and Drain. No function offers a Log or a Validate by the former rule: they are here so that a store which
 -- carries over what it logged and committed under that rule is covered too
 pub data Call : Type 0 where
   logBy : Rule → (lane : ℕ) (txn : List ℕ) → Call
@@ -26,6 +27,9 @@ pub data Call : Type 0 where
   validateBy : Rule → (lane : ℕ) (txn : List ℕ) → Call
   mark : (lane : ℕ) → Call
   drain : (lane : ℕ) → Call
+  -- Lock, and Continue
+  lock : (lane : ℕ) (txn : List ℕ) → Call
+  proceed : (lane : ℕ) → Call
 
 -- Log and Validate as they are offered
 abbrev pub log : (lane : ℕ) (txn : List ℕ) → Call
@@ -86,6 +90,8 @@ laneOf (redo L) = L
 laneOf (validateBy r L f) = L
 laneOf (mark L) = L
 laneOf (drain L) = L
+laneOf (lock L f) = L
+laneOf (proceed L) = L
 
 unfoldable pub callStep : Sizes → Call → Machine → Step
 callStep z (logBy r L f) m = logStepBy r z L f m
@@ -93,6 +99,8 @@ callStep z (redo L) m = redoStep z L m
 callStep z (validateBy r L f) m = validateStepBy r z L f m
 callStep z (mark L) m = markStep z L m
 callStep z (drain L) m = drainStep z L m
+callStep z (lock L f) m = lockStep z L f m
+callStep z (proceed L) m = proceedStep z L m
 
 -- ---- stores
 -- a store, as the theorem sees it: its calls, its recoveries with sizes given and without, and the cells after so many stores of a recovery by these
@@ -147,7 +155,7 @@ partlyDrained L (i ∷ is) flags cache nvm = partlyDrained L is flags cache (con
 
 -- the machine that Format and recovery are handed where there is no record: they take none
 unfoldable pub bare : (nvm : List ℕ) → Junk → Machine
-bare nvm j = record { state = blankRecord; cache = j.cache; nvm = nvm; flags = j.flags }
+bare nvm j = record { state = blankRecord; pairs = noPairs; cache = j.cache; nvm = nvm; flags = j.flags }
 
 unfoldable pub foundOr : List ℕ → Option (List ℕ) → List ℕ
 foundOr nvm none = nvm

@@ -1,12 +1,12 @@
 -- The history, the sequential reference: it is fed arguments, replies and the cut cells, and never reads the machine. SPECIFICATION, "History". Assumes
 -- nothing.
-use Prim.Native.Nat.{ℕ, _+_, _-_, _^_}
+use Prim.Native.Nat.{ℕ, _+_, _-_, _^_, min}
 use mathlib.Core.Bool.{Bool, true, false, cond, not, _&&_, _||_}
 use mathlib.Core.List.{List, [], _∷_, _++_, map}
 use mathlib.Core.Option.{Option, none, some}
 use lib.Dec.{leb, ltb, eqb}
-use lib.ListN.{length, getD, set, replicate}
-use Rattle.txn.specs.Txn.{run, after}
+use lib.ListN.{length, getD, set, take, replicate}
+use Rattle.txn.specs.Txn.{maxWrites, maxLong, current, run, applied, after}
 use Rattle.txn.specs.declared.Write.{Write}
 use Rattle.image.specs.declared.Sizes.{Sizes}
 use Rattle.log.specs.declared.Timestamp.{Timestamp}
@@ -14,11 +14,12 @@ use Rattle.log.specs.declared.Timestamp.the-variants.{None, At}
 use Rattle.record.specs.Record.{lesser, lagPassed}
 use Rattle.store.specs.Machine.{Cause, Said, said}
 use Rattle.store.specs.Calls.{badLane, badTxn}
+use Rattle.store.specs.Locks.{slotsCounted}
 use Rattle.store.specs.declared.Answer.{Answer}
 use Rattle.store.specs.declared.Answer.the-variants as answer
 use Rattle.recovery.specs.Recovery.{boundary, newBase, told}
 use Rattle.recovery.specs.declared.Recovered.{Recovered}
-use Rattle.crash.specs.Events.{Call, logBy, redo, validateBy, mark, drain, laneOf}
+use Rattle.crash.specs.Events.{Call, logBy, redo, validateBy, mark, drain, lock, proceed, laneOf}
 use Rattle.crash.specs.Events.{Event, format, writeBack, call, recover, fails, failsInDrain, failsAfterDrain, failsInRecovery}
 use Rattle.crash.specs.Events.{Reply, answered, recovered, failed, ignored}
 
@@ -39,6 +40,15 @@ pub record Commit : Type 0 where
   pub stamp : ℕ
   pub txn : List ℕ
 
+-- a long transaction that holds the lock: its lane, words and timestamp, how many of its writes are not yet made, and whether the next part of them is
+-- logged
+pub record Holder : Type 0 where
+  pub lane : ℕ
+  pub txn : List ℕ
+  pub stamp : ℕ
+  pub left : ℕ
+  pub ready : Bool
+
 pub record History : Type 0 where
   pub start : List ℕ
   pub clock : ℕ
@@ -47,6 +57,8 @@ pub record History : Type 0 where
   pub pages : List Page
   -- the lag limit that the start was given
   pub lag : ℕ
+  -- who holds the lock
+  pub lock : Option Holder
 
 abbrev pub blankPage : Page
 blankPage = record { held = none; newest = unset; floor = None }
@@ -56,7 +68,7 @@ pageAt h L = getD h.pages L blankPage
 
 -- a start with this lag limit, these words and this clock
 unfoldable pub opened : Sizes → (lag : ℕ) → List ℕ → ℕ → History
-opened z lag start clock = record { start = start; clock = clock; commits = []; pages = replicate z.lanes blankPage; lag = lag }
+opened z lag start clock = record { start = start; clock = clock; commits = []; pages = replicate z.lanes blankPage; lag = lag; lock = none }
 
 -- ---- the words
 unfoldable pub isBelow : Timestamp → ℕ → Bool
@@ -92,6 +104,7 @@ afterDrain L h =
       commits = h.commits;
       pages = set h.pages L (record { held = p.held; newest = p.newest; floor = floorOnDrain p.newest p.floor });
       lag = h.lag;
+      lock = h.lock;
     }
 
 -- a new timestamp of lane L, which closes entries or is a mark's, with what the lane then holds and what is committed
@@ -104,6 +117,7 @@ stamped L kind held txns h =
       commits = h.commits ++ map (λ f. record { stamp = s; txn = f }) txns;
       pages = set h.pages L (record { held = held; newest = kind s; floor = floorOr (pageAt h L .floor) (At s) });
       lag = h.lag;
+      lock = h.lock;
     }
 
 -- lane L holds nothing any more
@@ -116,9 +130,58 @@ released L h =
       commits = h.commits;
       pages = set h.pages L (record { held = none; newest = p.newest; floor = p.floor });
       lag = h.lag;
+      lock = h.lock;
     }
 
-unfoldable pub isSome : Option (List ℕ) → Bool
+-- ---- the lock
+-- lane L takes it for transaction f of n writes, with a new timestamp; its page stays, since nothing is appended yet
+unfoldable pub lockTaken : ℕ → List ℕ → (n : ℕ) → History → History
+lockTaken L f n h =
+    let s = h.clock + 2 in
+    record {
+      start = h.start;
+      clock = s;
+      commits = h.commits;
+      pages = h.pages;
+      lag = h.lag;
+      lock = some (record { lane = L; txn = f; stamp = s; left = n; ready = false });
+    }
+
+-- its next part is logged: the lane's newest timestamp is the lock's from its first part on
+unfoldable pub partLogged : Holder → History → History
+partLogged k h =
+    let p = pageAt h k.lane in
+    record {
+      start = h.start;
+      clock = h.clock;
+      commits = h.commits;
+      pages = set h.pages k.lane (record { held = p.held; newest = closingAt k.stamp; floor = floorOr p.floor (At k.stamp) });
+      lag = h.lag;
+      lock = some (record { lane = k.lane; txn = k.txn; stamp = k.stamp; left = k.left; ready = true });
+    }
+
+-- how many writes are not yet made once the part that is logged is written
+unfoldable pub leftAfter : Holder → ℕ
+leftAfter k = k.left - min maxWrites k.left
+
+-- that part is written: the last one commits the transaction, and the lock is free
+unfoldable pub partWritten : Holder → History → History
+partWritten k h =
+    let n = leftAfter k in
+    record {
+      start = h.start;
+      clock = h.clock;
+      commits = cond (eqb n 0) (h.commits ++ (record { stamp = k.stamp; txn = k.txn } ∷ [])) h.commits;
+      pages = h.pages;
+      lag = h.lag;
+      lock = cond (eqb n 0) none (some (record { lane = k.lane; txn = k.txn; stamp = k.stamp; left = n; ready = false }));
+    }
+
+unfoldable pub nextPart : Option Holder → History → History
+nextPart none h = h
+nextPart (some k) h = cond k.ready (partWritten k h) (partLogged k h)
+
+unfoldable pub isSome : {A : Type 0} → Option A → Bool
 isSome none = false
 isSome (some f) = true
 
@@ -139,6 +202,8 @@ taken (redo L) t h = cond t.stale (afterDrain L h) (stamped L closingAt none (he
 taken (validateBy r L f) t h = cond t.changed (released L (afterDrain L h)) (stamped L closingAt none (f ∷ []) (afterDrain L h))
 taken (mark L) t h = stamped L markAt none [] (afterDrain L h)
 taken (drain L) t h = afterDrain L h
+taken (lock L f) t h = cond (isCounted t.left) (lockTaken L f (getD t.left 0 0) (afterDrain L h)) (afterDrain L h)
+taken (proceed L) t h = nextPart (h.lock) (afterDrain L h)
 
 -- a finished recovery that was given this lag limit and started from these cut cells
 unfoldable pub restarted : Sizes → (lag : ℕ) → List ℕ → History → History
@@ -194,12 +259,22 @@ unfoldable pub leastFloorOf : List Page → Timestamp
 leastFloorOf [] = None
 leastFloorOf (p ∷ ps) = lesser p.floor (leastFloorOf ps)
 
--- the data words now, and the writes of a transaction on them
+-- the data words with all commits
 unfoldable pub present : Sizes → History → List ℕ
 present z h = wordsBelow z None h
 
+-- words with the writes that are made of a transaction that holds the lock
+unfoldable pub written : Sizes → Option Holder → List ℕ → List ℕ
+written z none ws = ws
+written z (some k) ws = let xs = run z.words (k .txn) ws in applied (take (length xs - k .left) xs) ws
+
+-- the data words now: those with all commits, and then the parts written so far of a transaction that holds the lock
+unfoldable pub visible : Sizes → History → List ℕ
+visible z h = written z h.lock (present z h)
+
+-- the writes of a transaction on them
 unfoldable pub writesNow : Sizes → List ℕ → History → List Write
-writesNow z f h = run z.words f (present z h)
+writesNow z f h = run z.words f (visible z h)
 
 unfoldable pub newestStamp : Newest → Timestamp
 newestStamp unset = None
@@ -226,12 +301,20 @@ unfoldable pub commitAbove : Timestamp → List Commit → Bool
 commitAbove b [] = false
 commitAbove b (c ∷ cs) = isAbove b (c .stamp) || commitAbove b cs
 
--- ---- causes 6, 7, 8 and 15; 3 and 5 are the calls' own, which look at the arguments alone
+-- ---- causes 6, 7, 11, 8 and 15; 3, 5 and 12 are the calls' own, which look at the arguments alone
 unfoldable pub holdsOne : ℕ → History → Bool
 holdsOne L h = isSome (pageAt h L .held)
 
 unfoldable pub notHeld : ℕ → History → Cause
 notHeld L h = record { number = 7; holds = not (holdsOne L h) }
+
+unfoldable pub lockHeld : History → Cause
+lockHeld h = record { number = 11; holds = isSome h.lock }
+
+-- does another lane than L hold the lock
+unfoldable pub heldElsewhere : ℕ → Option Holder → Bool
+heldElsewhere L none = false
+heldElsewhere L (some k) = not (eqb k.lane L)
 
 unfoldable pub clockSpent : History → Bool
 clockSpent h = leb (2 ^ 64 - 2) h.clock
@@ -245,23 +328,38 @@ unfoldable pub causesBy : Sizes → Call → History → List Cause
 causesBy z (logBy r L []) h =
     badLane z L
     ∷ record { number = 6; holds = holdsOne L h }
+    ∷ lockHeld h
     ∷ record { number = 8; holds = clockSpent h }
     ∷ record { number = 15; holds = wouldLag L h }
     ∷ []
 causesBy z (logBy r L (w ∷ f)) h =
     let n = length (writesNow z (w ∷ f) h) in
     badLane z L
-    ∷ badTxn r z (w ∷ f)
+    ∷ badTxn r maxWrites z (w ∷ f)
     ∷ record { number = 6; holds = holdsOne L h }
+    ∷ lockHeld h
     ∷ record { number = 8; holds = leb 1 n && clockSpent h }
     ∷ record { number = 15; holds = leb 1 n && wouldLag L h }
     ∷ []
-causesBy z (redo L) h = badLane z L ∷ notHeld L h ∷ record { number = 8; holds = clockSpent h } ∷ []
-causesBy z (validateBy r L f) h = badLane z L ∷ badTxn r z f ∷ notHeld L h ∷ record { number = 8; holds = clockSpent h } ∷ []
-causesBy z (mark L) h = badLane z L ∷ record { number = 8; holds = clockSpent h } ∷ []
+causesBy z (redo L) h = badLane z L ∷ notHeld L h ∷ lockHeld h ∷ record { number = 8; holds = clockSpent h } ∷ []
+causesBy z (validateBy r L f) h =
+    badLane z L ∷ badTxn r maxWrites z f ∷ notHeld L h ∷ lockHeld h ∷ record { number = 8; holds = clockSpent h } ∷ []
+causesBy z (mark L) h = badLane z L ∷ lockHeld h ∷ record { number = 8; holds = clockSpent h } ∷ []
 causesBy z (drain L) h = badLane z L ∷ []
+causesBy z (lock L f) h =
+    let n = length (writesNow z f h) in
+    badLane z L
+    ∷ badTxn current maxLong z f
+    ∷ record { number = 6; holds = holdsOne L h }
+    ∷ lockHeld h
+    ∷ record { number = 12; holds = ltb (z.slots - 17) (slotsCounted f) }
+    ∷ record { number = 8; holds = leb 1 n && clockSpent h }
+    ∷ record { number = 15; holds = leb 1 n && wouldLag L h }
+    ∷ []
+causesBy z (proceed L) h =
+    badLane z L ∷ record { number = 7; holds = not (isSome h.lock) } ∷ record { number = 11; holds = heldElsewhere L h.lock } ∷ []
 
--- how many slots a call appends to its lane's log
+-- how many slots a call appends to its lane's log, or counts for what it will append
 unfoldable pub slotsBy : Sizes → Call → History → ℕ
 slotsBy z (logBy r L []) h = 1
 slotsBy z (logBy r L (w ∷ f)) h = let n = length (writesNow z (w ∷ f) h) in cond (eqb n 0) 0 (n + 1)
@@ -269,6 +367,13 @@ slotsBy z (redo L) h = 0
 slotsBy z (validateBy r L f) h = 0
 slotsBy z (mark L) h = 1
 slotsBy z (drain L) h = 0
+slotsBy z (lock L f) h = cond (eqb (length (writesNow z f h)) 0) 0 (slotsCounted f)
+slotsBy z (proceed L) h = 0
+
+-- what Continue answers, of the transaction that holds the lock
+unfoldable pub progress : Option Holder → Answer
+progress none = answer.Done
+progress (some k) = answer.Locked (record { left = cond k.ready (leftAfter k) k.left; stamp = k.stamp })
 
 -- the answer of a call that is not refused
 unfoldable pub takenAnswer : Sizes → Call → History → Answer
@@ -281,3 +386,7 @@ takenAnswer z (validateBy r L f) h =
     cond (sameOlds (writesNow z f h) (writesLogged z L h)) (answer.Committed (h.clock + 2)) answer.Changed
 takenAnswer z (mark L) h = answer.Marked (record { stamp = h.clock + 2; dropped = holdsOne L h })
 takenAnswer z (drain L) h = answer.Done
+takenAnswer z (lock L f) h =
+    let n = length (writesNow z f h) in
+    cond (eqb n 0) answer.NoWrites (answer.Locked (record { left = n; stamp = h.clock + 2 }))
+takenAnswer z (proceed L) h = progress h.lock

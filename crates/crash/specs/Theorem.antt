@@ -1,10 +1,11 @@
 -- The crash theorem: what holds after every event of every list of events from a Format on, or from a recovery of an image of the former length on.
 -- SPECIFICATION, "Crash theorem". Assumes nothing.
-use Prim.Native.Nat.{ℕ, _+_, _≤_, _<_}
+use Prim.Native.Nat.{ℕ, _+_, _-_, _≤_, _<_}
 use mathlib.Core.Bool.{Bool, true, false, cond, _&&_}
 use mathlib.Core.List.{List, [], _∷_, _++_}
+use mathlib.Core.Option.{Option, none, some}
 use mathlib.Core.Path.{_≡_}
-use lib.Dec.{leb, eqb}
+use lib.Dec.{leb, ltb, eqb}
 use lib.ListN.{length, drop, replicate}
 use Rattle.image.specs.Image.{formerLength, trailer, dataOf}
 use Rattle.image.specs.declared.Sizes.{Sizes}
@@ -12,6 +13,8 @@ use Rattle.log.specs.Log.{completeIn, hits}
 use Rattle.log.specs.declared.Timestamp.{Timestamp}
 use Rattle.log.specs.declared.Timestamp.the-variants.{None, At}
 use Rattle.record.specs.Record.{laneAt, isLogged, lagOk}
+use Rattle.record.specs.declared.Lock.{Lock}
+use Rattle.record.specs.declared.Lock.the-variants.{Free, Held}
 use Rattle.store.specs.Machine.{Machine, firstCause}
 use Rattle.store.specs.Calls.{formatRefusal}
 use Rattle.store.specs.declared.Answer.{Answer}
@@ -22,19 +25,38 @@ use Rattle.recovery.specs.declared.Recovered.the-variants.{Refused, Cut, Finish
 use Rattle.crash.specs.Events.{Call, laneOf, System, live, down, nvmOf, Design, happens}
 use Rattle.crash.specs.Events.{Event, format, writeBack, call, recover, fails, failsInDrain, failsAfterDrain, failsInRecovery}
 use Rattle.crash.specs.Events.{Reply, answered, recovered, failed, ignored}
-use Rattle.crash.specs.History.{History, unset, opened, fed, pageAt, present, wordsBelow, leastFloorOf, afterDrain, isSome}
+use Rattle.crash.specs.History.{Holder, History, unset, opened, fed, pageAt, visible, wordsBelow, leastFloorOf, afterDrain, isSome}
 use Rattle.crash.specs.History.{causesBy, slotsBy, takenAnswer}
+
+-- ---- the lock: its lane, timestamp, how many writes are not yet made, and whether the next part is logged
+pub record Progress : Type 0 where
+  pub lane : ℕ
+  pub stamp : ℕ
+  pub left : ℕ
+  pub ready : Bool
+
+-- of the record, and of the history
+unfoldable pub lockState : Lock → Option Progress
+lockState Free = none
+lockState (Held k) = some (record { lane = k.lane; stamp = k.stamp; left = k.count - k.written; ready = ltb k.written k.logged })
+
+unfoldable pub holderState : Option Holder → Option Progress
+holderState none = none
+holderState (some k) = some (record { lane = k.lane; stamp = k.stamp; left = k.left; ready = k.ready })
 
 -- ---- a running store
 pub record Live (z : Sizes) (h : History) (m : Machine) : Type 0 where
-  -- the cached data words are the start words with the commits run whole, in the order of their timestamps
-  pub words : dataOf z (m .cache) ≡ present z h
+  -- the cached data words are the start words with the commits run whole, in the order of their timestamps, and then the parts written so far of a
+  -- transaction that holds the lock
+  pub words : dataOf z (m .cache) ≡ visible z h
   -- the record's clock is the history's, and so is its lag limit
   pub clock : m .state .clock ≡ h .clock
   pub lag : m .state .lag ≡ h .lag
   -- and so is each lane's floor, and whether it holds a transaction
   pub floors : (L : ℕ) → L < z .lanes → laneAt (m .state) L .floor ≡ pageAt h L .floor
   pub held : (L : ℕ) → L < z .lanes → isLogged (laneAt (m .state) L .phase) ≡ isSome (pageAt h L .held)
+  -- and so is who holds the lock, and how far it is
+  pub lock : lockState (m .state .lock) ≡ holderState (h .lock)
 
 -- ---- the end of an image: what stands past the former length, its trailer or nothing
 unfoldable pub endOf : Sizes → List ℕ → List ℕ

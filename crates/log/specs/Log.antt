@@ -45,11 +45,12 @@ unfoldable pub entriesBack : (W N : ℕ) → List ℕ → (j p n : ℕ) → List
 entriesBack W N log j p zero = []
 entriesBack W N log j p (suc n) = entryIn (backWrap p j (suc n)) (slotAt W log (back N j (suc n))) ++ entriesBack W N log j p n
 
--- a complete sequence: a timestamp above the base and the entries that it closes, oldest first
+-- a complete sequence: a timestamp above the base, with its slot and wrap bit, and the entries that it closes, oldest first
 pub record Complete : Type 0 where
   pub stamp : ℕ
   pub lane : ℕ
   pub slot : ℕ
+  pub wrap : ℕ
   pub entries : List Old
 
 -- the sequence that slot j closes, as a list of one; none where it closes no complete one
@@ -59,7 +60,7 @@ closes W N base log L j Torn = []
 closes W N base log L j (Entry i v p) = []
 closes W N base log L j (Stamp n s p) =
     let es = entriesBack W N log j p n in
-    cond (ltb base s && eqb (length es) n) (record { stamp = s; lane = L; slot = j; entries = es } ∷ []) []
+    cond (ltb base s && eqb (length es) n) (record { stamp = s; lane = L; slot = j; wrap = p; entries = es } ∷ []) []
 
 -- the complete sequences that the slots below k close, by rising slot
 unfoldable pub completeBelow : (W N base : ℕ) → List ℕ → (L k : ℕ) → List Complete
@@ -70,18 +71,45 @@ completeBelow W N base log L (suc k) = completeBelow W N base log L k ++ closes 
 unfoldable pub completeIn : Sizes → List ℕ → ℕ → List Complete
 completeIn z image L = completeBelow z.words z.slots (baseOf image) (logOf z L image) L z.slots
 
+-- ---- the order of undoing
+-- the wrap bit of the highest slot among lane L's sequences stamped s, p where there is none. The list has a lane's sequences by rising slot
+unfoldable pub topWrap : (L s p : ℕ) → List Complete → ℕ
+topWrap L s p [] = p
+topWrap L s p (q ∷ qs) = topWrap L s (cond (eqb q.lane L && eqb q.stamp s) q.wrap p) qs
+
+-- 1 for a sequence whose wrap bit is not that of the highest slot among its lane's sequences of the same timestamp in qs: it was appended after the
+-- wrap, so it is later than those that share that bit, for which it is 0
+unfoldable pub afterWrap : (qs : List Complete) → Complete → ℕ
+afterWrap qs q = cond (eqb q.wrap (topWrap q.lane q.stamp q.wrap qs)) 0 1
+
+-- is a greater than b; where they are equal, does t hold
+unfoldable pub greaterOr : (a b : ℕ) → (t : Bool) → Bool
+greaterOr a b t = ltb b a || (eqb b a && t)
+
+-- the greater timestamp is undone first; of equal ones the higher lane; in a lane those appended after the wrap; then the higher slot
+unfoldable pub undoneBefore : (qs : List Complete) → Complete → Complete → Bool
+undoneBefore qs q r = greaterOr q.stamp r.stamp (greaterOr q.lane r.lane (greaterOr (afterWrap qs q) (afterWrap qs r) (ltb r.slot q.slot)))
+
+unfoldable pub insert : (qs : List Complete) → Complete → List Complete → List Complete
+insert qs q [] = q ∷ []
+insert qs q (r ∷ rs) = cond (undoneBefore qs q r) (q ∷ r ∷ rs) (r ∷ insert qs q rs)
+
+-- some of the sequences qs, in this order
+unfoldable pub ordered : (qs some : List Complete) → List Complete
+ordered qs [] = []
+ordered qs (r ∷ rs) = insert qs r (ordered qs rs)
+
 -- ---- the latest sequence
 unfoldable pub sequenceOf : Complete → Sequence
 sequenceOf q = record { stamp = q.stamp; count = length q.entries; slot = q.slot }
 
--- the one of greater timestamp; of equals the second, which has the higher slot
-unfoldable pub later : Sequence → Latest → Latest
-later q Nothing = Is q
-later q (Is r) = cond (ltb r.stamp q.stamp) (Is q) (Is r)
+unfoldable pub firstOf : List Complete → Latest
+firstOf [] = Nothing
+firstOf (q ∷ qs) = Is (sequenceOf q)
 
+-- the one undone first: of the greatest timestamp the latest
 unfoldable pub latest : List Complete → Latest
-latest [] = Nothing
-latest (q ∷ qs) = later (sequenceOf q) (latest qs)
+latest qs = firstOf (ordered qs qs)
 
 -- lane L's latest sequence in an image
 unfoldable pub latestIn : Sizes → List ℕ → ℕ → Latest

@@ -3,12 +3,12 @@ ghost use mathlib.Core.Path.{_≡_};
 ghost use Prim.Native.Nat.{_+_, _*_, _≤_, _<_};
 ghost use lib.Dec.{ltb};
 ghost use lib.ListN.{length};
-ghost use Rattle.txn.specs.Txn.{maxWrites};
+ghost use Rattle.slot.specs.Slot.{maxEntries};
 ghost use Rattle.image.specs.Image.{maxSlots};
 ghost use Rattle.image.specs.inner.Facts.{IsLog};
 ghost use Rattle.log.specs.Log.{slotAt, completeBelow, latest as latestOf, hits};
 ghost use Rattle.log.specs.Append.{circular as circularOf};
-ghost use Rattle.log.specs.inner.Search.{rank, higher as higherOf, candidateBelow, hitAt};
+ghost use Rattle.log.specs.inner.Search.{rank, higher as higherOf, candidateBelow, lapOver, lappedBelow, hitAt};
 use crate::Latest;
 use crate::Sequence;
 use crate::Timestamp;
@@ -26,12 +26,14 @@ const MAX_ENTRIES: usize = Slot::MAX_ENTRIES as usize;
 // Every timestamp comes after this one: they are even.
 const ABOVE_ALL: u64 = u64::MAX;
 
-// A whole timestamp above the base, complete or not; none if its slot is not one of the log's.
+// A whole timestamp above the base, complete or not; none if its slot is not one of the log's. Is an equal one still to
+// be tried after it?
 struct Candidate {
     stamp: u64,
     count: usize,
     slot: usize,
     wrap: u64,
+    again: bool,
 }
 
 // Does timestamp s at slot j come after timestamp t at slot k, where timestamps are tried from the greatest down, equal
@@ -86,6 +88,7 @@ fn higher(
         count,
         slot: j,
         wrap,
+        again: best.stamp == stamp,
     }
 }
 
@@ -100,6 +103,7 @@ fn next_candidate(log: &[u64], words: usize, slots: usize, base: u64, t: u64, k:
         count: 0,
         slot: slots,
         wrap: 0,
+        again: false,
     };
     for j in 0..slots {
         best = higher(log, words, base, t, k, j, best);
@@ -107,8 +111,65 @@ fn next_candidate(log: &[u64], words: usize, slots: usize, base: u64, t: u64, k:
     best
 }
 
+// What slot k closes, if that is a complete sequence with this timestamp and the other wrap bit; else `best`.
+pub fn lap_over(
+    log: &[u64],
+    words: usize,
+    slots: usize,
+    stamp: u64,
+    wrap: u64,
+    k: usize,
+    best: Sequence,
+) -> Sequence
+    requires { ⌜ IsLog slots (now log) ⌝ }
+    requires { ⌜ k < slots ⌝ }
+    ensures { λ r. ⌜ r
+        ≡ lapOver words slots (now (log .entry)) stamp wrap k (slotAt words (now (log .entry)) k) best ⌝ }
+{
+    if !stamp_high(log, k) {
+        return best;
+    }
+    let content = slot_at(log, words, k);
+    let Content::Stamp {
+        count,
+        stamp: s,
+        wrap: p,
+    } = content
+    else {
+        return best;
+    };
+    if s != stamp {
+        return best;
+    }
+    if p == wrap {
+        return best;
+    }
+    if !entries_whole(log, words, slots, k, p, count) {
+        return best;
+    }
+    Sequence {
+        stamp,
+        count,
+        slot: k,
+    }
+}
+
+// The latest of the complete sequences with the timestamp of `found`, which has the highest slot of them, and this wrap
+// bit: those with the other bit are later, and of these the highest is.
+pub fn lapped(log: &[u64], words: usize, slots: usize, wrap: u64, found: Sequence) -> Sequence
+    requires { ⌜ IsLog slots (now log) ⌝ }
+    requires { ⌜ found .slot ≤ slots ⌝ }
+    ensures { λ r. ⌜ r ≡ lappedBelow words slots (now (log .entry)) (found .stamp) wrap found (found .slot) ⌝ }
+{
+    let mut best = found;
+    for k in 0..found.slot {
+        best = lap_over(log, words, slots, found.stamp, wrap, k, best);
+    }
+    best
+}
+
 // The latest complete sequence. Timestamps are tried from the greatest down, each over its entries, up to the first
-// complete one.
+// complete one; the log is looked at once more only if another has the same timestamp.
 pub fn latest(log: &[u64], words: usize, slots: usize, base: u64) -> Latest
     requires { ⌜ IsLog slots (now log) ⌝ }
     ensures { λ r. ⌜ r ≡ latestOf (completeBelow words slots base (now (log .entry)) 0 slots) ⌝ }
@@ -121,6 +182,7 @@ pub fn latest(log: &[u64], words: usize, slots: usize, base: u64) -> Latest
         slot = next.slot;
         let count = next.count;
         let wrap = next.wrap;
+        let again = next.again;
         if slot == slots {
             return Latest::Nothing;
         }
@@ -129,7 +191,11 @@ pub fn latest(log: &[u64], words: usize, slots: usize, base: u64) -> Latest
                 continue 'stamps;
             }
         }
-        return Latest::Is(Sequence { stamp, count, slot });
+        let found = Sequence { stamp, count, slot };
+        if !again {
+            return Latest::Is(found);
+        }
+        return Latest::Is(lapped(log, words, slots, wrap, found));
     }
 }
 
@@ -148,7 +214,7 @@ fn hit_at(
     requires { ⌜ IsLog slots (now log) ⌝ }
     requires { ⌜ next < slots ⌝ }
     requires { ⌜ 1 ≤ count ⌝ }
-    requires { ⌜ count ≤ maxWrites + 1 ⌝ }
+    requires { ⌜ count ≤ slots ⌝ }
     requires { ⌜ distance < slots ⌝ }
     ensures { λ r. ⌜ r
         ≡ hitAt words slots base (now (log .entry)) next count least (circularOf slots (next + distance)) ⌝ }
@@ -192,7 +258,7 @@ pub fn would_hit(
     requires { ⌜ IsLog slots (now log) ⌝ }
     requires { ⌜ next < slots ⌝ }
     requires { ⌜ 1 ≤ count ⌝ }
-    requires { ⌜ count ≤ maxWrites + 1 ⌝ }
+    requires { ⌜ count + maxEntries ≤ slots ⌝ }
     ensures { λ r. ⌜ r ≡ hits slots next count bound (completeBelow words slots base (now (log .entry)) 0 slots) ⌝ }
 {
     let Timestamp::At(least) = bound else {

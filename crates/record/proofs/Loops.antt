@@ -2,20 +2,23 @@
 use mathlib.Core.Path.{_≡_, refl, sym, ap, _∙_}
 use mathlib.Core.Bool.{true, false}
 use mathlib.Core.List.{List, [], _∷_}
-use Prim.Native.Nat.{ℕ, zero, suc, _+_, _≤_, _<_}
+use Prim.Native.Nat.{ℕ, zero, suc, _+_, _*_, _≤_, _<_}
+use native.Mathlib.Nat.{le-of-suc-le-suc}
 use native.Mathlib.Numerals.{add-one}
+use native.Mathlib.Omega.{arith}
 use lib.Dec.{ltb}
 use lib.ListN.{length, getD, set, take, replicate}
 use lib.Seq.{take-nil}
 use borrow.Author.Tests.{lt-ltb, le-ltb}
+use Rattle.laws.specs.inner.Tests.{and-left, and-right, and-both}
 use Rattle.txn.specs.inner.Writes.{noWrite}
 use Rattle.txn.specs.declared.Write.{Write}
 use Rattle.image.specs.declared.Sizes.{Sizes}
 use Rattle.log.specs.declared.Timestamp.the-variants.{None}
 use Rattle.record.specs.declared.Pair.{Pair}
 use Rattle.record.specs.declared.Lane.{Lane}
-use Rattle.record.specs.Record.{noPair, noLane, pairsOk, laneOk, lanesOk, lesser, leastFloor, pairsOf}
-use Rattle.record.specs.inner.Every.{every-more, every-fails}
+use Rattle.record.specs.Record.{noPair, noLane, pairAt, pairsFrom, pairsOk, laneOk, lanesOk, lesser, leastFloor, pairsOf}
+use Rattle.record.specs.inner.Every.{and-false, every-more, every-fails}
 use Rattle.record.specs.inner.RecordLaws.{pairs-every, lanes-every, lesser-none, lesser-assoc}
 
 -- ---- pairs_ok
@@ -32,6 +35,33 @@ pairs-more W redo i h k =
 pub pairs-fail : (W : ℕ) (redo : List Pair) (i n : ℕ) → i < n → i < length redo → W ≤ getD redo i noPair .word → pairsOk W (take n redo) ≡ false
 pairs-fail W redo i n h b k =
     pairs-every W (take n redo) ∙ every-fails (λ p. ltb (p .word) W) redo i n noPair h b (le-ltb (getD redo i noPair .word) W k)
+
+-- ---- long_pairs_ok: a pair more, from pair j on; a pair that fails
+long-past : (W : ℕ) (ps : List ℕ) (j i k : ℕ) → k ≡ j + i → pairsOk W (pairsFrom ps j i) ≡ true → getD ps (2 * k) 0 < W
+    → pairsOk W (pairsFrom ps j (suc i)) ≡ true
+unfolding pairsOk pairsFrom pairAt
+long-past W ps j zero k e h u = let e₁ : k ≡ j = omega arith in and-both (ltb (getD ps (2 * j) 0) W) true (lt-ltb _ W (rw e₁ at u)) refl
+long-past W ps j (suc i) k e h u =
+    let t = ltb (getD ps (2 * j) 0) W in
+    and-both t (pairsOk W (pairsFrom ps (suc j) (suc i))) (and-left t (pairsOk W (pairsFrom ps (suc j) i)) h)
+    (long-past W ps (suc j) i k (omega arith) (and-right t (pairsOk W (pairsFrom ps (suc j) i)) h) u)
+
+long-late : (W : ℕ) (ps : List ℕ) (j i k n : ℕ) → k ≡ j + i → i < n → W ≤ getD ps (2 * k) 0 → pairsOk W (pairsFrom ps j n) ≡ false
+unfolding pairsOk pairsFrom pairAt
+long-late W ps j i k zero e h u = absurd (omega arith)
+long-late W ps j zero k (suc n) e h u = let e₁ : k ≡ j = omega arith in rw (le-ltb (getD ps (2 * j) 0) W (rw e₁ at u))
+long-late W ps j (suc i) k (suc n) e h u =
+    and-false (ltb (getD ps (2 * j) 0) W) (pairsOk W (pairsFrom ps (suc j) n)) (long-late W ps (suc j) i k n (omega arith) (le-of-suc-le-suc h) u)
+
+pub long-none : (W : ℕ) (ps : List ℕ) → pairsOk W (pairsFrom ps 0 0) ≡ true
+unfolding pairsOk pairsFrom
+long-none W ps = refl
+
+pub long-more : (W : ℕ) (ps : List ℕ) (i : ℕ) → pairsOk W (pairsFrom ps 0 i) ≡ true → getD ps (2 * i) 0 < W → pairsOk W (pairsFrom ps 0 (i + 1)) ≡ true
+long-more W ps i h u = rw add-one (long-past W ps 0 i i (omega arith) h u)
+
+pub long-fail : (W : ℕ) (ps : List ℕ) (i n : ℕ) → i < n → W ≤ getD ps (2 * i) 0 → pairsOk W (pairsFrom ps 0 n) ≡ false
+long-fail W ps i n h u = long-late W ps 0 i i n (omega arith) h u
 
 -- ---- record_ok
 pub lanes-none : (z : Sizes) (clock : ℕ) → lanesOk z clock [] ≡ true

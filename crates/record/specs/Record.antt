@@ -1,10 +1,10 @@
--- The record: its start, its range check, floors, the lower bound, the lag limit, updates. SPECIFICATION, "Record". Assumes nothing.
-use Prim.Native.Nat.{ℕ, zero, suc, _+_, _-_, _%_, _^_, min}
-use mathlib.Core.Bool.{Bool, true, false, _&&_}
+-- The record: its start, the lock and its pairs, the range check, floors, the lower bound, the lag limit, updates. SPECIFICATION, "Record". Assumes nothing.
+use Prim.Native.Nat.{ℕ, zero, suc, _+_, _-_, _*_, _%_, _^_, min}
+use mathlib.Core.Bool.{Bool, true, false, not, _&&_, _||_}
 use mathlib.Core.List.{List, [], _∷_}
 use lib.Dec.{leb, ltb, eqb}
 use lib.ListN.{getD, set, take, replicate}
-use Rattle.txn.specs.Txn.{maxWrites}
+use Rattle.txn.specs.Txn.{maxWrites, maxLong}
 use Rattle.txn.specs.declared.Write.{Write}
 use Rattle.image.specs.Image.{maxLanes}
 use Rattle.image.specs.declared.Sizes.{Sizes}
@@ -19,6 +19,9 @@ use Rattle.record.specs.declared.Logged.{Logged}
 use Rattle.record.specs.declared.Phase.{Phase}
 use Rattle.record.specs.declared.Phase.the-variants.{Idle, Holds}
 use Rattle.record.specs.declared.Lane.{Lane}
+use Rattle.record.specs.declared.Locked.{Locked}
+use Rattle.record.specs.declared.Lock.{Lock}
+use Rattle.record.specs.declared.Lock.the-variants.{Free, Held}
 use Rattle.record.specs.declared.Record.{Record}
 
 -- ---- the start
@@ -29,9 +32,9 @@ noPair = record { word = 0; value = 0 }
 unfoldable pub startLane : Lane
 startLane = record { phase = Idle; next = 0; wrap = 1; floor = None; redo = replicate maxWrites noPair }
 
--- the record at a start, with this lag limit: clock and last commit are the base timestamp
+-- the record at a start, with this lag limit: clock and last commit are the base timestamp, and the lock is free
 unfoldable pub startRecord : (lag base : ℕ) → Record
-startRecord lag base = record { clock = base; last = base; lanes = replicate maxLanes startLane; lag = lag }
+startRecord lag base = record { clock = base; last = base; lanes = replicate maxLanes startLane; lag = lag; lock = Free }
 
 -- stands where a call takes or gives no record
 abbrev pub blankRecord : Record
@@ -56,6 +59,36 @@ isLogged (Holds g) = true
 unfoldable pub loggedIn : Phase → Logged
 loggedIn Idle = record { first = 0; count = 0; stamp = 0 }
 loggedIn (Holds g) = g
+
+-- ---- the lock. Its redo log stands beside the record, as words: a word number and a new value for each write of the transaction that holds it
+-- how many words: 64 pairs
+abbrev pub lockLength : ℕ
+lockLength = 2 * maxLong
+
+-- at a start they are 0
+abbrev pub noPairs : List ℕ
+noPairs = replicate lockLength 0
+
+-- pair i of such words, and n pairs from pair i on
+unfoldable pub pairAt : List ℕ → ℕ → Pair
+pairAt ps i = record { word = getD ps (2 * i) 0; value = getD ps (2 * i + 1) 0 }
+
+unfoldable pub pairsFrom : List ℕ → (i n : ℕ) → List Pair
+pairsFrom ps i zero = []
+pairsFrom ps i (suc n) = pairAt ps i ∷ pairsFrom ps (suc i) n
+
+unfoldable pub isHeld : Lock → Bool
+isHeld Free = false
+isHeld (Held k) = true
+
+-- the transaction that holds the lock, 0s where there is none
+unfoldable pub lockedIn : Lock → Locked
+lockedIn Free = record { lane = 0; stamp = 0; count = 0; logged = 0; written = 0 }
+lockedIn (Held k) = k
+
+-- how many writes its present part has: sixteen, the last part what is left
+unfoldable pub partLength : Locked → ℕ
+partLength k = min maxWrites (k.count - k.written)
 
 -- ---- the range check (refusal 2 is that it is false)
 -- a timestamp of the record is even and not above the clock
@@ -91,9 +124,27 @@ maxLag = 2 ^ 32
 unfoldable pub lagOk : ℕ → Bool
 lagOk n = eqb (n % 2) 0 && (leb 2 n && leb n maxLag)
 
+-- a lane in use that is idle; pairs looked at below the count alone; whole parts written, and not all; logged as many, or one part more
+unfoldable pub heldOk : Sizes → Record → (pairs : List ℕ) → Locked → Bool
+heldOk z r ps k =
+    ltb k.lane z.lanes
+    && (not (isLogged (laneAt r k.lane .phase))
+    && (stampOk r.clock k.stamp
+    && (leb k.count maxLong
+    && (pairsOk z.words (pairsFrom ps 0 k.count)
+    && (eqb (k.written % maxWrites) 0
+    && (ltb k.written k.count
+    && (eqb k.logged k.written || eqb k.logged (k.written + partLength k))))))))
+
+-- under a free lock the pairs may hold anything
+unfoldable pub lockOk : Sizes → Record → (pairs : List ℕ) → Lock → Bool
+lockOk z r ps Free = true
+lockOk z r ps (Held k) = heldOk z r ps k
+
 -- the lanes that are not in use may hold anything
-unfoldable pub recordOk : Sizes → Record → Bool
-recordOk z r = eqb (r.clock % 2) 0 && (stampOk r.clock r.last && (lagOk r.lag && lanesOk z r.clock (take z.lanes r.lanes)))
+unfoldable pub recordOk : Sizes → Record → (pairs : List ℕ) → Bool
+recordOk z r ps =
+    eqb (r.clock % 2) 0 && (stampOk r.clock r.last && (lagOk r.lag && (lanesOk z r.clock (take z.lanes r.lanes) && lockOk z r ps r.lock)))
 
 -- the clock can give no new timestamp
 unfoldable pub spent : Record → Bool
@@ -130,13 +181,16 @@ floorAfterAppend s (At f) = At f
 
 -- ---- updates
 unfoldable pub withLane : Record → ℕ → Lane → Record
-withLane r L l = record { clock = r.clock; last = r.last; lanes = set r.lanes L l; lag = r.lag }
+withLane r L l = record { clock = r.clock; last = r.last; lanes = set r.lanes L l; lag = r.lag; lock = r.lock }
 
 unfoldable pub withClock : Record → ℕ → Record
-withClock r clock = record { clock = clock; last = r.last; lanes = r.lanes; lag = r.lag }
+withClock r clock = record { clock = clock; last = r.last; lanes = r.lanes; lag = r.lag; lock = r.lock }
 
 unfoldable pub withLast : Record → ℕ → Record
-withLast r last = record { clock = r.clock; last = last; lanes = r.lanes; lag = r.lag }
+withLast r last = record { clock = r.clock; last = last; lanes = r.lanes; lag = r.lag; lock = r.lock }
+
+unfoldable pub withLock : Record → Lock → Record
+withLock r lock = record { clock = r.clock; last = r.last; lanes = r.lanes; lag = r.lag; lock = lock }
 
 -- a lane after a drain that found this latest sequence
 unfoldable pub drainedLane : Latest → Lane → Lane
@@ -154,3 +208,8 @@ unfoldable pub pairsOf : (n : ℕ) → List Write → List Pair
 pairsOf zero ws = []
 pairsOf (suc n) [] = noPair ∷ pairsOf n []
 pairsOf (suc n) (w ∷ ws) = record { word = w.word; value = w.new } ∷ pairsOf n ws
+
+-- pairs as words
+unfoldable pub wordsOfPairs : List Pair → List ℕ
+wordsOfPairs [] = []
+wordsOfPairs (p ∷ ps) = p.word ∷ p.value ∷ wordsOfPairs ps

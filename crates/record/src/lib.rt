@@ -1,18 +1,23 @@
-// The record: clock, last commit and the lanes' state, which live outside the image and are lost with the power.
+// The record: clock, last commit, the lanes' state and the lock, which live outside the image and are lost with the
+// power.
 use image::MAX_LANES;
 use image::Sizes;
 use log::Cursor;
 use log::Latest;
 use log::Timestamp;
+use txn::MAX_LONG;
 use txn::MAX_WRITES;
 use txn::Writes;
 ghost use mathlib.Core.Path.{_≡_};
-ghost use Prim.Native.Nat.{_≤_, _<_};
-ghost use lib.ListN.{take};
-ghost use Rattle.txn.specs.Txn.{maxWrites};
+ghost use mathlib.Core.Bool.{_&&_, _||_};
+ghost use Prim.Native.Nat.{_+_, _%_, _≤_, _<_};
+ghost use lib.Dec.{eqb, ltb};
+ghost use lib.ListN.{length, take};
+ghost use Rattle.txn.specs.Txn.{maxWrites, maxLong};
 ghost use Rattle.image.specs.Image.{maxLanes};
 ghost use Rattle.record.specs.Record.{startLane, startRecord, blankRecord, laneAt, cursorOf, isLogged, loggedIn};
-ghost use Rattle.record.specs.Record.{stampOk, floorOk, pairsOk, phaseOk, laneOk, lagOk, recordOk, spent};
+ghost use Rattle.record.specs.Record.{lockLength, pairsFrom, isHeld, lockedIn, partLength};
+ghost use Rattle.record.specs.Record.{stampOk, floorOk, pairsOk, phaseOk, laneOk, lagOk, heldOk, recordOk, spent};
 ghost use Rattle.record.specs.Record.{lesser, boundOf, lagPassed, floorAfterDrain, floorAfterAppend};
 ghost use Rattle.record.specs.Record.{withLane, withClock, drainedLane, appendedLane, idleLane, pairsOf};
 
@@ -46,7 +51,27 @@ pub struct Lane {
     pub redo: [Pair; MAX_WRITES],
 }
 
-// 2,584 bytes, and a function that takes a record and indexes its lanes copies it: so the calls' inner functions take a
+// A long transaction that holds the lock: its lane and timestamp, the count of its writes, how many of them are logged,
+// and how many written.
+pub struct Locked {
+    pub lane: usize,
+    pub stamp: u64,
+    pub count: usize,
+    pub logged: usize,
+    pub written: usize,
+}
+
+// The global lock.
+pub enum Lock {
+    Free,
+    Held(Locked),
+}
+
+// How many words the redo log of the transaction that holds the lock has: a word number and a new value for each write.
+// It is lent beside the record, so that no call moves it.
+pub const LOCK_WORDS: usize = 2 * MAX_LONG;
+
+// 2,632 bytes, and a function that takes a record and indexes its lanes copies it: so the calls' inner functions take a
 // lane or numbers where these do, and a call changes its record once, at its end.
 pub struct Record {
     pub clock: u64,
@@ -55,6 +80,7 @@ pub struct Record {
     pub lanes: [Lane; MAX_LANES],
     // the lag limit: how far Log may take the clock above the least floor
     pub lag: u64,
+    pub lock: Lock,
 }
 
 // A lane at a start: idle without floor, at slot 0 with wrap bit 1.
@@ -79,6 +105,7 @@ pub fn start_record(lag: u64, base: u64) -> Record
         last: base,
         lanes: [start_lane(); MAX_LANES],
         lag,
+        lock: Lock::Free,
     }
 }
 
@@ -208,11 +235,117 @@ pub fn lag_ok(lag: u64) -> bool
     2 <= lag && lag <= MAX_LAG
 }
 
-// The range check, false where refusal 2 is due. The lanes that are not in use, and the pairs from the count on, may
-// hold anything.
-pub fn record_ok(sizes: Sizes, state: Record) -> bool
+// Is the lock held?
+pub fn is_held(lock: Lock) -> bool
+    ensures { λ r. ⌜ r ≡ isHeld lock ⌝ }
+{
+    match lock {
+        Lock::Free => false,
+        Lock::Held(_) => true,
+    }
+}
+
+// The transaction that holds the lock, 0s where there is none.
+pub fn locked_in(lock: Lock) -> Locked
+    ensures { λ r. ⌜ r ≡ lockedIn lock ⌝ }
+{
+    match lock {
+        Lock::Free => Locked {
+            lane: 0,
+            stamp: 0,
+            count: 0,
+            logged: 0,
+            written: 0,
+        },
+        Lock::Held(held) => held,
+    }
+}
+
+// How many writes the present part of a locked transaction has: sixteen, the last part what is left.
+pub fn part_length(held: Locked) -> usize
+    ensures { λ r. ⌜ r ≡ partLength held ⌝ }
+{
+    let count = held.count;
+    let written = held.written;
+    if count <= written {
+        return 0;
+    }
+    let left = count - written;
+    if MAX_WRITES <= left {
+        return MAX_WRITES;
+    }
+    left
+}
+
+// Do the first `count` of the pairs in these words name data words?
+fn long_pairs_ok(words: usize, count: usize, pairs: &[u64]) -> bool
+    requires { ⌜ count ≤ maxLong ⌝ }
+    requires { ⌜ length (now pairs) ≡ lockLength ⌝ }
+    ensures { λ r. ⌜ r ≡ pairsOk words (pairsFrom (now (pairs .entry)) 0 count) ⌝ }
+{
+    for i in 0..count {
+        if words as u64 <= pairs[2 * i] {
+            return false;
+        }
+    }
+    true
+}
+
+// Are whole parts written, not all of them, and logged as many or one part more?
+fn parts_ok(held: Locked) -> bool
+    ensures { λ r. ⌜ r
+        ≡ (eqb (held .written % maxWrites) 0 && (ltb (held .written) (held .count)
+        && (eqb (held .logged) (held .written) || eqb (held .logged) (held .written + partLength held)))) ⌝ }
+{
+    let count = held.count;
+    let logged = held.logged;
+    let written = held.written;
+    if written % MAX_WRITES != 0 {
+        return false;
+    }
+    if count <= written {
+        return false;
+    }
+    if logged == written {
+        return true;
+    }
+    logged == written + part_length(held)
+}
+
+// The range check of a lock that is held; the pairs from the count on may hold anything.
+fn held_ok(sizes: Sizes, state: Record, pairs: &[u64], held: Locked) -> bool
     requires { ⌜ sizes .lanes ≤ maxLanes ⌝ }
-    ensures { λ r. ⌜ r ≡ recordOk sizes state ⌝ }
+    requires { ⌜ length (now pairs) ≡ lockLength ⌝ }
+    ensures { λ r. ⌜ r ≡ heldOk sizes state (now (pairs .entry)) held ⌝ }
+{
+    let lane = held.lane;
+    let count = held.count;
+    if sizes.lanes <= lane {
+        return false;
+    }
+    let at = state.lanes[lane];
+    let phase = at.phase;
+    if is_logged(phase) {
+        return false;
+    }
+    if !stamp_ok(state.clock, held.stamp) {
+        return false;
+    }
+    if MAX_LONG < count {
+        return false;
+    }
+    if !long_pairs_ok(sizes.words, count, pairs) {
+        return false;
+    }
+    parts_ok(held)
+}
+
+// The range check, false where refusal 2 is due. The lanes that are not in use, the pairs from the count on, and the
+// words of a free lock's pairs may hold anything; these are read only where the lock is held.
+pub fn record_ok(sizes: Sizes, state: Record, pairs: &[u64]) -> bool
+    requires { ⌜ sizes .lanes ≤ maxLanes ⌝ }
+    requires { ⌜ length (now pairs) ≡ lockLength ⌝ }
+    ensures { λ r. ⌜ r ≡ recordOk sizes state (now (pairs .entry)) ⌝ }
 {
     let clock = state.clock;
     if clock % 2 != 0 {
@@ -231,7 +364,11 @@ pub fn record_ok(sizes: Sizes, state: Record) -> bool
             return false;
         }
     }
-    true
+    let lock = state.lock;
+    match lock {
+        Lock::Free => true,
+        Lock::Held(held) => held_ok(sizes, state, pairs, held),
+    }
 }
 
 // 2^64 - 2, the last even number.

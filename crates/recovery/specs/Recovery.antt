@@ -1,16 +1,16 @@
 -- Recovery: the boundary, what is undone and in which order, torn slots, the list of stores, and as many of them as a limit lets through; what its answer
 -- tells. SPECIFICATION, "Recovery". Assumes nothing.
 use Prim.Native.Nat.{ℕ, zero, suc, _+_, _*_, _%_, max}
-use mathlib.Core.Bool.{Bool, true, false, cond, not, _&&_, _||_}
+use mathlib.Core.Bool.{Bool, true, false, cond, not}
 use mathlib.Core.List.{List, [], _∷_, _++_}
-use lib.Dec.{leb, ltb, eqb}
+use lib.Dec.{leb, eqb}
 use lib.ListN.{length, take}
 use Rattle.slot.specs.declared.Content.{Content}
 use Rattle.slot.specs.declared.Content.the-variants.{Empty, Torn, Entry, Stamp}
 use Rattle.image.specs.Image.{baseOf, logOf, allAre, formerOk, sizesAtEnd, trailerOk}
 use Rattle.image.specs.Stores.{Store, stored}
 use Rattle.image.specs.declared.Sizes.{Sizes}
-use Rattle.log.specs.Log.{Old, Complete, slotAt, completeIn, latestIn, contribution}
+use Rattle.log.specs.Log.{Old, Complete, slotAt, completeIn, ordered, latestIn, contribution}
 use Rattle.log.specs.declared.Timestamp.{Timestamp}
 use Rattle.log.specs.declared.Timestamp.the-variants.{None, At}
 use Rattle.record.specs.Record.{lesser}
@@ -38,22 +38,9 @@ unfoldable pub atOrAbove : ℕ → List Complete → List Complete
 atOrAbove b [] = []
 atOrAbove b (q ∷ qs) = cond (leb b q.stamp) (q ∷ atOrAbove b qs) (atOrAbove b qs)
 
--- the order of undoing: the greater timestamp first; of equal ones the higher lane, then the higher slot
-unfoldable pub undoneBefore : Complete → Complete → Bool
-undoneBefore q r =
-    ltb r.stamp q.stamp || (eqb r.stamp q.stamp && (ltb r.lane q.lane || (eqb r.lane q.lane && ltb r.slot q.slot)))
-
-unfoldable pub insert : Complete → List Complete → List Complete
-insert q [] = q ∷ []
-insert q (r ∷ rs) = cond (undoneBefore q r) (q ∷ r ∷ rs) (r ∷ insert q rs)
-
-unfoldable pub ordered : List Complete → List Complete
-ordered [] = []
-ordered (q ∷ qs) = insert q (ordered qs)
-
 unfoldable pub undoneFrom : Timestamp → List Complete → List Complete
 undoneFrom None qs = []
-undoneFrom (At b) qs = ordered (atOrAbove b qs)
+undoneFrom (At b) qs = ordered qs (atOrAbove b qs)
 
 -- the sequences that recovery undoes, in its order
 unfoldable pub undone : Sizes → List ℕ → List Complete
@@ -143,7 +130,7 @@ recoveredBy z lag limit number m =
       answer = Finished (record { boundary = boundary z m.nvm; undone = length (undoStores z m.nvm); torn = tornIn z m.nvm });
       machine = started lag (baseOf nvm) nvm;
     })
-    (record { answer = Cut; machine = record { state = m.state; cache = m.cache; nvm = nvm; flags = m.flags } }))
+    (record { answer = Cut; machine = record { state = m.state; pairs = m.pairs; cache = m.cache; nvm = nvm; flags = m.flags } }))
     (record { answer = Refused number; machine = m })
 
 unfoldable pub oddBase : Machine → Cause

@@ -7,8 +7,10 @@ pub mod Undo
 pub mod LimitLaws
 pub mod PickingLaws
 pub mod LanesLaws
+pub mod LapLaws
 pub mod ScanLaws
 pub mod EntryLaws
+pub mod NextLaws
 pub mod UndoLaws
 pub mod RecoveryLaws
 pub mod OrderLaws

@@ -5,14 +5,15 @@ ghost use Prim.Native.Nat.{_+_, _*_, _≤_, _<_, max};
 ghost use lib.ListN.{length};
 ghost use Rattle.winners.specs.inner.Winners.{Tournament};
 ghost use Rattle.image.specs.Image.{logOf};
-ghost use Rattle.image.specs.inner.Facts.{IsImage};
+ghost use Rattle.image.specs.inner.Facts.{IsImage, IsLog};
 ghost use Rattle.log.specs.Log.{latestIn, contribution};
 ghost use Rattle.record.specs.Record.{lesser};
 ghost use Rattle.recovery.specs.Recovery.{boundary as boundaryOf, wholeStamp, greatestBelow, newBase};
 ghost use Rattle.recovery.specs.Recovery.{oneIfTorn, tornBelow, tornIn};
 ghost use Rattle.recovery.specs.inner.Picking.{countOf, wrapOf, offered as offeredOf, Offers, LaneRoom, Offering};
-ghost use Rattle.recovery.specs.inner.Picking.{Tournaments};
+ghost use Rattle.recovery.specs.inner.Picking.{Tournaments, lapAt, lapBelow};
 use image::Sizes;
+use log::Sequence;
 use log::Timestamp;
 use slot::Content;
 
@@ -54,7 +55,7 @@ fn count_of(content: Content) -> usize
 }
 
 // The wrap bit of a timestamp, 0 where there is none.
-fn wrap_of(content: Content) -> u64
+pub fn wrap_of(content: Content) -> u64
     ensures { λ r. ⌜ r ≡ wrapOf content ⌝ }
 {
     match content {
@@ -114,8 +115,46 @@ fn offer(sizes: Sizes, nvm: &[u64], lane: usize, stamps: &mut [u64]) -> Seen
     Seen { greatest, torn }
 }
 
+// What slot k closes, if it offers this timestamp and closes a complete sequence with the other wrap bit; else `best`.
+fn lap_at(
+    sizes: Sizes,
+    log: &[u64],
+    offer: u64,
+    stamp: u64,
+    wrap: u64,
+    k: usize,
+    best: Sequence,
+) -> Sequence
+    requires { ⌜ IsLog (sizes .slots) (now log) ⌝ }
+    requires { ⌜ k < sizes .slots ⌝ }
+    ensures { λ r. ⌜ r ≡ lapAt (sizes .words) (sizes .slots) (now (log .entry)) offer stamp wrap k best ⌝ }
+{
+    if offer != stamp {
+        return best;
+    }
+    log::search::lap_over(log, sizes.words, sizes.slots, stamp, wrap, k, best)
+}
+
+// The latest of the complete sequences with the timestamp of `found`, of those that a lane's slots offer. `found` has
+// the highest slot of them, and this wrap bit: those with the other bit are later, and of these the highest is.
+pub fn lapped(sizes: Sizes, log: &[u64], stamps: &[u64], wrap: u64, found: Sequence) -> Sequence
+    requires { ⌜ IsLog (sizes .slots) (now log) ⌝ }
+    requires { ⌜ length (now stamps) ≡ sizes .slots ⌝ }
+    requires { ⌜ found .slot ≤ sizes .slots ⌝ }
+    ensures { λ r. ⌜ r ≡ lapBelow (sizes .words) (sizes .slots) (now (log .entry)) (now (stamps .entry)) (found .stamp)
+        wrap found (found .slot) ⌝ }
+{
+    let stamp = found.stamp;
+    let mut best = found;
+    for k in 0..found.slot {
+        best = lap_at(sizes, log, stamps[k], stamp, wrap, k, best);
+    }
+    best
+}
+
 // What a lane gives to the boundary, which is what its latest sequence gives. The timestamps offered are tried from the
-// greatest down, each over its entries, up to the first complete one; those found incomplete are offered no more.
+// greatest down, each over its entries, up to the first complete one; those found incomplete are offered no more. Of
+// equal ones the latest gives.
 fn latest(sizes: Sizes, nvm: &[u64], lane: usize, stamps: &mut [u64], tree: &mut [u16]) -> Timestamp
     requires { ⌜ IsImage sizes (now nvm) ⌝ }
     requires { ⌜ lane < sizes .lanes ⌝ }
@@ -141,7 +180,13 @@ fn latest(sizes: Sizes, nvm: &[u64], lane: usize, stamps: &mut [u64], tree: &mut
                 continue 'stamps;
             }
         }
-        return log::given(count, stamp);
+        let highest = Sequence {
+            stamp,
+            count,
+            slot: j,
+        };
+        let found = lapped(sizes, log, stamps, wrap, highest);
+        return log::given(found.count, stamp);
     }
 }
 

@@ -5,7 +5,7 @@ use crate::input::wide;
 use crate::input::word;
 
 // Puts the values into the buffer from an index on, as far as it goes.
-fn store_words(buffer: &mut [u64], index: usize, values: &[u64]) {
+pub(crate) fn store_words(buffer: &mut [u64], index: usize, values: &[u64]) {
     for at in index..buffer.len() {
         if values.len() <= at - index {
             return;
@@ -48,8 +48,9 @@ fn mixed(digest: u64, word: u64) -> u64 {
     ((digest << 7) | (digest >> 57)) ^ word
 }
 
-pub(crate) fn digest(words: &[u64]) -> u64 {
-    let mut all = 0;
+// A digest that goes on from `from`: a first one goes on from 0.
+pub(crate) fn digest(from: u64, words: &[u64]) -> u64 {
+    let mut all = from;
     for i in 0..words.len() {
         all = mixed(all, words[i]);
     }

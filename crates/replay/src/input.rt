@@ -18,8 +18,10 @@ const CHUNKS: usize = 16;
 // The words of the longest input.
 const INPUT_WORDS: usize = CHUNKS * CHUNK_WORDS;
 
-// The most words of a transaction.
+// The most words of a transaction, and of a long one.
 const MAX_TXN_WORDS: usize = 80;
+
+const MAX_LONG_WORDS: usize = 272;
 
 // How many words an op has after its code.
 enum Extent {
@@ -156,13 +158,14 @@ fn counted(op: &[u64], fixed: usize, most: usize) -> Extent
 fn operands(op: &[u64], sizes: Sizes) -> Extent {
     match word(op, 0) {
         0 | 9 | 14 => Extent::Words(0),
-        2 | 4 | 5 | 6 | 7 | 15 | 17 => Extent::Words(1),
+        2 | 4 | 5 | 6 | 7 | 15 | 17 | 19 => Extent::Words(1),
         10 | 12 => Extent::Words(3),
         16 => Extent::Words(4),
-        11 => Extent::Words(codec::RECORD_WORDS),
+        11 => Extent::Words(codec::STATE_WORDS),
         8 => Extent::Words(start_words(sizes)),
         1 | 3 => counted(op, 2, MAX_TXN_WORDS),
         13 => counted(op, 3, MAX_FORMER),
+        18 => counted(op, 2, MAX_LONG_WORDS),
         _ => Extent::Malformed,
     }
 }

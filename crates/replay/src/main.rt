@@ -4,8 +4,10 @@ mod input;
 mod print;
 
 use codec::RECORD_WORDS;
+use codec::STATE_WORDS;
 use image::MAX_IMAGE;
 use image::Sizes;
+use record::LOCK_WORDS;
 use record::MAX_LAG;
 use record::Record;
 use recovery::Recovered;
@@ -25,7 +27,7 @@ enum Status {
 }
 
 // A trace between two of its ops: the word of the input that it stands at, and what its calls are given beside the
-// buffers.
+// lock's pairs and the buffers.
 struct Run {
     at: usize,
     status: Status,
@@ -88,11 +90,12 @@ fn lent(code: u64, words: &[u64], sizes: Sizes, former: bool) -> Lengths
     }
 }
 
-// Format, which takes no record; a refused one leaves the record as it was.
+// Format, which takes no record; a refused one leaves record and pairs as they were.
 fn format(
     sizes: Sizes,
     lag: u64,
     state: Record,
+    pairs: &mut [u64],
     cache: &mut [u64],
     nvm: &mut [u64],
     flags: &mut [u8],
@@ -102,7 +105,10 @@ fn format(
     let answer = outcome.answer;
     match answer {
         Answer::Refused(_) => Outcome { answer, state },
-        _ => outcome,
+        _ => {
+            image::bulk::clear_words(pairs);
+            outcome
+        }
     }
 }
 
@@ -113,6 +119,7 @@ fn call(
     sizes: Sizes,
     lag: u64,
     state: Record,
+    pairs: &mut [u64],
     cache: &mut [u64],
     nvm: &mut [u64],
     flags: &mut [u8],
@@ -120,29 +127,61 @@ fn call(
     // a write-back's is the number of a word
     let lane = input::number(words, 0);
     match code {
-        1 => append::log(sizes, state, cache, nvm, flags, lane, input::tail(words, 2)),
-        2 => commit::redo(sizes, state, cache, nvm, flags, lane),
-        3 => commit::validate(sizes, state, cache, nvm, flags, lane, input::tail(words, 2)),
-        4 => append::mark(sizes, state, cache, nvm, flags, lane),
-        5 => store::drain(sizes, state, cache, nvm, flags, lane),
+        1 => append::log(
+            sizes,
+            state,
+            pairs,
+            cache,
+            nvm,
+            flags,
+            lane,
+            input::tail(words, 2),
+        ),
+        2 => commit::redo(sizes, state, pairs, cache, nvm, flags, lane),
+        3 => commit::validate(
+            sizes,
+            state,
+            pairs,
+            cache,
+            nvm,
+            flags,
+            lane,
+            input::tail(words, 2),
+        ),
+        4 => append::mark(sizes, state, pairs, cache, nvm, flags, lane),
+        5 => store::drain(sizes, state, pairs, cache, nvm, flags, lane),
         6 => Outcome {
             answer: store::write_back(sizes, cache, nvm, flags, lane),
             state,
         },
+        18 => lock::begin(
+            sizes,
+            state,
+            pairs,
+            cache,
+            nvm,
+            flags,
+            lane,
+            input::tail(words, 2),
+        ),
+        19 => lock::proceed(sizes, state, pairs, cache, nvm, flags, lane),
         // 8: no other code comes here
-        _ => format(sizes, lag, state, cache, nvm, flags, words),
+        _ => format(sizes, lag, state, pairs, cache, nvm, flags, words),
     }
 }
 
-// Prints the line of a recovery; the record after it, which stays where recovery returns none.
-fn restarted(restart: Restart, state: Record) -> Record {
+// Prints the line of a recovery; the record after it, which stays with its pairs where recovery returns none.
+fn restarted(restart: Restart, state: Record, pairs: &mut [u64]) -> Record {
     let answer = restart.answer;
     let after = restart.state;
     print::recovery_line(answer);
     match answer {
         Recovered::Refused(_) => state,
         Recovered::Cut => state,
-        Recovered::Finished(_) => after,
+        Recovered::Finished(_) => {
+            image::bulk::clear_words(pairs);
+            after
+        }
     }
 }
 
@@ -152,12 +191,13 @@ fn recover(
     sizes: Sizes,
     lag: u64,
     state: Record,
+    pairs: &mut [u64],
     cache: &mut [u64],
     nvm: &mut [u64],
     flags: &mut [u8],
 ) -> Record {
     let restart = recovery::recover(sizes, lag, cache, nvm, flags, limit);
-    restarted(restart, state)
+    restarted(restart, state, pairs)
 }
 
 // Recovers without.
@@ -165,21 +205,23 @@ fn recover_read(
     limit: usize,
     lag: u64,
     state: Record,
+    pairs: &mut [u64],
     cache: &mut [u64],
     nvm: &mut [u64],
     flags: &mut [u8],
 ) -> Record {
     let restart = recovery::recover_read(lag, cache, nvm, flags, limit);
-    restarted(restart, state)
+    restarted(restart, state, pairs)
 }
 
-// The record of an op's words, of which `op_length` counts RECORD_WORDS. Its contract does not say so: hence the test,
+// The record of an op's words, of which `op_length` counts STATE_WORDS. Its contract does not say so: hence the test,
 // whose first arm is never reached.
-fn given_record(words: &[u64], state: Record) -> Record {
-    if words.len() != RECORD_WORDS {
+fn given_record(words: &[u64], state: Record, pairs: &mut [u64]) -> Record {
+    if words.len() != STATE_WORDS {
         return state;
     }
-    codec::record_from(words)
+    buffers::store_words(pairs, 0, &words[RECORD_WORDS..]);
+    codec::record_from(&words[..RECORD_WORDS])
 }
 
 // Performs an op, by its code and the words after it, where `run` stands behind them already.
@@ -187,6 +229,7 @@ fn perform(
     code: u64,
     words: &[u64],
     run: Run,
+    pairs: &mut [u64],
     cache: &mut [u64],
     nvm: &mut [u64],
     flags: &mut [u8],
@@ -205,6 +248,7 @@ fn perform(
                 run.sizes,
                 run.lag,
                 state,
+                pairs,
                 cache,
                 nvm,
                 flags,
@@ -212,7 +256,7 @@ fn perform(
             ..run
         },
         9 => {
-            print::dump(state, cache, nvm, flags);
+            print::dump(state, pairs, cache, nvm, flags);
             run
         }
         10 => {
@@ -220,7 +264,7 @@ fn perform(
             run
         }
         11 => Run {
-            state: given_record(words, state),
+            state: given_record(words, state, pairs),
             ..run
         },
         12 => Run {
@@ -232,7 +276,7 @@ fn perform(
             run
         }
         14 => {
-            print::digests(state, cache, nvm, flags);
+            print::digests(state, pairs, cache, nvm, flags);
             run
         }
         15 => Run {
@@ -240,7 +284,15 @@ fn perform(
             ..run
         },
         16 => Run {
-            state: recover_read(input::number(words, 0), run.lag, state, cache, nvm, flags),
+            state: recover_read(
+                input::number(words, 0),
+                run.lag,
+                state,
+                pairs,
+                cache,
+                nvm,
+                flags,
+            ),
             ..run
         },
         17 => Run {
@@ -248,7 +300,17 @@ fn perform(
             ..run
         },
         _ => {
-            let outcome = call(code, words, run.sizes, run.lag, state, cache, nvm, flags);
+            let outcome = call(
+                code,
+                words,
+                run.sizes,
+                run.lag,
+                state,
+                pairs,
+                cache,
+                nvm,
+                flags,
+            );
             let answer = outcome.answer;
             let after = outcome.state;
             print::answer_line(code, answer);
@@ -261,7 +323,14 @@ fn perform(
 }
 
 // The op that `run` stands at.
-fn step(input: &[u64], run: Run, cache: &mut [u64], nvm: &mut [u64], flags: &mut [u8]) -> Run
+fn step(
+    input: &[u64],
+    run: Run,
+    pairs: &mut [u64],
+    cache: &mut [u64],
+    nvm: &mut [u64],
+    flags: &mut [u8],
+) -> Run
     requires { ⌜ run .at ≤ length (now input) ⌝ }
     requires { ⌜ maxImage ≤ length (now cache) ⌝ }
     requires { ⌜ maxImage ≤ length (now nvm) ⌝ }
@@ -290,6 +359,7 @@ fn step(input: &[u64], run: Run, cache: &mut [u64], nvm: &mut [u64], flags: &mut
             at: at + end,
             ..run
         },
+        pairs,
         &mut cache[..in_cache],
         &mut nvm[..in_nvm],
         &mut flags[..in_flags],
@@ -298,7 +368,14 @@ fn step(input: &[u64], run: Run, cache: &mut [u64], nvm: &mut [u64], flags: &mut
 
 // Runs the ops of a trace, up to the one that ends it or is malformed. Each has at least one word, so that there are
 // turns enough.
-fn run_ops(input: &[u64], start: Run, cache: &mut [u64], nvm: &mut [u64], flags: &mut [u8]) -> Run
+fn run_ops(
+    input: &[u64],
+    start: Run,
+    pairs: &mut [u64],
+    cache: &mut [u64],
+    nvm: &mut [u64],
+    flags: &mut [u8],
+) -> Run
     requires { ⌜ start .at ≤ length (now input) ⌝ }
     requires { ⌜ maxImage ≤ length (now cache) ⌝ }
     requires { ⌜ maxImage ≤ length (now nvm) ⌝ }
@@ -307,7 +384,7 @@ fn run_ops(input: &[u64], start: Run, cache: &mut [u64], nvm: &mut [u64], flags:
 {
     let mut run = start;
     for _ in 0..input.len() {
-        run = step(input, run, cache, nvm, flags);
+        run = step(input, run, pairs, cache, nvm, flags);
         let status = run.status;
         let Status::Going = status else {
             return run;
@@ -316,7 +393,7 @@ fn run_ops(input: &[u64], start: Run, cache: &mut [u64], nvm: &mut [u64], flags:
     run
 }
 
-// Runs the trace that starts at a word of the input, with buffers and a record of zeros.
+// Runs the trace that starts at a word of the input, with buffers, a record and pairs of zeros.
 fn run_trace(input: &[u64], at: usize) -> Run
     requires { ⌜ at ≤ length (now input) ⌝ }
     ensures { λ r. ⌜ r .at ≤ length (now (input .entry)) ⌝ }
@@ -324,6 +401,7 @@ fn run_trace(input: &[u64], at: usize) -> Run
     let mut cache = [0u64; MAX_IMAGE];
     let mut nvm = [0u64; MAX_IMAGE];
     let mut flags = [0u8; MAX_IMAGE];
+    let mut pairs = [0u64; LOCK_WORDS];
     let zeros = [0u64; RECORD_WORDS];
     let state = codec::record_from(&zeros);
     let sizes = input::sizes(&input[at..]);
@@ -345,7 +423,7 @@ fn run_trace(input: &[u64], at: usize) -> Run
         lag: MAX_LAG,
         state,
     };
-    run_ops(input, run, &mut cache, &mut nvm, &mut flags)
+    run_ops(input, run, &mut pairs, &mut cache, &mut nvm, &mut flags)
 }
 
 // Runs the traces of the input, up to a malformed one.

@@ -82,6 +82,8 @@ fn put_name(line: &mut [u8; LINE_BYTES], code: u64) -> usize
         4 => put(line, 0, b"mark"),
         5 => put(line, 0, b"drain"),
         6 => put(line, 0, b"write-back"),
+        18 => put(line, 0, b"lock"),
+        19 => put(line, 0, b"continue"),
         // 8: no other code comes here
         _ => put(line, 0, b"format"),
     }
@@ -115,6 +117,10 @@ fn put_answer(line: &mut [u8; LINE_BYTES], used: usize, answer: Answer) -> usize
                 return put(line, end, b" dropped");
             }
             end
+        }
+        Answer::Locked(progress) => {
+            let end = put_number(line, used, progress.left as u64);
+            put_number(line, end, progress.stamp)
         }
     }
 }
@@ -164,13 +170,23 @@ pub(crate) fn recovery_line(answer: Recovered) {
     end_line(&mut line, end);
 }
 
+// Adds words, each after a space.
+fn put_words(line: &mut [u8; LINE_BYTES], used: usize, words: &[u64]) -> usize
+    requires { ⌜ used ≤ lineBytes ⌝ }
+    ensures { λ r. ⌜ r ≤ lineBytes ⌝ }
+{
+    let mut end = used;
+    for i in 0..words.len() {
+        end = put_number(line, end, words[i]);
+    }
+    end
+}
+
 // A line of a name and numbers.
 fn words_line(name: &[u8], words: &[u64]) {
     let mut line = io::buffer();
-    let mut end = put(&mut line, 0, name);
-    for i in 0..words.len() {
-        end = put_number(&mut line, end, words[i]);
-    }
+    let used = put(&mut line, 0, name);
+    let end = put_words(&mut line, used, words);
     end_line(&mut line, end);
 }
 
@@ -183,7 +199,7 @@ fn bytes_line(name: &[u8], bytes: &[u8]) {
     end_line(&mut line, end);
 }
 
-// The words of a record. A function of its own, so that a caller's proof sees only the length.
+// The words of a record before the lock's pairs. A function of its own, so that a caller's proof sees only the length.
 fn record_words(state: Record) -> [u64; RECORD_WORDS]
     ensures { λ r. ⌜ recordLength ≡ length r ⌝ }
 {
@@ -192,23 +208,38 @@ fn record_words(state: Record) -> [u64; RECORD_WORDS]
     words
 }
 
-// The four lines of a dump.
-pub(crate) fn dump(state: Record, cache: &[u64], nvm: &[u64], flags: &[u8]) {
+// The line of a record.
+fn record_line(state: Record, pairs: &[u64]) {
     let state_words = record_words(state);
+    let mut line = io::buffer();
+    let used = put(&mut line, 0, b"record");
+    let last = put_words(&mut line, used, &state_words);
+    let end = put_words(&mut line, last, pairs);
+    end_line(&mut line, end);
+}
+
+// The four lines of a dump.
+pub(crate) fn dump(state: Record, pairs: &[u64], cache: &[u64], nvm: &[u64], flags: &[u8]) {
     words_line(b"cached", cache);
     words_line(b"cells", nvm);
     bytes_line(b"flags", flags);
-    words_line(b"record", &state_words);
+    record_line(state, pairs);
+}
+
+// The digest of a record and its pairs.
+fn record_digest(state: Record, pairs: &[u64]) -> u64 {
+    let state_words = record_words(state);
+    let first = buffers::digest(0, &state_words);
+    buffers::digest(first, pairs)
 }
 
 // The line of digests.
-pub(crate) fn digests(state: Record, cache: &[u64], nvm: &[u64], flags: &[u8]) {
-    let state_words = record_words(state);
+pub(crate) fn digests(state: Record, pairs: &[u64], cache: &[u64], nvm: &[u64], flags: &[u8]) {
     let all = [
-        buffers::digest(cache),
-        buffers::digest(nvm),
+        buffers::digest(0, cache),
+        buffers::digest(0, nvm),
         buffers::digest_bytes(flags),
-        buffers::digest(&state_words),
+        record_digest(state, pairs),
     ];
     words_line(b"digest", &all);
 }

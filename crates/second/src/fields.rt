@@ -1,9 +1,11 @@
-// The record of the second implementation, in words: 64 for each of eight lanes, then clock, last commit and lag limit,
-// and from word 1,024 on the pairs. Its range check, and the floors. SPECIFICATION, "Record".
+// The record of the second implementation, in words: 64 for each of eight lanes, then clock, last commit, lag limit and
+// the lock, from word 1,024 on the lanes' pairs, and from word 1,536 on the lock's. Its range check, and the floors.
+// SPECIFICATION, "Record".
 use crate::words::Arena;
 use crate::words::LANES;
 use crate::words::MAX_LAG;
 use crate::words::MAX_LANES;
+use crate::words::MAX_LONG;
 use crate::words::MAX_WRITES;
 use crate::words::MIN_LAG;
 use crate::words::RECORD;
@@ -19,7 +21,7 @@ use crate::words::plus;
 use crate::words::put;
 use crate::words::set_row;
 ghost use mathlib.Core.Path.{_≡_};
-ghost use Rattle.second.specs.inner.Words.{fieldAt, pairRow};
+ghost use Rattle.second.specs.inner.Words.{fieldAt, pairRow, sum};
 
 // A lane's words: is a transaction logged, its first slot, count and timestamp, the next slot, the wrap bit, the floor.
 pub const HELD: u64 = 0;
@@ -45,14 +47,37 @@ pub const LAG: u64 = 514;
 // The row of these three, where the record is read as a table.
 pub const TIME_ROW: u64 = CLOCK / 4;
 
-// The first word of the pairs.
+// The lock's words: is it held, by which lane, the timestamp, how many pairs there are, how many of them are logged,
+// and written. While it is free they are 0.
+pub const LOCKED: u64 = 516;
+
+pub const LOCK_LANE: u64 = 517;
+
+pub const LOCK_STAMP: u64 = 518;
+
+pub const LOCK_COUNT: u64 = 519;
+
+pub const LOCK_LOGGED: u64 = 520;
+
+pub const LOCK_WRITTEN: u64 = 521;
+
+// Their two rows.
+pub const LOCK_ROW: u64 = LOCKED / 4;
+
+pub const LOCK_PARTS_ROW: u64 = LOCK_LOGGED / 4;
+
+// The first word of the lanes' pairs, and of the lock's.
 pub const PAIRS: u64 = 1024;
+
+pub const LOCK_PAIRS: u64 = 1536;
 
 // The row of the first pair.
 const FIRST_PAIR: u64 = PAIRS / 4;
 
+const FIRST_LOCK_PAIR: u64 = LOCK_PAIRS / 4;
+
 // All words of the record.
-pub const LENGTH: u64 = 1536;
+pub const LENGTH: u64 = 1792;
 
 // No floor, and no boundary: a number above all timestamps, which are even.
 pub const NONE: u64 = u64::MAX;
@@ -72,6 +97,13 @@ pub fn pair(lane: u64, i: u64) -> u64
     ensures { λ r. ⌜ r ≡ pairRow lane i ⌝ }
 {
     FIRST_PAIR | lane << 4 | i
+}
+
+// The same for one of the lock's 64.
+pub fn lock_pair(i: u64) -> u64
+    ensures { λ r. ⌜ r ≡ sum 384 i ⌝ }
+{
+    plus(FIRST_LOCK_PAIR, i)
 }
 
 // Whether a lane holds a transaction, and its first slot, count and timestamp.
@@ -98,8 +130,26 @@ pub fn set_lag(arena: &mut Arena, lag: u64) {
     put(arena, RECORD, LAG, lag);
 }
 
-// The record of a start: everything 0 but the wrap bits, the floors, clock and last commit, which are the base
-// timestamp, and the lag limit.
+// The lock is held, by a lane, with a timestamp and so many pairs; and how many of them are logged and written.
+pub fn set_lock(arena: &mut Arena, lane: u64, stamp: u64, count: u64) {
+    set_row(arena, RECORD, LOCK_ROW, 1, lane, stamp, count);
+}
+
+pub fn set_parts(arena: &mut Arena, logged: u64, written: u64) {
+    set_row(arena, RECORD, LOCK_PARTS_ROW, logged, written, 0, 0);
+}
+
+pub(crate) fn free_lock(arena: &mut Arena) {
+    set_row(arena, RECORD, LOCK_ROW, 0, 0, 0, 0);
+    set_parts(arena, 0, 0);
+}
+
+pub(crate) fn is_locked(arena: &Arena) -> bool {
+    get(arena, RECORD, LOCKED) != 0
+}
+
+// The record of a start: everything 0, the lock free, but for the wrap bits, the floors, clock and last commit, which
+// are the base timestamp, and the lag limit.
 pub fn set_start(arena: &mut Arena, lag: u64, base: u64) {
     clear(arena, RECORD, LENGTH);
     set_time(arena, base, base);
@@ -160,6 +210,49 @@ fn bad_lanes(arena: &Arena) -> u64 {
     bad
 }
 
+// ---- the lock
+fn lock_pairs_ok(arena: &Arena) -> bool {
+    for i in 0..get(arena, RECORD, LOCK_COUNT) {
+        if get(arena, STATE, WORDS) <= cell(arena, RECORD, lock_pair(i), 0) {
+            return false;
+        }
+    }
+    true
+}
+
+// How many pairs the next part has, where `written` of them are written: sixteen, or as many as are left.
+pub(crate) fn next_part(arena: &Arena, written: u64) -> u64 {
+    least(MAX_WRITES, minus(get(arena, RECORD, LOCK_COUNT), written))
+}
+
+// Whole parts are written, not all; and logged are these, or one part more.
+fn parts_ok(arena: &Arena) -> bool {
+    let logged = get(arena, RECORD, LOCK_LOGGED);
+    let written = get(arena, RECORD, LOCK_WRITTEN);
+    written % MAX_WRITES == 0
+        && written < get(arena, RECORD, LOCK_COUNT)
+        && (logged == written || logged == plus(written, next_part(arena, written)))
+}
+
+fn owner_ok(arena: &Arena) -> bool {
+    let lane = get(arena, RECORD, LOCK_LANE);
+    lane < get(arena, STATE, LANES) && field(arena, lane, HELD) == 0
+}
+
+fn lock_held_ok(arena: &Arena) -> bool {
+    let count = get(arena, RECORD, LOCK_COUNT);
+    owner_ok(arena)
+        && in_time(arena, get(arena, RECORD, LOCK_STAMP))
+        && 1 <= count
+        && count <= MAX_LONG
+        && parts_ok(arena)
+        && lock_pairs_ok(arena)
+}
+
+fn lock_ok(arena: &Arena) -> bool {
+    !is_locked(arena) || lock_held_ok(arena)
+}
+
 // An even number from 2 to 2^32.
 pub(crate) fn lag_ok(lag: u64) -> bool {
     MIN_LAG <= lag && lag <= MAX_LAG && lag % 2 == 0
@@ -170,6 +263,7 @@ pub(crate) fn in_range(arena: &Arena) -> bool {
         && in_time(arena, get(arena, RECORD, LAST))
         && bad_lanes(arena) == 0
         && lag_ok(get(arena, RECORD, LAG))
+        && lock_ok(arena)
 }
 
 // The least floor, where this lane's is the one given; none is above all.

@@ -2,6 +2,7 @@
 // numbers in words of one array, every slot decoded, causes of refusal taken all together and the one that wins picked.
 // It shares no code with the store.
 pub mod fields;
+mod locking;
 pub mod reading;
 pub mod restart;
 mod running;
@@ -18,6 +19,7 @@ use crate::words::FOUND;
 use crate::words::LAG;
 use crate::words::LANES;
 use crate::words::MAX_LANES;
+use crate::words::MAX_LONG;
 use crate::words::MAX_SLOTS;
 use crate::words::MAX_STAMP;
 use crate::words::MAX_WORDS;
@@ -72,27 +74,32 @@ pub const FORMAT: u64 = 8;
 // Recovery without sizes: it reads them from the end of non-volatile memory.
 pub const RECOVER_READ: u64 = 9;
 
+// Takes the lock for a long transaction; makes its next step.
+pub const LOCK: u64 = 10;
+
+pub const CONTINUE: u64 = 11;
+
 // What a Log of no words is: it settles its lane.
-const SETTLE: u64 = 10;
+const SETTLE: u64 = 12;
 
-// An answer, behind the record: what was answered, and its numbers. ANSWER is the refusal, the count of writes, whether
-// Mark dropped a transaction, or how many entries recovery undid; STAMP the timestamp or the boundary; REFUSAL the
-// number of the refusal, or 0; TORN how many torn slots recovery found.
-pub const KIND: u64 = 1536;
+// An answer, behind the record: what was answered, and its numbers. ANSWER is the refusal, the count of writes, how
+// many of a long transaction are left, whether Mark dropped a transaction, or how many entries recovery undid; STAMP
+// the timestamp or the boundary; REFUSAL the number of the refusal, or 0; TORN how many torn slots recovery found.
+pub const KIND: u64 = 1792;
 
-pub const ANSWER: u64 = 1537;
+pub const ANSWER: u64 = 1793;
 
-pub const STAMP: u64 = 1538;
+pub const STAMP: u64 = 1794;
 
-pub const REFUSAL: u64 = 1539;
+pub const REFUSAL: u64 = 1795;
 
-pub const TORN: u64 = 1540;
+pub const TORN: u64 = 1796;
 
 // The row of the answer but for TORN, where record and answer are read as a table.
 pub const ANSWER_ROW: u64 = KIND / 4;
 
 // All words of record and answer.
-pub const LENGTH: u64 = 1541;
+pub const LENGTH: u64 = 1797;
 
 // What was answered.
 pub const REFUSED: u64 = 0;
@@ -118,6 +125,8 @@ pub const RECOVERED: u64 = 9;
 pub const UNBOUNDED: u64 = 10;
 
 pub const SETTLED: u64 = 11;
+
+pub const LOCKED: u64 = 12;
 
 fn answer(arena: &mut Arena, kind: u64, number: u64, stamp: u64) {
     set_row(
@@ -292,9 +301,16 @@ fn meant(arena: &Arena, code: u64) -> u64 {
     code
 }
 
-// Is the call given a transaction? Does it commit one?
+// Is the call given a transaction, and of how many instructions at most? Does it commit one?
 fn takes_txn(code: u64) -> bool {
-    code == LOG || code == VALIDATE
+    code == LOG || code == VALIDATE || code == LOCK
+}
+
+fn most_instructions(code: u64) -> u64 {
+    if code == LOCK {
+        return MAX_LONG;
+    }
+    MAX_WRITES
 }
 
 pub(crate) fn commits(code: u64) -> bool {
@@ -303,33 +319,51 @@ pub(crate) fn commits(code: u64) -> bool {
 
 // Does it want a lane that holds none?
 fn wants_idle(code: u64) -> bool {
-    code == LOG || code == SETTLE
+    code == LOG || code == SETTLE || code == LOCK
 }
 
-// Does it append? A Log that writes nothing does not, where it has words.
+// Does it append, or take the lock to append later? Log and Lock don't where their transaction writes nothing.
 fn appends(code: u64, writes: u64) -> bool {
-    code == MARK || code == SETTLE || (code == LOG && writes != 0)
+    code == MARK || code == SETTLE || ((code == LOG || code == LOCK) && writes != 0)
+}
+
+// How many slots count for cause 9: those appended, or all that a long transaction of so many instructions may need.
+fn slots_counted(arena: &Arena, code: u64, writes: u64) -> u64 {
+    if code == LOCK {
+        return locking::slots_counted(arena);
+    }
+    plus(writes, 1)
 }
 
 fn spent(arena: &Arena) -> bool {
     MAX_STAMP <= get(arena, RECORD, fields::CLOCK)
 }
 
-// Causes 5 to 7.
-fn phase_refusal(code: u64, held: bool, well_formed: bool) -> u64 {
-    let number = winner(0, 7, commits(code) && !held);
+// Cause 7: there is nothing to commit, or no lock to go on with.
+fn has_none(arena: &Arena, code: u64, held: bool) -> bool {
+    (commits(code) && !held) || (code == CONTINUE && !fields::is_locked(arena))
+}
+
+// Causes 5 to 7, 11 and 12.
+fn phase_refusal(arena: &Arena, code: u64, lane: u64) -> u64 {
+    let held = field(arena, lane, fields::HELD) != 0;
+    let well_formed = running::txn_ok(arena, most_instructions(code));
+    let number = winner(0, 12, code == LOCK && locking::is_too_long(arena));
+    let number = winner(number, 11, locking::keeps_out(arena, code, lane));
+    let number = winner(number, 7, has_none(arena, code, held));
     let number = winner(number, 6, wants_idle(code) && held);
     winner(number, 5, takes_txn(code) && !well_formed)
 }
 
-// Causes 8, 15 and 9, where the lane's n sequences are in the table. Of the calls that append, Mark has no cause 15.
+// Causes 8, 15 and 9, where the lane's n sequences are in the table. Of the calls that append, Mark has no cause 15;
+// Continue has none of these.
 fn append_refusal(arena: &Arena, lane: u64, code: u64, n: u64, writes: u64) -> u64 {
     let append = appends(code, writes);
     let bound = fields::least_floor(arena, lane, floor_after(arena, lane, n));
     let number = winner(
         0,
         9,
-        append && overwrites(arena, lane, bound, plus(writes, 1)),
+        append && overwrites(arena, lane, bound, slots_counted(arena, code, writes)),
     );
     let number = winner(
         number,
@@ -393,15 +427,20 @@ fn tick(arena: &mut Arena) -> u64 {
     stamp
 }
 
-// The timestamp behind the entries, which is the lane's floor where it has none.
-fn append_stamp(arena: &mut Arena, lane: u64, count: u64) -> u64 {
-    let stamp = tick(arena);
+// A timestamp behind the entries, which is the lane's floor where it has none.
+fn close(arena: &mut Arena, lane: u64, count: u64, stamp: u64) {
     let wrap = field(arena, lane, fields::PRESENT);
     let address = reading::stamp_address(count, wrap);
     append_slot(arena, lane, address, reading::stamp_value(stamp, wrap));
     if field(arena, lane, fields::FLOOR) == fields::NONE {
         set_field(arena, lane, fields::FLOOR, stamp);
     }
+}
+
+// A new one.
+fn append_stamp(arena: &mut Arena, lane: u64, count: u64) -> u64 {
+    let stamp = tick(arena);
+    close(arena, lane, count, stamp);
     stamp
 }
 
@@ -507,6 +546,8 @@ fn do_step(arena: &mut Arena, code: u64, lane: u64, count: u64) {
         VALIDATE => validate(arena, lane, count),
         MARK => mark(arena, lane),
         SETTLE => settle(arena, lane),
+        LOCK => locking::lock(arena, lane, count),
+        CONTINUE => locking::proceed(arena, lane),
         _ => answer(arena, DONE, 0, 0),
     }
 }
@@ -528,7 +569,7 @@ fn appending(arena: &mut Arena, code: u64, lane: u64) {
     }
 }
 
-// Log, Redo, Validate, Mark and Drain, and a Log that settles: causes 2 and 3, then 5 to 7.
+// Log, Redo, Validate, Mark, Drain, Lock and Continue, and a Log that settles: causes 2 and 3, then 5 to 7, 11 and 12.
 fn step(arena: &mut Arena, code: u64, lane: u64) {
     let number = winner(0, 3, get(arena, STATE, LANES) <= lane);
     let number = winner(number, 2, !fields::in_range(arena));
@@ -536,8 +577,7 @@ fn step(arena: &mut Arena, code: u64, lane: u64) {
         refuse(arena, number);
         return;
     }
-    let held = field(arena, lane, fields::HELD) != 0;
-    let number = phase_refusal(code, held, running::txn_ok(arena));
+    let number = phase_refusal(arena, code, lane);
     if number != 0 {
         refuse(arena, number);
     } else {

@@ -3,6 +3,7 @@
 use crate::words::Arena;
 use crate::words::CACHE;
 use crate::words::DATA;
+use crate::words::MAX_LONG;
 use crate::words::STATE;
 use crate::words::TXN;
 use crate::words::USED;
@@ -67,9 +68,10 @@ fn instruction_ok(arena: &Arena, at: u64, after: u64) -> bool {
         && k_ok(code, cell(arena, TXN, at, 3), after)
 }
 
-pub(crate) fn txn_ok(arena: &Arena) -> bool {
+// Of at most so many instructions.
+pub(crate) fn txn_ok(arena: &Arena, most: u64) -> bool {
     let length = get(arena, STATE, USED);
-    if length % 4 != 0 || length < 4 || 64 < length {
+    if length % 4 != 0 || length < 4 || most < length / 4 {
         return false;
     }
     let count = length / 4;
@@ -118,7 +120,7 @@ pub(crate) fn run(arena: &mut Arena) -> u64 {
     let end = get(arena, STATE, USED) / 4;
     let mut at = 0;
     let mut count = 0;
-    for _ in 0..16u64 {
+    for _ in 0..MAX_LONG {
         if end <= at {
             return count;
         }

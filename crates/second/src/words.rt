@@ -32,8 +32,10 @@ pub const TRAILER: u64 = 4;
 // The words of the longest image, with its trailer.
 pub const MAX_LENGTH: u64 = 5125;
 
-// The most entries of a sequence, and the most writes and instructions of a transaction.
+// The most entries of a sequence, and the most writes and instructions of a transaction; those of a long transaction.
 pub const MAX_WRITES: u64 = 16;
+
+pub const MAX_LONG: u64 = 64;
 
 // The greatest timestamp: timestamps are even.
 pub const MAX_STAMP: u64 = u64::MAX - 1;

@@ -14,7 +14,8 @@ use Rattle.image.specs.Stores.{Store, stored, places}
 use Rattle.image.specs.declared.Sizes.{Sizes}
 use Rattle.log.specs.Log.{slotAt, completeIn, latestIn, hits}
 use Rattle.log.specs.Append.{advance, appendStores, circular, restampStore}
-use Rattle.record.specs.Record.{startRecord, laneAt, cursorOf, isLogged, loggedIn, lagOk, recordOk, spent, boundOf, lagPassed, withLane, withClock, withLast}
+use Rattle.record.specs.Record.{startRecord, laneAt, cursorOf, isLogged, loggedIn, lockLength, noPairs, isHeld, lagOk, recordOk, spent, boundOf, lagPassed}
+use Rattle.record.specs.Record.{withLane, withClock, withLast}
 use Rattle.record.specs.Record.{drainedLane, appendedLane, idleLane, pairsOf}
 use Rattle.record.specs.declared.Pair.{Pair}
 use Rattle.record.specs.declared.Phase.{Phase}
@@ -25,19 +26,27 @@ use Rattle.store.specs.Machine.{Machine, Step, Cause, firstCause, unless
 
 -- ---- causes that calls share
 unfoldable pub badBuffers : Sizes → Machine → Cause
-badBuffers z m = record { number = 1; holds = not (buffersOk z (length m.cache) (length m.nvm) (length m.flags)) }
+badBuffers z m = record { number = 1; holds = not (buffersOk z (length m.cache) (length m.nvm) (length m.flags) && eqb (length m.pairs) lockLength) }
 
 unfoldable pub badRecord : Sizes → Machine → Cause
-badRecord z m = record { number = 2; holds = not (recordOk z m.state) }
+badRecord z m = record { number = 2; holds = not (recordOk z m.state m.pairs) }
 
 unfoldable pub badLane : Sizes → ℕ → Cause
 badLane z L = record { number = 3; holds = leb z.lanes L }
 
-unfoldable pub badTxn : Rule → Sizes → List ℕ → Cause
-badTxn r z f = record { number = 5; holds = not (txnBy r maxWrites z.words f) }
+-- of at most this many instructions
+unfoldable pub badTxn : Rule → (most : ℕ) → Sizes → List ℕ → Cause
+badTxn r most z f = record { number = 5; holds = not (txnBy r most z.words f) }
+
+unfoldable pub alreadyLogged : ℕ → Machine → Cause
+alreadyLogged L m = record { number = 6; holds = isLogged (laneAt m.state L .phase) }
 
 unfoldable pub notLogged : ℕ → Machine → Cause
 notLogged L m = record { number = 7; holds = not (isLogged (laneAt m.state L .phase)) }
+
+-- a step while the lock is held, on any lane
+unfoldable pub lockHeld : Machine → Cause
+lockHeld m = record { number = 11; holds = isHeld (m.state .lock) }
 
 unfoldable pub clockSpent : Machine → Cause
 clockSpent m = record { number = 8; holds = spent m.state }
@@ -51,6 +60,7 @@ unfoldable pub drained : Sizes → ℕ → Machine → Machine
 drained z L m =
     record {
       state = withLane m.state L (drainedLane (latestIn z m.cache L) (laneAt m.state L));
+      pairs = m.pairs;
       cache = m.cache;
       nvm = drainedNvm L m.flags m.cache m.nvm;
       flags = drainedFlags L m.flags;
@@ -58,7 +68,7 @@ drained z L m =
 
 -- cached stores by lane L, all flushed; the record becomes r
 unfoldable pub changed : ℕ → List Store → Record → Machine → Machine
-changed L xs r m = record { state = r; cache = stored xs m.cache; nvm = m.nvm; flags = flushAll L (places xs) m.flags }
+changed L xs r m = record { state = r; pairs = m.pairs; cache = stored xs m.cache; nvm = m.nvm; flags = flushAll L (places xs) m.flags }
 
 -- would writing n slots in lane L hit a sequence at or above the lower bound, floors as after the lane's drain
 unfoldable pub wouldHit : Sizes → ℕ → ℕ → Machine → Bool
@@ -75,7 +85,7 @@ startImage z start = 0 ∷ start ++ (replicate (2 * z.lanes * z.slots) 0 ++ trai
 
 -- a start with this lag limit: cache equals non-volatile memory, nothing is flushed
 unfoldable pub started : (lag base : ℕ) → List ℕ → Machine
-started lag base image = record { state = startRecord lag base; cache = image; nvm = image; flags = replicate (length image) 0 }
+started lag base image = record { state = startRecord lag base; pairs = noPairs; cache = image; nvm = image; flags = replicate (length image) 0 }
 
 unfoldable pub formatRefusal : Sizes → (lag : ℕ) → List ℕ → Machine → ℕ
 formatRefusal z lag start m =
@@ -95,7 +105,7 @@ writeBackRefusal z i m = firstCause (badBuffers z m ∷ record { number = 4; hol
 unfoldable pub writeBackStep : Sizes → ℕ → Machine → Step
 writeBackStep z i m =
     unless (writeBackRefusal z i m) m
-    (record { answer = Done; machine = record { state = m.state; cache = m.cache; nvm = writtenBack i m.cache m.nvm; flags = m.flags } })
+    (record { answer = Done; machine = record { state = m.state; pairs = m.pairs; cache = m.cache; nvm = writtenBack i m.cache m.nvm; flags = m.flags } })
 
 -- ---- Drain
 unfoldable pub drainRefusal : Sizes → ℕ → Machine → ℕ
@@ -105,14 +115,18 @@ unfoldable pub drainStep : Sizes → ℕ → Machine → Step
 drainStep z L m = unless (drainRefusal z L m) m (record { answer = Done; machine = drained z L m })
 
 -- ---- appending
--- a sequence of these writes appended to lane L, which then has this phase and redo log
+-- a sequence of these writes with timestamp s appended to lane L, which then has this phase and redo log; all else of the record becomes that of r
+abbrev pub appendedAt : Sizes → ℕ → (s : ℕ) → List Write → Phase → List Pair → Record → Machine → Machine
+appendedAt z L s ws phase redo r m =
+    let l = laneAt m.state L in
+    let end = advance z.slots (length ws + 1) (cursorOf l) in
+    changed L (appendStores (logStart z L) z.slots s (cursorOf l) ws) (withLane r L (appendedLane s end phase redo l)) m
+
+-- with a new timestamp
 unfoldable pub appended : Sizes → ℕ → List Write → Phase → List Pair → Machine → Machine
 appended z L ws phase redo m =
     let s = m.state .clock + 2 in
-    let l = laneAt m.state L in
-    let end = advance z.slots (length ws + 1) (cursorOf l) in
-    changed L (appendStores (logStart z L) z.slots s (cursorOf l) ws)
-    (withLane (withClock m.state s) L (appendedLane s end phase redo l)) m
+    appendedAt z L s ws phase redo (withClock m.state s) m
 
 -- a mark appended to lane L behind its drain: the lane then holds nothing, and its pairs stay
 abbrev pub marked : Sizes → ℕ → Machine → Machine
@@ -130,8 +144,9 @@ logTxnRefusalBy r z L f m =
     (badBuffers z m
     ∷ badRecord z m
     ∷ badLane z L
-    ∷ badTxn r z f
-    ∷ record { number = 6; holds = isLogged (laneAt m.state L .phase) }
+    ∷ badTxn r maxWrites z f
+    ∷ alreadyLogged L m
+    ∷ lockHeld m
     ∷ record { number = 8; holds = leb 1 n && spent m.state }
     ∷ record { number = 15; holds = leb 1 n && wouldLag z L m }
     ∷ record { number = 9; holds = leb 1 n && wouldHit z L (n + 1) m }
@@ -157,7 +172,8 @@ settleRefusal z L m =
     (badBuffers z m
     ∷ badRecord z m
     ∷ badLane z L
-    ∷ record { number = 6; holds = isLogged (laneAt m.state L .phase) }
+    ∷ alreadyLogged L m
+    ∷ lockHeld m
     ∷ clockSpent m
     ∷ record { number = 15; holds = wouldLag z L m }
     ∷ record { number = 9; holds = wouldHit z L 1 m }
@@ -199,7 +215,7 @@ committed z L ps m =
 
 -- ---- Redo
 unfoldable pub redoRefusal : Sizes → ℕ → Machine → ℕ
-redoRefusal z L m = firstCause (badBuffers z m ∷ badRecord z m ∷ badLane z L ∷ notLogged L m ∷ clockSpent m ∷ [])
+redoRefusal z L m = firstCause (badBuffers z m ∷ badRecord z m ∷ badLane z L ∷ notLogged L m ∷ lockHeld m ∷ clockSpent m ∷ [])
 
 -- is the last commit above the logged timestamp
 unfoldable pub isStale : ℕ → Machine → Bool
@@ -218,7 +234,8 @@ redoStep z L m =
 
 -- ---- Validate, by a rule as Log is
 unfoldable pub validateRefusalBy : Rule → Sizes → ℕ → List ℕ → Machine → ℕ
-validateRefusalBy r z L f m = firstCause (badBuffers z m ∷ badRecord z m ∷ badLane z L ∷ badTxn r z f ∷ notLogged L m ∷ clockSpent m ∷ [])
+validateRefusalBy r z L f m =
+    firstCause (badBuffers z m ∷ badRecord z m ∷ badLane z L ∷ badTxn r maxWrites z f ∷ notLogged L m ∷ lockHeld m ∷ clockSpent m ∷ [])
 
 -- does a slot hold a whole entry of this write's word and old value; wrap bits are not compared
 unfoldable pub entryMatches : Write → Content → Bool
@@ -240,7 +257,7 @@ matches z L ws m =
 
 -- a lane that gives up its logged transaction; the log keeps the sequence
 unfoldable pub released : ℕ → Machine → Machine
-released L m = record { state = withLane m.state L (idleLane (laneAt m.state L)); cache = m.cache; nvm = m.nvm; flags = m.flags }
+released L m = record { state = withLane m.state L (idleLane (laneAt m.state L)); pairs = m.pairs; cache = m.cache; nvm = m.nvm; flags = m.flags }
 
 unfoldable pub validateStepBy : Rule → Sizes → ℕ → List ℕ → Machine → Step
 validateStepBy r z L f m =
@@ -264,6 +281,7 @@ markRefusal z L m =
     (badBuffers z m
     ∷ badRecord z m
     ∷ badLane z L
+    ∷ lockHeld m
     ∷ clockSpent m
     ∷ record { number = 9; holds = wouldHit z L 1 m }
     ∷ [])

@@ -1,4 +1,5 @@
 pub mod Machine
 pub mod Calls
+pub mod Locks
 pub mod Interface
 pub mod inner

@@ -1,16 +1,18 @@
--- The machine that a call works on: the record and the three buffers; a step of it; refusals; what an answer says. SPECIFICATION, "Machine, refusals and
--- answers". Assumes nothing.
+-- The machine that a call works on: the record, the lock's pairs and the three buffers; a step of it; refusals; what an answer says. SPECIFICATION,
+-- "Machine, refusals and answers". Assumes nothing.
 use Prim.Native.Nat.{ℕ}
 use mathlib.Core.Bool.{Bool, true, false, cond}
 use mathlib.Core.List.{List, [], _∷_}
 use lib.Dec.{eqb}
 use Rattle.record.specs.declared.Record.{Record}
 use Rattle.store.specs.declared.Answer.{Answer}
-use Rattle.store.specs.declared.Answer.the-variants.{Refused, Done, NoWrites, Logged, Settled, Committed, Stale, Changed, Marked}
+use Rattle.store.specs.declared.Answer.the-variants.{Refused, Done, NoWrites, Logged, Settled, Committed, Stale, Changed, Marked, Locked}
 
--- record, cached image, non-volatile memory (its words are the cells), flag bytes
+-- record, the pairs of the transaction that holds the lock (a part of the record that is lent as words), cached image, non-volatile memory (its words are
+-- the cells), flag bytes
 pub record Machine : Type 0 where
   pub state : Record
+  pub pairs : List ℕ
   pub cache : List ℕ
   pub nvm : List ℕ
   pub flags : List ℕ
@@ -40,8 +42,10 @@ pub record Said : Type 0 where
   -- was the call refused, and by which number: 0 where it was not
   pub refused : Bool
   pub number : ℕ
-  -- the count of writes that Log answers, the new timestamp, and whether Mark dropped a transaction: a list of one, or of none
+  -- the count of writes that Log answers, how many writes of a locked transaction are not yet made, the timestamp, and whether Mark dropped a
+  -- transaction: a list of one, or of none
   pub count : List ℕ
+  pub left : List ℕ
   pub stamp : List ℕ
   pub dropped : List Bool
   -- a commit since the logged one; other writes than those logged
@@ -50,12 +54,13 @@ pub record Said : Type 0 where
 
 -- what each answer says; no two answers of calls say the same (`SaidLaws.said-apart`)
 unfoldable pub said : Answer → Said
-said (Refused n) = record { refused = true; number = n; count = []; stamp = []; dropped = []; stale = false; changed = false }
-said Done = record { refused = false; number = 0; count = []; stamp = []; dropped = []; stale = false; changed = false }
-said NoWrites = record { refused = false; number = 0; count = 0 ∷ []; stamp = []; dropped = []; stale = false; changed = false }
-said (Logged a) = record { refused = false; number = 0; count = a.count ∷ []; stamp = a.stamp ∷ []; dropped = []; stale = false; changed = false }
-said (Settled s) = record { refused = false; number = 0; count = 0 ∷ []; stamp = s ∷ []; dropped = []; stale = false; changed = false }
-said (Committed s) = record { refused = false; number = 0; count = []; stamp = s ∷ []; dropped = []; stale = false; changed = false }
-said Stale = record { refused = false; number = 0; count = []; stamp = []; dropped = []; stale = true; changed = false }
-said Changed = record { refused = false; number = 0; count = []; stamp = []; dropped = []; stale = false; changed = true }
-said (Marked a) = record { refused = false; number = 0; count = []; stamp = a.stamp ∷ []; dropped = a.dropped ∷ []; stale = false; changed = false }
+said (Refused n) = record { refused = true; number = n; count = []; left = []; stamp = []; dropped = []; stale = false; changed = false }
+said Done = record { refused = false; number = 0; count = []; left = []; stamp = []; dropped = []; stale = false; changed = false }
+said NoWrites = record { refused = false; number = 0; count = 0 ∷ []; left = []; stamp = []; dropped = []; stale = false; changed = false }
+said (Logged a) = record { refused = false; number = 0; count = a.count ∷ []; left = []; stamp = a.stamp ∷ []; dropped = []; stale = false; changed = false }
+said (Settled s) = record { refused = false; number = 0; count = 0 ∷ []; left = []; stamp = s ∷ []; dropped = []; stale = false; changed = false }
+said (Committed s) = record { refused = false; number = 0; count = []; left = []; stamp = s ∷ []; dropped = []; stale = false; changed = false }
+said Stale = record { refused = false; number = 0; count = []; left = []; stamp = []; dropped = []; stale = true; changed = false }
+said Changed = record { refused = false; number = 0; count = []; left = []; stamp = []; dropped = []; stale = false; changed = true }
+said (Marked a) = record { refused = false; number = 0; count = []; left = []; stamp = a.stamp ∷ []; dropped = a.dropped ∷ []; stale = false; changed = false }
+said (Locked a) = record { refused = false; number = 0; count = []; left = a.left ∷ []; stamp = a.stamp ∷ []; dropped = []; stale = false; changed = false }

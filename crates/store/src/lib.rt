@@ -9,6 +9,7 @@ ghost use Rattle.txn.specs.inner.Writes.{writesOf};
 ghost use Rattle.image.specs.Image.{sizesOk, formerLength, trailer, imageLength, dataOf};
 ghost use Rattle.image.specs.inner.Facts.{IsImage};
 ghost use Rattle.log.specs.Log.{latestIn};
+ghost use Rattle.record.specs.Record.{noPairs};
 ghost use Rattle.store.specs.Calls.{startImage, formatRefusal, formatStep, writeBackRefusal, writeBackStep};
 ghost use Rattle.store.specs.Calls.{drainRefusal, drainStep};
 ghost use Rattle.store.specs.Interface.{machineOf, blankOf, stepOf, blankStepOf};
@@ -30,13 +31,19 @@ pub struct Marked {
     pub dropped: bool,
 }
 
+// What Lock and Continue answer: how many writes of the locked transaction are not yet made, and its timestamp.
+pub struct Progress {
+    pub left: usize,
+    pub stamp: u64,
+}
+
 // The answer of a call.
 pub enum Answer {
     // the number of the refusal; nothing is altered
     Refused(u64),
     // Format, write-back, Drain
     Done,
-    // Log of a transaction that writes nothing: count 0, and no timestamp
+    // Log or Lock of a transaction that writes nothing: count 0, and no timestamp
     NoWrites,
     // Log
     Logged(Appended),
@@ -50,6 +57,8 @@ pub enum Answer {
     Changed,
     // Mark
     Marked(Marked),
+    // Lock and Continue
+    Locked(Progress),
 }
 
 // The answer with the record: an enum cannot hold the record's arrays.
@@ -153,7 +162,7 @@ pub fn format(
     nvm: &mut [u64],
     flags: &mut [u8],
 ) -> Outcome
-    ensures { λ r. ⌜ stepOf r (now (cache .exit)) (now (nvm .exit)) (now (flags .exit))
+    ensures { λ r. ⌜ stepOf r noPairs (now (cache .exit)) (now (nvm .exit)) (now (flags .exit))
         ≡ formatStep sizes lag (now (start .entry))
         (blankOf (now (cache .entry)) (now (nvm .entry)) (now (flags .entry))) ⌝ }
 {
@@ -205,18 +214,22 @@ pub fn write_back(sizes: Sizes, cache: &[u64], nvm: &mut [u64], flags: &[u8], wo
 pub fn drain_refusal(
     sizes: Sizes,
     state: Record,
+    pairs: &[u64],
     cache: &[u64],
     nvm: &[u64],
     flags: &[u8],
     lane: usize,
 ) -> u64
     ensures { λ r. ⌜ r ≡ drainRefusal sizes lane
-        (machineOf state (now (cache .entry)) (now (nvm .entry)) (now (flags .entry))) ⌝ }
+        (machineOf state (now (pairs .entry)) (now (cache .entry)) (now (nvm .entry)) (now (flags .entry))) ⌝ }
 {
     if !image::buffers_ok(sizes, cache.len(), nvm.len(), flags.len()) {
         return 1;
     }
-    if !record::record_ok(sizes, state) {
+    if pairs.len() != record::LOCK_WORDS {
+        return 1;
+    }
+    if !record::record_ok(sizes, state, pairs) {
         return 2;
     }
     if sizes.lanes <= lane {
@@ -260,15 +273,17 @@ pub fn drained_state(sizes: Sizes, state: Record, cache: &[u64], lane: usize) ->
 pub fn drain(
     sizes: Sizes,
     state: Record,
+    pairs: &[u64],
     cache: &[u64],
     nvm: &mut [u64],
     flags: &mut [u8],
     lane: usize,
 ) -> Outcome
-    ensures { λ r. ⌜ stepOf r (now (cache .entry)) (now (nvm .exit)) (now (flags .exit))
-        ≡ drainStep sizes lane (machineOf state (now (cache .entry)) (now (nvm .entry)) (now (flags .entry))) ⌝ }
+    ensures { λ r. ⌜ stepOf r (now (pairs .entry)) (now (cache .entry)) (now (nvm .exit)) (now (flags .exit))
+        ≡ drainStep sizes lane
+        (machineOf state (now (pairs .entry)) (now (cache .entry)) (now (nvm .entry)) (now (flags .entry))) ⌝ }
 {
-    let number = drain_refusal(sizes, state, cache, nvm, flags, lane);
+    let number = drain_refusal(sizes, state, pairs, cache, nvm, flags, lane);
     if number != 0 {
         return refused(number, state);
     }

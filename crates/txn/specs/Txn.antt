@@ -10,6 +10,10 @@ use Rattle.txn.specs.declared.Write.{Write}
 abbrev pub maxWrites : ℕ
 maxWrites = 16
 
+-- the most instructions of a long transaction, which runs under the lock
+abbrev pub maxLong : ℕ
+maxLong = 64
+
 -- the greatest distance of SKIP
 abbrev pub maxDistance : ℕ
 maxDistance = 15

@@ -4,12 +4,15 @@ ghost use mathlib.Core.Bool.{true, cond, _&&_};
 ghost use Prim.Native.Nat.{_+_, _%_, _^_, _≤_, _<_};
 ghost use lib.Dec.{eqb, leb};
 ghost use lib.ListN.{getD, length};
-ghost use Rattle.txn.specs.Txn.{maxWrites, maxDistance, instructionOk, txnOk, run};
-ghost use Rattle.txn.specs.inner.Writes.{writesOf};
+ghost use Rattle.txn.specs.Txn.{maxWrites, maxLong, maxDistance, instructionOk, txnOk, run};
+ghost use Rattle.txn.specs.inner.Writes.{laid, writesOf, longWritesOf};
 ghost use Rattle.txn.specs.inner.Lookup.{buckets, latest};
 
 // The most instructions of a transaction, and so the most writes: an instruction makes one or none.
 pub const MAX_WRITES: usize = 16;
+
+// The most instructions of a long transaction, which runs under the lock.
+pub const MAX_LONG: usize = 64;
 
 // The greatest distance of SKIP.
 const MAX_DISTANCE: u64 = 15;
@@ -28,6 +31,12 @@ pub struct Write {
 pub struct Writes {
     pub count: usize,
     pub list: [Write; MAX_WRITES],
+}
+
+// The same of a long transaction.
+pub struct LongWrites {
+    pub count: usize,
+    pub list: [Write; MAX_LONG],
 }
 
 // Is SKIP's distance k in range, where `after` instructions follow it?
@@ -57,10 +66,10 @@ fn instruction_ok(code: u64, a: u64, b: u64, k: u64, words: usize, after: usize)
     }
 }
 
-// Are the words 1 to MAX_WRITES well-formed instructions? Every instruction is looked at, those that a run may pass
-// over too.
-pub fn txn_ok(txn: &[u64], words: usize) -> bool
-    ensures { λ r. ⌜ r ≡ txnOk maxWrites words (now (txn .entry)) ⌝ }
+// Are the words 1 to `most` well-formed instructions? Every instruction is looked at, those that a run may pass over
+// too.
+pub fn txn_ok(txn: &[u64], words: usize, most: usize) -> bool
+    ensures { λ r. ⌜ r ≡ txnOk most words (now (txn .entry)) ⌝ }
 {
     if txn.len() % 4 != 0 {
         return false;
@@ -69,7 +78,7 @@ pub fn txn_ok(txn: &[u64], words: usize) -> bool
     if count < 1 {
         return false;
     }
-    if MAX_WRITES < count {
+    if most < count {
         return false;
     }
     for i in 0..count {
@@ -90,14 +99,9 @@ pub fn txn_ok(txn: &[u64], words: usize) -> bool
 
 // The value of a word after the writes so far: that of the last write to it, or the data's. It looks back over the
 // words written, from the last write to the word's bucket on.
-fn value(
-    words: &[usize; MAX_WRITES],
-    news: &[u64; MAX_WRITES],
-    last: &[u8; BUCKETS],
-    memory: &[u64],
-    word: usize,
-) -> u64
-    requires { ⌜ getD (now last) (word % buckets) 0 ≤ maxWrites ⌝ }
+fn value(words: &[usize], news: &[u64], last: &[u8; BUCKETS], memory: &[u64], word: usize) -> u64
+    requires { ⌜ getD (now last) (word % buckets) 0 ≤ length (now words) ⌝ }
+    requires { ⌜ length (now news) ≡ length (now words) ⌝ }
     requires { ⌜ word < length (now memory) ⌝ }
     ensures { λ r. ⌜ r
         ≡ latest (now (words .entry)) (now (news .entry)) (getD (now (last .entry)) (word % buckets) 0)
@@ -136,23 +140,33 @@ fn distance(x: u64, k: u64) -> u64
     0
 }
 
-// The writes of a transaction, each instruction seeing those before it; the data stay as they are. A word is looked up
-// at once, unless the transaction writes several words of its bucket.
-pub fn run(txn: &[u64], memory: &[u64]) -> Writes
-    requires { ⌜ txnOk maxWrites (length (now memory)) (now txn) ≡ true ⌝ }
-    ensures { λ r. ⌜ r
-        ≡ writesOf maxWrites (run (length (now (memory .entry))) (now (txn .entry)) (now (memory .entry))) ⌝ }
+// The writes of a transaction, each instruction seeing those before it; the data stay as they are. The words, the old
+// values and the new ones are laid into the three slices, and the answer is how many there are. A word is looked up at
+// once, unless the transaction writes several words of its bucket.
+fn run_in(
+    txn: &[u64],
+    memory: &[u64],
+    words: &mut [usize],
+    olds: &mut [u64],
+    news: &mut [u64],
+) -> usize
+    requires { ⌜ txnOk (length (now words)) (length (now memory)) (now txn) ≡ true ⌝ }
+    requires { ⌜ length (now olds) ≡ length (now words) ⌝ }
+    requires { ⌜ length (now news) ≡ length (now words) ⌝ }
+    requires { ⌜ length (now words) ≤ maxLong ⌝ }
+    ensures counted { λ r. ⌜ r
+        ≡ length (run (length (now (memory .entry))) (now (txn .entry)) (now (memory .entry))) ⌝ }
+    ensures words { λ r. ⌜ now (words .exit)
+        ≡ laid (λ w. w .word) (run (length (now (memory .entry))) (now (txn .entry)) (now (memory .entry)))
+        (now (words .entry)) ⌝ }
+    ensures olds { λ r. ⌜ now (olds .exit)
+        ≡ laid (λ w. w .old) (run (length (now (memory .entry))) (now (txn .entry)) (now (memory .entry)))
+        (now (olds .entry)) ⌝ }
+    ensures news { λ r. ⌜ now (news .exit)
+        ≡ laid (λ w. w .new) (run (length (now (memory .entry))) (now (txn .entry)) (now (memory .entry)))
+        (now (news .entry)) ⌝ }
 {
-    let none = Write {
-        word: 0,
-        old: 0,
-        new: 0,
-    };
-    let mut list = [none; MAX_WRITES];
-    // the words and the new values once more, to be lent, and for each bucket the number of writes up to the last one
-    // to it, or 0
-    let mut words = [0usize; MAX_WRITES];
-    let mut news = [0u64; MAX_WRITES];
+    // for each bucket the number of writes up to the last one to it, or 0
     let mut last = [0u8; BUCKETS];
     let mut count = 0;
     let end = txn.len() / 4;
@@ -162,20 +176,72 @@ pub fn run(txn: &[u64], memory: &[u64]) -> Writes
         i += 1;
         let code = txn[at];
         let k = txn[at + 3];
-        let x = value(&words, &news, &last, memory, txn[at + 2] as usize);
+        let x = value(words, news, &last, memory, txn[at + 2] as usize);
         if code == 5 {
             i += distance(x, k) as usize;
             continue;
         }
         // a checked transaction has no POKE, which alone would write another word than a
         let word = txn[at + 1] as usize;
-        let old = value(&words, &news, &last, memory, word);
+        let old = value(words, news, &last, memory, word);
         let new = result(code, x, k);
-        list[count] = Write { word, old, new };
         words[count] = word;
+        olds[count] = old;
         news[count] = new;
         count += 1;
         last[word % BUCKETS] = count as u8;
     }
+    count
+}
+
+// The writes of a transaction, each instruction seeing those before it; the data stay as they are.
+pub fn run(txn: &[u64], memory: &[u64]) -> Writes
+    requires { ⌜ txnOk maxWrites (length (now memory)) (now txn) ≡ true ⌝ }
+    ensures { λ r. ⌜ r
+        ≡ writesOf maxWrites (run (length (now (memory .entry))) (now (txn .entry)) (now (memory .entry))) ⌝ }
+{
+    let mut words = [0usize; MAX_WRITES];
+    let mut olds = [0u64; MAX_WRITES];
+    let mut news = [0u64; MAX_WRITES];
+    let count = run_in(txn, memory, &mut words, &mut olds, &mut news);
+    let none = Write {
+        word: 0,
+        old: 0,
+        new: 0,
+    };
+    let mut list = [none; MAX_WRITES];
+    for i in 0..count {
+        list[i] = Write {
+            word: words[i],
+            old: olds[i],
+            new: news[i],
+        };
+    }
     Writes { count, list }
+}
+
+// The same of a long transaction.
+pub fn run_long(txn: &[u64], memory: &[u64]) -> LongWrites
+    requires { ⌜ txnOk maxLong (length (now memory)) (now txn) ≡ true ⌝ }
+    ensures { λ r. ⌜ r
+        ≡ longWritesOf maxLong (run (length (now (memory .entry))) (now (txn .entry)) (now (memory .entry))) ⌝ }
+{
+    let mut words = [0usize; MAX_LONG];
+    let mut olds = [0u64; MAX_LONG];
+    let mut news = [0u64; MAX_LONG];
+    let count = run_in(txn, memory, &mut words, &mut olds, &mut news);
+    let none = Write {
+        word: 0,
+        old: 0,
+        new: 0,
+    };
+    let mut list = [none; MAX_LONG];
+    for i in 0..count {
+        list[i] = Write {
+            word: words[i],
+            old: olds[i],
+            new: news[i],
+        };
+    }
+    LongWrites { count, list }
 }

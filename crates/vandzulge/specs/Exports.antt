@@ -2,19 +2,30 @@
 -- functions". Assumes nothing.
 use Prim.Native.Nat.{ℕ}
 use mathlib.Core.Bool.{Bool, cond, _&&_, _||_}
-use mathlib.Core.List.{List, [], _∷_}
+use mathlib.Core.List.{List, [], _∷_, _++_}
 use lib.Dec.{eqb}
-use lib.ListN.{length, getD}
+use lib.ListN.{length, getD, take, drop}
 use Rattle.image.specs.declared.Sizes.{Sizes}
 use Rattle.log.specs.declared.Timestamp.{Timestamp}
 use Rattle.log.specs.declared.Timestamp.the-variants.{None, At}
+use Rattle.record.specs.declared.Record.{Record}
 use Rattle.store.specs.Machine.{Machine, Step, Said, said}
 use Rattle.recovery.specs.Recovery.{Restarted, Told, told}
-use Rattle.codec.specs.Fields.{recordLength, bitFor, wordsOf}
+use Rattle.codec.specs.Fields.{recordLength, stateLength, bitFor, recordOf, wordsOf}
 
 -- W, T, N
 abbrev pub sizesOf : (words lanes slots : ℕ) → Sizes
 sizesOf words lanes slots = record { words = words; lanes = lanes; slots = slots }
+
+-- ---- the record's words: those before the lock's pairs, then the pairs
+abbrev pub recordIn : List ℕ → Record
+recordIn state = recordOf (take recordLength state)
+
+abbrev pub pairsIn : List ℕ → List ℕ
+pairsIn state = drop recordLength state
+
+abbrev pub stateOf : Machine → List ℕ
+stateOf m = wordsOf (m .state) ++ m .pairs
 
 -- how many words an answer has
 abbrev pub answerLength : ℕ
@@ -22,22 +33,24 @@ answerLength = 4
 
 -- do the lent slices have the lengths of a record, and of a record and an answer
 unfoldable pub recordFits : List ℕ → Bool
-recordFits state = eqb (length state) recordLength
+recordFits state = eqb (length state) stateLength
 
 unfoldable pub bothFit : (state answer : List ℕ) → Bool
 bothFit state answer = recordFits state && eqb (length answer) answerLength
 
 -- ---- the words of an answer
--- the first word: Log's count; 1 where Mark dropped a transaction; 1 where Redo or Validate committed, which answer a timestamp alone; else 0
-unfoldable pub firstWord : (count : List ℕ) → (dropped : List Bool) → (stamp : List ℕ) → ℕ
-firstWord (n ∷ ns) ds ss = n
-firstWord [] (d ∷ ds) ss = bitFor d
-firstWord [] [] (s ∷ ss) = 1
-firstWord [] [] [] = 0
+-- the first word: Log's count; how many writes of a locked transaction are not yet made; 1 where Mark dropped a transaction; 1 where Redo or Validate
+-- committed, which answer a timestamp alone; else 0
+unfoldable pub firstWord : (count left : List ℕ) → (dropped : List Bool) → (stamp : List ℕ) → ℕ
+firstWord (n ∷ ns) ls ds ss = n
+firstWord [] (l ∷ ls) ds ss = l
+firstWord [] [] (d ∷ ds) ss = bitFor d
+firstWord [] [] [] (s ∷ ss) = 1
+firstWord [] [] [] [] = 0
 
 -- the second is the timestamp, 0 where there is none; the others are 0
 unfoldable pub saidWords : Said → List ℕ
-saidWords s = firstWord (s .count) (s .dropped) (s .stamp) ∷ getD (s .stamp) 0 0 ∷ 0 ∷ 0 ∷ []
+saidWords s = firstWord (s .count) (s .left) (s .dropped) (s .stamp) ∷ getD (s .stamp) 0 0 ∷ 0 ∷ 0 ∷ []
 
 -- what a slice then holds: where the call is taken, new words; else those before
 unfoldable pub whereTaken : (number : ℕ) → (new before : List ℕ) → List ℕ
@@ -58,12 +71,12 @@ leftBy number state cache nvm flags = record { number = number; state = state; c
 abbrev pub leftWith : (number : ℕ) → (state : List ℕ) → Machine → Left
 leftWith number state m = leftBy number state (m .cache) (m .nvm) (m .flags)
 
--- after a call on a machine, whose record stood in these words; slices that do not fit are refusal 1
+-- after a call on a machine, whose record and pairs stood in these words; slices that do not fit are refusal 1
 unfoldable pub leaves : (fits : Bool) → (state : List ℕ) → (Machine → Step) → Machine → Left
 leaves fits state call m =
     let s = call m in
     let number = said (s .answer) .number in
-    cond fits (leftWith number (whereTaken number (wordsOf (s .machine .state)) state) (s .machine)) (leftWith 1 state m)
+    cond fits (leftWith number (whereTaken number (stateOf (s .machine)) state) (s .machine)) (leftWith 1 state m)
 
 -- the answer's words after it
 unfoldable pub replies : (fits : Bool) → (answer : List ℕ) → (Machine → Step) → Machine → List ℕ
@@ -85,12 +98,12 @@ finishedWords (At b) undone torn = 2 ∷ b ∷ undone ∷ torn ∷ []
 unfoldable pub toldWords : Told → List ℕ
 toldWords t = whereFinished t (finishedWords (t .boundary) (getD (t .undone) 0 0) (getD (t .torn) 0 0)) (0 ∷ 0 ∷ 0 ∷ 0 ∷ [])
 
--- a recovery that is refused or cut short leaves the record's words as they were
+-- a recovery that is refused or cut short leaves the record's words as they were; one that finished has pairs of 0
 unfoldable pub restarts : (fits : Bool) → (state : List ℕ) → (Machine → Restarted) → Machine → Left
 restarts fits state call m =
     let s = call m in
     let t = told (s .answer) in
-    cond fits (leftWith (t .number) (whereFinished t (wordsOf (s .machine .state)) state) (s .machine)) (leftWith 1 state m)
+    cond fits (leftWith (t .number) (whereFinished t (stateOf (s .machine)) state) (s .machine)) (leftWith 1 state m)
 
 unfoldable pub restartReplies : (fits : Bool) → (answer : List ℕ) → (Machine → Restarted) → Machine → List ℕ
 restartReplies fits answer call m =

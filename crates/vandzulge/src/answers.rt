@@ -1,16 +1,20 @@
 // What the calls answer, as a number and four words.
 use crate::ANSWER_WORDS;
+use codec::RECORD_WORDS;
 use log::Timestamp;
+use record::Record;
 use recovery::Recovered;
 use recovery::Restart;
 use store::Answer;
 use store::Outcome;
 ghost use mathlib.Core.Path.{_≡_};
+ghost use mathlib.Core.List.{_++_};
 ghost use lib.ListN.{length};
+ghost use Rattle.record.specs.Record.{noPairs};
 ghost use Rattle.store.specs.Machine.{said};
 ghost use Rattle.recovery.specs.Recovery.{told};
-ghost use Rattle.codec.specs.Fields.{recordLength, wordsOf};
-ghost use Rattle.vandzulge.specs.Exports.{answerLength, whereTaken, saidWords};
+ghost use Rattle.codec.specs.Fields.{stateLength, wordsOf};
+ghost use Rattle.vandzulge.specs.Exports.{pairsIn, answerLength, whereTaken, saidWords};
 ghost use Rattle.vandzulge.specs.Exports.{whereFinished, finishedWords, toldWords};
 
 // The number of the refusal, 0 where it is none.
@@ -27,6 +31,7 @@ pub(crate) fn number_in(answer: Answer) -> u64
         Answer::Stale => 0,
         Answer::Changed => 0,
         Answer::Marked(_) => 0,
+        Answer::Locked(_) => 0,
     }
 }
 
@@ -43,15 +48,17 @@ fn answer_words(answer: Answer) -> [u64; ANSWER_WORDS]
         Answer::Stale => [0, 0, 0, 0],
         Answer::Changed => [0, 0, 0, 0],
         Answer::Marked(marked) => [codec::bit_for(marked.dropped), marked.stamp, 0, 0],
+        Answer::Locked(progress) => [progress.left as u64, progress.stamp, 0, 0],
     }
 }
 
-// Writes the record where the call was taken; its number.
+// Writes the record where the call was taken, and leaves the lock's pairs; its number.
 pub(crate) fn put_record(outcome: Outcome, state: &mut [u64]) -> u64
-    requires { ⌜ length (now state) ≡ recordLength ⌝ }
+    requires { ⌜ length (now state) ≡ stateLength ⌝ }
     ensures number { λ r. ⌜ r ≡ said (outcome .answer) .number ⌝ }
     ensures words { λ r. ⌜ now (state .exit)
-        ≡ whereTaken (said (outcome .answer) .number) (wordsOf (outcome .state)) (now (state .entry)) ⌝ }
+        ≡ whereTaken (said (outcome .answer) .number) (wordsOf (outcome .state) ++ pairsIn (now (state .entry)))
+        (now (state .entry)) ⌝ }
 {
     let answer = outcome.answer;
     let number = number_in(answer);
@@ -59,8 +66,33 @@ pub(crate) fn put_record(outcome: Outcome, state: &mut [u64]) -> u64
         return number;
     }
     let after = outcome.state;
-    codec::record_to(after, state);
+    codec::record_to(after, &mut state[..RECORD_WORDS]);
     0
+}
+
+// The words of a record at a start, which has no pairs.
+fn put_start(after: Record, state: &mut [u64])
+    requires { ⌜ length (now state) ≡ stateLength ⌝ }
+    ensures { λ r. ⌜ now (state .exit) ≡ wordsOf after ++ noPairs ⌝ }
+{
+    codec::record_to(after, &mut state[..RECORD_WORDS]);
+    image::bulk::clear_words(&mut state[RECORD_WORDS..]);
+}
+
+// Writes the record of a start where the call was taken; its number.
+pub(crate) fn start(outcome: Outcome, state: &mut [u64]) -> u64
+    requires { ⌜ length (now state) ≡ stateLength ⌝ }
+    ensures number { λ r. ⌜ r ≡ said (outcome .answer) .number ⌝ }
+    ensures words { λ r. ⌜ now (state .exit)
+        ≡ whereTaken (said (outcome .answer) .number) (wordsOf (outcome .state) ++ noPairs) (now (state .entry)) ⌝ }
+{
+    let answer = outcome.answer;
+    let number = number_in(answer);
+    if number == 0 {
+        let after = outcome.state;
+        put_start(after, state);
+    }
+    number
 }
 
 // Writes the answer's words where the call was taken.
@@ -108,12 +140,12 @@ fn recovered_words(answer: Recovered) -> [u64; ANSWER_WORDS]
     }
 }
 
-// Writes the record where recovery finished; its number.
+// Writes the record of a start where recovery finished; its number.
 pub(crate) fn restart(from: Restart, state: &mut [u64]) -> u64
-    requires { ⌜ length (now state) ≡ recordLength ⌝ }
+    requires { ⌜ length (now state) ≡ stateLength ⌝ }
     ensures number { λ r. ⌜ r ≡ told (from .answer) .number ⌝ }
     ensures words { λ r. ⌜ now (state .exit)
-        ≡ whereFinished (told (from .answer)) (wordsOf (from .state)) (now (state .entry)) ⌝ }
+        ≡ whereFinished (told (from .answer)) (wordsOf (from .state) ++ noPairs) (now (state .entry)) ⌝ }
 {
     let answer = from.answer;
     match answer {
@@ -121,7 +153,7 @@ pub(crate) fn restart(from: Restart, state: &mut [u64]) -> u64
         Recovered::Cut => 0,
         Recovered::Finished(_) => {
             let after = from.state;
-            codec::record_to(after, state);
+            put_start(after, state);
             0
         }
     }

@@ -1,15 +1,16 @@
 // The calls for other languages: numbers and slices only. Each returns 0 where the call is taken, else the number of
-// its refusal, and then it has touched nothing. The sizes are W, T and N. `state` is the record in words, `answer` has
-// 4 words; another length of either is refusal 1.
+// its refusal, and then it has touched nothing. The sizes are W, T and N. `state` is the record in words, the lock's
+// pairs behind it, `answer` has 4 words; another length of either is refusal 1.
 ghost use mathlib.Core.Path.{_≡_};
 ghost use Rattle.store.specs.Machine.{said};
 ghost use Rattle.store.specs.Calls.{formatStep, writeBackStep, drainStep, logStep, redoStep, validateStep, markStep};
+ghost use Rattle.store.specs.Locks.{lockStep, proceedStep};
 ghost use Rattle.store.specs.Interface.{machineOf, blankOf};
 ghost use Rattle.recovery.specs.Recovery.{recoverStep, recoverReadStep};
-ghost use Rattle.codec.specs.Fields.{recordOf};
-ghost use Rattle.vandzulge.specs.Exports.{sizesOf, recordFits, bothFit};
+ghost use Rattle.vandzulge.specs.Exports.{sizesOf, recordIn, pairsIn, recordFits, bothFit};
 ghost use Rattle.vandzulge.specs.Exports.{leftBy, leaves, replies, restarts, restartReplies};
 use codec::RECORD_WORDS;
+use codec::STATE_WORDS;
 use image::Sizes;
 
 mod answers;
@@ -17,7 +18,8 @@ mod answers;
 // How many words an answer has.
 const ANSWER_WORDS: usize = 4;
 
-// Starts the store with these words and this lag limit. The record becomes the start record; its words are not read.
+// Starts the store with these words and this lag limit. The record becomes the start record, with pairs of 0; its words
+// are not read.
 #[no_mangle]
 pub extern "C" fn vandzulge_format(
     words: usize,
@@ -35,7 +37,7 @@ pub extern "C" fn vandzulge_format(
         (formatStep (sizesOf words lanes slots) lag (now (start .entry)))
         (blankOf (now (cache .entry)) (now (nvm .entry)) (now (flags .entry))) ⌝ }
 {
-    if state.len() != RECORD_WORDS {
+    if state.len() != STATE_WORDS {
         return 1;
     }
     let sizes = Sizes {
@@ -44,7 +46,7 @@ pub extern "C" fn vandzulge_format(
         slots,
     };
     let outcome = store::format(sizes, lag, start, cache, nvm, flags);
-    answers::put_record(outcome, state)
+    answers::start(outcome, state)
 }
 
 // Copies one word of the image to non-volatile memory. It takes no record and has no answer.
@@ -88,9 +90,10 @@ pub extern "C" fn vandzulge_drain(
     ensures { λ r. ⌜ leftBy r (now (state .exit)) (now (cache .entry)) (now (nvm .exit)) (now (flags .exit))
         ≡ leaves (recordFits (now (state .entry))) (now (state .entry))
         (drainStep (sizesOf words lanes slots) lane)
-        (machineOf (recordOf (now (state .entry))) (now (cache .entry)) (now (nvm .entry)) (now (flags .entry))) ⌝ }
+        (machineOf (recordIn (now (state .entry))) (pairsIn (now (state .entry)))
+        (now (cache .entry)) (now (nvm .entry)) (now (flags .entry))) ⌝ }
 {
-    if state.len() != RECORD_WORDS {
+    if state.len() != STATE_WORDS {
         return 1;
     }
     let sizes = Sizes {
@@ -98,8 +101,16 @@ pub extern "C" fn vandzulge_drain(
         lanes,
         slots,
     };
-    let before = codec::record_from(state);
-    let outcome = store::drain(sizes, before, cache, nvm, flags, lane);
+    let before = codec::record_from(&state[..RECORD_WORDS]);
+    let outcome = store::drain(
+        sizes,
+        before,
+        &state[RECORD_WORDS..],
+        cache,
+        nvm,
+        flags,
+        lane,
+    );
     answers::put_record(outcome, state)
 }
 
@@ -121,13 +132,15 @@ pub extern "C" fn vandzulge_log(
     ensures left { λ r. ⌜ leftBy r (now (state .exit)) (now (cache .exit)) (now (nvm .exit)) (now (flags .exit))
         ≡ leaves (bothFit (now (state .entry)) (now (answer .entry))) (now (state .entry))
         (logStep (sizesOf words lanes slots) lane (now (txn .entry)))
-        (machineOf (recordOf (now (state .entry))) (now (cache .entry)) (now (nvm .entry)) (now (flags .entry))) ⌝ }
+        (machineOf (recordIn (now (state .entry))) (pairsIn (now (state .entry)))
+        (now (cache .entry)) (now (nvm .entry)) (now (flags .entry))) ⌝ }
     ensures answered { λ r. ⌜ now (answer .exit)
         ≡ replies (bothFit (now (state .entry)) (now (answer .entry))) (now (answer .entry))
         (logStep (sizesOf words lanes slots) lane (now (txn .entry)))
-        (machineOf (recordOf (now (state .entry))) (now (cache .entry)) (now (nvm .entry)) (now (flags .entry))) ⌝ }
+        (machineOf (recordIn (now (state .entry))) (pairsIn (now (state .entry)))
+        (now (cache .entry)) (now (nvm .entry)) (now (flags .entry))) ⌝ }
 {
-    if state.len() != RECORD_WORDS {
+    if state.len() != STATE_WORDS {
         return 1;
     }
     if answer.len() != ANSWER_WORDS {
@@ -138,8 +151,17 @@ pub extern "C" fn vandzulge_log(
         lanes,
         slots,
     };
-    let before = codec::record_from(state);
-    let outcome = append::log(sizes, before, cache, nvm, flags, lane, txn);
+    let before = codec::record_from(&state[..RECORD_WORDS]);
+    let outcome = append::log(
+        sizes,
+        before,
+        &state[RECORD_WORDS..],
+        cache,
+        nvm,
+        flags,
+        lane,
+        txn,
+    );
     let given = outcome.answer;
     answers::reply(given, answer);
     answers::put_record(outcome, state)
@@ -161,13 +183,15 @@ pub extern "C" fn vandzulge_redo(
     ensures left { λ r. ⌜ leftBy r (now (state .exit)) (now (cache .exit)) (now (nvm .exit)) (now (flags .exit))
         ≡ leaves (bothFit (now (state .entry)) (now (answer .entry))) (now (state .entry))
         (redoStep (sizesOf words lanes slots) lane)
-        (machineOf (recordOf (now (state .entry))) (now (cache .entry)) (now (nvm .entry)) (now (flags .entry))) ⌝ }
+        (machineOf (recordIn (now (state .entry))) (pairsIn (now (state .entry)))
+        (now (cache .entry)) (now (nvm .entry)) (now (flags .entry))) ⌝ }
     ensures answered { λ r. ⌜ now (answer .exit)
         ≡ replies (bothFit (now (state .entry)) (now (answer .entry))) (now (answer .entry))
         (redoStep (sizesOf words lanes slots) lane)
-        (machineOf (recordOf (now (state .entry))) (now (cache .entry)) (now (nvm .entry)) (now (flags .entry))) ⌝ }
+        (machineOf (recordIn (now (state .entry))) (pairsIn (now (state .entry)))
+        (now (cache .entry)) (now (nvm .entry)) (now (flags .entry))) ⌝ }
 {
-    if state.len() != RECORD_WORDS {
+    if state.len() != STATE_WORDS {
         return 1;
     }
     if answer.len() != ANSWER_WORDS {
@@ -178,8 +202,16 @@ pub extern "C" fn vandzulge_redo(
         lanes,
         slots,
     };
-    let before = codec::record_from(state);
-    let outcome = commit::redo(sizes, before, cache, nvm, flags, lane);
+    let before = codec::record_from(&state[..RECORD_WORDS]);
+    let outcome = commit::redo(
+        sizes,
+        before,
+        &state[RECORD_WORDS..],
+        cache,
+        nvm,
+        flags,
+        lane,
+    );
     let given = outcome.answer;
     answers::reply(given, answer);
     answers::put_record(outcome, state)
@@ -202,13 +234,15 @@ pub extern "C" fn vandzulge_validate(
     ensures left { λ r. ⌜ leftBy r (now (state .exit)) (now (cache .exit)) (now (nvm .exit)) (now (flags .exit))
         ≡ leaves (bothFit (now (state .entry)) (now (answer .entry))) (now (state .entry))
         (validateStep (sizesOf words lanes slots) lane (now (txn .entry)))
-        (machineOf (recordOf (now (state .entry))) (now (cache .entry)) (now (nvm .entry)) (now (flags .entry))) ⌝ }
+        (machineOf (recordIn (now (state .entry))) (pairsIn (now (state .entry)))
+        (now (cache .entry)) (now (nvm .entry)) (now (flags .entry))) ⌝ }
     ensures answered { λ r. ⌜ now (answer .exit)
         ≡ replies (bothFit (now (state .entry)) (now (answer .entry))) (now (answer .entry))
         (validateStep (sizesOf words lanes slots) lane (now (txn .entry)))
-        (machineOf (recordOf (now (state .entry))) (now (cache .entry)) (now (nvm .entry)) (now (flags .entry))) ⌝ }
+        (machineOf (recordIn (now (state .entry))) (pairsIn (now (state .entry)))
+        (now (cache .entry)) (now (nvm .entry)) (now (flags .entry))) ⌝ }
 {
-    if state.len() != RECORD_WORDS {
+    if state.len() != STATE_WORDS {
         return 1;
     }
     if answer.len() != ANSWER_WORDS {
@@ -219,8 +253,17 @@ pub extern "C" fn vandzulge_validate(
         lanes,
         slots,
     };
-    let before = codec::record_from(state);
-    let outcome = commit::validate(sizes, before, cache, nvm, flags, lane, txn);
+    let before = codec::record_from(&state[..RECORD_WORDS]);
+    let outcome = commit::validate(
+        sizes,
+        before,
+        &state[RECORD_WORDS..],
+        cache,
+        nvm,
+        flags,
+        lane,
+        txn,
+    );
     let given = outcome.answer;
     answers::reply(given, answer);
     answers::put_record(outcome, state)
@@ -242,13 +285,15 @@ pub extern "C" fn vandzulge_mark(
     ensures left { λ r. ⌜ leftBy r (now (state .exit)) (now (cache .exit)) (now (nvm .exit)) (now (flags .exit))
         ≡ leaves (bothFit (now (state .entry)) (now (answer .entry))) (now (state .entry))
         (markStep (sizesOf words lanes slots) lane)
-        (machineOf (recordOf (now (state .entry))) (now (cache .entry)) (now (nvm .entry)) (now (flags .entry))) ⌝ }
+        (machineOf (recordIn (now (state .entry))) (pairsIn (now (state .entry)))
+        (now (cache .entry)) (now (nvm .entry)) (now (flags .entry))) ⌝ }
     ensures answered { λ r. ⌜ now (answer .exit)
         ≡ replies (bothFit (now (state .entry)) (now (answer .entry))) (now (answer .entry))
         (markStep (sizesOf words lanes slots) lane)
-        (machineOf (recordOf (now (state .entry))) (now (cache .entry)) (now (nvm .entry)) (now (flags .entry))) ⌝ }
+        (machineOf (recordIn (now (state .entry))) (pairsIn (now (state .entry)))
+        (now (cache .entry)) (now (nvm .entry)) (now (flags .entry))) ⌝ }
 {
-    if state.len() != RECORD_WORDS {
+    if state.len() != STATE_WORDS {
         return 1;
     }
     if answer.len() != ANSWER_WORDS {
@@ -259,8 +304,120 @@ pub extern "C" fn vandzulge_mark(
         lanes,
         slots,
     };
-    let before = codec::record_from(state);
-    let outcome = append::mark(sizes, before, cache, nvm, flags, lane);
+    let before = codec::record_from(&state[..RECORD_WORDS]);
+    let outcome = append::mark(
+        sizes,
+        before,
+        &state[RECORD_WORDS..],
+        cache,
+        nvm,
+        flags,
+        lane,
+    );
+    let given = outcome.answer;
+    answers::reply(given, answer);
+    answers::put_record(outcome, state)
+}
+
+// Takes the lock for a long transaction, and stores its writes as the lock's pairs. The answer: how many writes are not
+// yet made, which is all of them, its timestamp, 0; 0s where it writes nothing, and the lock is then free.
+#[no_mangle]
+pub extern "C" fn vandzulge_lock(
+    words: usize,
+    lanes: usize,
+    slots: usize,
+    cache: &mut [u64],
+    nvm: &mut [u64],
+    flags: &mut [u8],
+    state: &mut [u64],
+    answer: &mut [u64],
+    lane: usize,
+    txn: &[u64],
+) -> u64
+    ensures left { λ r. ⌜ leftBy r (now (state .exit)) (now (cache .exit)) (now (nvm .exit)) (now (flags .exit))
+        ≡ leaves (bothFit (now (state .entry)) (now (answer .entry))) (now (state .entry))
+        (lockStep (sizesOf words lanes slots) lane (now (txn .entry)))
+        (machineOf (recordIn (now (state .entry))) (pairsIn (now (state .entry)))
+        (now (cache .entry)) (now (nvm .entry)) (now (flags .entry))) ⌝ }
+    ensures answered { λ r. ⌜ now (answer .exit)
+        ≡ replies (bothFit (now (state .entry)) (now (answer .entry))) (now (answer .entry))
+        (lockStep (sizesOf words lanes slots) lane (now (txn .entry)))
+        (machineOf (recordIn (now (state .entry))) (pairsIn (now (state .entry)))
+        (now (cache .entry)) (now (nvm .entry)) (now (flags .entry))) ⌝ }
+{
+    if state.len() != STATE_WORDS {
+        return 1;
+    }
+    if answer.len() != ANSWER_WORDS {
+        return 1;
+    }
+    let sizes = Sizes {
+        words,
+        lanes,
+        slots,
+    };
+    let before = codec::record_from(&state[..RECORD_WORDS]);
+    let outcome = lock::begin(
+        sizes,
+        before,
+        &mut state[RECORD_WORDS..],
+        cache,
+        nvm,
+        flags,
+        lane,
+        txn,
+    );
+    let given = outcome.answer;
+    answers::reply(given, answer);
+    answers::put_record(outcome, state)
+}
+
+// Makes the next step of the transaction that holds the lock. The answer: how many of its writes are not yet made, its
+// timestamp, 0; the last step has made them all, and frees the lock.
+#[no_mangle]
+pub extern "C" fn vandzulge_continue(
+    words: usize,
+    lanes: usize,
+    slots: usize,
+    cache: &mut [u64],
+    nvm: &mut [u64],
+    flags: &mut [u8],
+    state: &mut [u64],
+    answer: &mut [u64],
+    lane: usize,
+) -> u64
+    ensures left { λ r. ⌜ leftBy r (now (state .exit)) (now (cache .exit)) (now (nvm .exit)) (now (flags .exit))
+        ≡ leaves (bothFit (now (state .entry)) (now (answer .entry))) (now (state .entry))
+        (proceedStep (sizesOf words lanes slots) lane)
+        (machineOf (recordIn (now (state .entry))) (pairsIn (now (state .entry)))
+        (now (cache .entry)) (now (nvm .entry)) (now (flags .entry))) ⌝ }
+    ensures answered { λ r. ⌜ now (answer .exit)
+        ≡ replies (bothFit (now (state .entry)) (now (answer .entry))) (now (answer .entry))
+        (proceedStep (sizesOf words lanes slots) lane)
+        (machineOf (recordIn (now (state .entry))) (pairsIn (now (state .entry)))
+        (now (cache .entry)) (now (nvm .entry)) (now (flags .entry))) ⌝ }
+{
+    if state.len() != STATE_WORDS {
+        return 1;
+    }
+    if answer.len() != ANSWER_WORDS {
+        return 1;
+    }
+    let sizes = Sizes {
+        words,
+        lanes,
+        slots,
+    };
+    let before = codec::record_from(&state[..RECORD_WORDS]);
+    let outcome = lock::proceed(
+        sizes,
+        before,
+        &state[RECORD_WORDS..],
+        cache,
+        nvm,
+        flags,
+        lane,
+    );
     let given = outcome.answer;
     answers::reply(given, answer);
     answers::put_record(outcome, state)
@@ -292,7 +449,7 @@ pub extern "C" fn vandzulge_recover(
         (recoverStep (sizesOf words lanes slots) lag limit)
         (blankOf (now (cache .entry)) (now (nvm .entry)) (now (flags .entry))) ⌝ }
 {
-    if state.len() != RECORD_WORDS {
+    if state.len() != STATE_WORDS {
         return 1;
     }
     if answer.len() != ANSWER_WORDS {
@@ -329,7 +486,7 @@ pub extern "C" fn vandzulge_recover_read(
         (recoverReadStep lag limit)
         (blankOf (now (cache .entry)) (now (nvm .entry)) (now (flags .entry))) ⌝ }
 {
-    if state.len() != RECORD_WORDS {
+    if state.len() != STATE_WORDS {
         return 1;
     }
     if answer.len() != ANSWER_WORDS {

@@ -196,8 +196,12 @@ fn steps(sizes: Sizes) -> Vec<Case> {
     // no run of calls from Format leaves such a log
     let mut incomplete = idle.clone();
     incomplete.cache = images::image(sizes, Logs::Incomplete);
+    // a long transaction of 64 writes, or of 16 where the log takes no more
+    let fits = sizes.slots >= 64 + 4 + 17;
+    let locked = with(&idle, &[Call::Lock(lane, adds(sizes, if fits { 64 } else { 16 }))]);
+    let part_logged = with(&locked, &[Call::Continue(lane)]);
     let case = |name: &str, state: &World, call: Call| Case { name: name.to_string(), state: state.clone(), call };
-    vec![
+    let mut cases = vec![
         case("Format", &idle, Call::Format((0..sizes.words as u64).collect())),
         case("write-back", &idle, Call::WriteBack(sizes.words)),
         case("Drain, nothing flushed", &idle, Call::Drain(lane)),
@@ -214,7 +218,14 @@ fn steps(sizes: Sizes) -> Vec<Case> {
         case("Log, settling", &idle, Call::Log(lane, vec![])),
         case("Log, refused with 6", &logged, Call::Log(lane, adds(sizes, 1))),
         case("Drain, every slot a timestamp, none complete", &incomplete, Call::Drain(lane)),
-    ]
+        case("Lock, 16 writes", &idle, Call::Lock(lane, adds(sizes, 16))),
+        case("Continue, logs a part", &locked, Call::Continue(lane)),
+        case("Continue, writes a part", &part_logged, Call::Continue(lane)),
+    ];
+    if fits {
+        cases.push(case("Lock, 64 writes", &idle, Call::Lock(lane, adds(sizes, 64))));
+    }
+    cases
 }
 
 /// The state with data word 0 at 0.

@@ -1,5 +1,5 @@
-/* Every call from C, with the header: the two-lane scenario of the specification, a mark, a drain, the lag limit, a settled lane, an image of the former length taken over, and a
- * few refusals.
+/* Every call from C, with the header: the two-lane scenario of the specification, a mark, a drain, the lag limit, a settled lane, a long transaction, an image of the former length
+ * taken over, and a few refusals.
  * Prints the line that failed, or `ok`. */
 #include "vandzulge.h"
 
@@ -62,13 +62,13 @@ int main(void)
 {
     const uint64_t start[WORDS] = {0, 0};
     const uint64_t copy[4] = {2, 1, 0, 0}, set[4] = {1, 0, 0, 2}, set_other[4] = {1, 1, 0, 5}, pass[8] = {5, 0, 0, 1, 1, 0, 0, 9}, poke[8] = {5, 0, 0, 1, 4, 0, 0, 9};
-    uint64_t data[WORDS];
+    uint64_t data[WORDS], many[VANDZULGE_LONG_TXN_WORDS_MAX + 4];
     size_t i;
 
     EXPECT(vandzulge_format(WORDS, LANES, 33, LAG, start, WORDS, BUFFERS, RECORD) == 1);
     EXPECT(vandzulge_format(SIZES, LAG + 2, start, WORDS, BUFFERS, RECORD) == 16);
     EXPECT(vandzulge_format(SIZES, LAG, start, WORDS, BUFFERS, RECORD) == 0);
-    EXPECT(record[VANDZULGE_RECORD_WORDS - 1] == LAG);
+    EXPECT(record[VANDZULGE_RECORD_LAG] == LAG);
     EXPECT(vandzulge_log(SIZES, BUFFERS, RECORD, ANSWER, 0, pass, 8) == 0 && answers(0, 0, 0, 0));
     EXPECT(vandzulge_log(SIZES, BUFFERS, RECORD, ANSWER, 0, poke, 8) == 5 && answers(0, 0, 0, 0));
     EXPECT(vandzulge_log(SIZES, BUFFERS, RECORD, ANSWER, 1, copy, 4) == 0 && answers(1, 2, 0, 0));
@@ -152,6 +152,34 @@ int main(void)
     lose();
     EXPECT(vandzulge_recover_read(LAG, BUFFERS, RECORD, ANSWER, VANDZULGE_NO_LIMIT) == 0 && answers(1, 0, 0, 0));
     EXPECT(nvm[0] == 12 && nvm[1] == 2 && nvm[2] == 5);
+
+    /* a long transaction of 16 writes, the longest that 34 slots take: 1 is added to word 1 sixteen times */
+    for (i = 0; i < VANDZULGE_LONG_TXN_WORDS_MAX + 4; i += 4) {
+        many[i] = 3;
+        many[i + 1] = many[i + 2] = 1;
+        many[i + 3] = 1;
+    }
+    EXPECT(vandzulge_continue(SIZES, BUFFERS, RECORD, ANSWER, 0) == 7);
+    EXPECT(vandzulge_lock(SIZES, BUFFERS, RECORD, ANSWER, 0, many, 0) == 5);
+    EXPECT(vandzulge_lock(SIZES, BUFFERS, RECORD, ANSWER, 0, many, VANDZULGE_LONG_TXN_WORDS_MAX + 4) == 5);
+    EXPECT(vandzulge_lock(SIZES, BUFFERS, RECORD, ANSWER, 0, many, VANDZULGE_LONG_TXN_WORDS_MAX) == 12);
+    EXPECT(vandzulge_lock(SIZES, BUFFERS, RECORD, ANSWER, 0, many, 64) == 0 && answers(16, 14, 0, 0));
+    EXPECT(record[VANDZULGE_RECORD_LOCK] == 1 && record[VANDZULGE_RECORD_LOCK + 3] == 16);
+    EXPECT(vandzulge_lock(SIZES, BUFFERS, RECORD, ANSWER, 1, many, 4) == 11);
+    EXPECT(vandzulge_log(SIZES, BUFFERS, RECORD, ANSWER, 1, set, 4) == 11);
+    EXPECT(vandzulge_mark(SIZES, BUFFERS, RECORD, ANSWER, 0) == 11);
+    EXPECT(vandzulge_continue(SIZES, BUFFERS, RECORD, ANSWER, 1) == 11 && answers(16, 14, 0, 0));
+    EXPECT(vandzulge_continue(SIZES, BUFFERS, RECORD, ANSWER, 0) == 0 && answers(16, 14, 0, 0));
+    EXPECT(vandzulge_drain(SIZES, BUFFERS, RECORD, 1) == 0);
+    EXPECT(cache[2] == 5);
+    EXPECT(vandzulge_continue(SIZES, BUFFERS, RECORD, ANSWER, 0) == 0 && answers(0, 14, 0, 0));
+    EXPECT(cache[2] == 21 && record[1] == 14 && record[VANDZULGE_RECORD_LOCK] == 0);
+    EXPECT(vandzulge_continue(SIZES, BUFFERS, RECORD, ANSWER, 0) == 7);
+    EXPECT(vandzulge_log(SIZES, BUFFERS, RECORD, ANSWER, 0, set, 0) == 0 && answers(0, 16, 0, 0));
+    EXPECT(vandzulge_drain(SIZES, BUFFERS, RECORD, 0) == 0);
+    lose();
+    EXPECT(vandzulge_recover_read(LAG, BUFFERS, RECORD, ANSWER, VANDZULGE_NO_LIMIT) == 0 && answers(1, 0, 0, 0));
+    EXPECT(nvm[1] == 2 && nvm[2] == 21);
 
     nvm[0] = 3;
     EXPECT(vandzulge_recover(SIZES, 0, FORMER_BUFFERS, RECORD, ANSWER, VANDZULGE_NO_LIMIT) == 16);

@@ -14,7 +14,7 @@ type TxnStep = fn(usize, usize, usize, &mut [u64], &mut [u64], &mut [u8], &mut [
 type Recovery = fn(usize, usize, usize, u64, &mut [u64], &mut [u64], &mut [u8], &mut [u64], &mut [u64], usize) -> u64;
 type UnsizedRecovery = fn(u64, &mut [u64], &mut [u64], &mut [u8], &mut [u64], &mut [u64], usize) -> u64;
 
-/// One implementation of the nine calls.
+/// One implementation of the eleven calls.
 pub struct Calls {
     pub name: &'static str,
     pub format: fn(usize, usize, usize, u64, &[u64], &mut [u64], &mut [u64], &mut [u8], &mut [u64]) -> u64,
@@ -24,6 +24,9 @@ pub struct Calls {
     pub redo: Step,
     pub validate: TxnStep,
     pub mark: Step,
+    pub lock: TxnStep,
+    /// Continue
+    pub proceed: Step,
     pub recover: Recovery,
     pub recover_read: UnsizedRecovery,
 }
@@ -37,6 +40,8 @@ pub const PLAIN: Calls = Calls {
     redo: plain::redo,
     validate: plain::validate,
     mark: plain::mark,
+    lock: plain::lock,
+    proceed: plain::proceed,
     recover: plain::recover,
     recover_read: plain::recover_read,
 };
@@ -50,6 +55,8 @@ pub const LIBRARY: Calls = Calls {
     redo: raw::redo,
     validate: raw::validate,
     mark: raw::mark,
+    lock: raw::lock,
+    proceed: raw::proceed,
     recover: raw::recover,
     recover_read: raw::recover_read,
 };
@@ -64,6 +71,8 @@ pub enum Call {
     Redo(usize),
     Validate(usize, Vec<u64>),
     Mark(usize),
+    Lock(usize, Vec<u64>),
+    Continue(usize),
     Recover(usize),
     RecoverRead(usize),
 }
@@ -72,7 +81,13 @@ impl Call {
     /// The lane that the call drains, if it does.
     pub fn drains(&self) -> Option<usize> {
         match self {
-            Call::Drain(lane) | Call::Log(lane, _) | Call::Redo(lane) | Call::Validate(lane, _) | Call::Mark(lane) => Some(*lane),
+            Call::Drain(lane)
+            | Call::Log(lane, _)
+            | Call::Redo(lane)
+            | Call::Validate(lane, _)
+            | Call::Mark(lane)
+            | Call::Lock(lane, _)
+            | Call::Continue(lane) => Some(*lane),
             Call::Format(_) | Call::WriteBack(_) | Call::Recover(_) | Call::RecoverRead(_) => None,
         }
     }
@@ -151,6 +166,8 @@ impl World {
             Call::Redo(lane) => (calls.redo)(w, t, n, cache, nvm, flags, record, answer, *lane),
             Call::Validate(lane, txn) => (calls.validate)(w, t, n, cache, nvm, flags, record, answer, *lane, txn),
             Call::Mark(lane) => (calls.mark)(w, t, n, cache, nvm, flags, record, answer, *lane),
+            Call::Lock(lane, txn) => (calls.lock)(w, t, n, cache, nvm, flags, record, answer, *lane, txn),
+            Call::Continue(lane) => (calls.proceed)(w, t, n, cache, nvm, flags, record, answer, *lane),
             Call::Recover(limit) => (calls.recover)(w, t, n, lag, cache, nvm, flags, record, answer, *limit),
             Call::RecoverRead(limit) => (calls.recover_read)(lag, cache, nvm, flags, record, answer, *limit),
         }

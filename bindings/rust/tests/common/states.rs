@@ -2,13 +2,13 @@
 
 use super::{trailers, Call, Random, World};
 use std::collections::BTreeMap;
-use vandzulge::{images, Sizes, GREATEST_LAG, RECORD_WORDS};
+use vandzulge::{images, Sizes, GREATEST_LAG, LAG_WORD, LOCK_WORD};
 
 /// Lag limits out of range.
 pub const BAD_LAGS: [u64; 10] = [0, 1, 3, 41, GREATEST_LAG - 1, GREATEST_LAG + 1, GREATEST_LAG + 2, 1 << 63, u64::MAX - 1, u64::MAX];
 
-/// The record's word that has the lag limit, its last.
-pub const LAG_WORD: usize = RECORD_WORDS - 1;
+/// The first word of the lock's pairs in the record.
+pub const LOCK_PAIRS: usize = LOCK_WORD + 6;
 
 /// A small lag limit, which Log meets often.
 pub fn small_lag(random: &mut Random) -> u64 {
@@ -35,16 +35,39 @@ fn sizes(random: &mut Random) -> Sizes {
 fn txn(random: &mut Random, words: usize) -> Vec<u64> {
     let longest = if random.one_in(3) { 16 } else { 4 };
     let length = 1 + random.below(longest);
+    instructions(random, words, length, 40)
+}
+
+/// The same of up to 64 instructions.
+fn long_txn(random: &mut Random, words: usize) -> Vec<u64> {
+    let length = match random.below(4) {
+        0 => random.pick(&[1, 2, 15, 16, 17, 31, 32, 33, 48, 49, 63, 64]),
+        1 => 1 + random.below(16),
+        _ => 1 + random.below(64),
+    };
+    instructions(random, words, length, 400)
+}
+
+/// A long transaction that passes over all that it would write, if some data word is 0.
+fn without_writes(random: &mut Random, world: &World) -> Vec<u64> {
+    let zero = world.cache.iter().skip(1).take(world.words).position(|&word| word == 0).unwrap_or(0) as u64;
+    let passed = 1 + random.below(15);
+    let skip = [&[5, 0, zero, passed][..], &[1, 0, 0, 7].repeat(passed as usize)].concat();
+    skip.repeat(1 + random.index(4))
+}
+
+/// So many instructions, of which one in so many is a POKE.
+fn instructions(random: &mut Random, words: usize, length: u64, pokes: u64) -> Vec<u64> {
     let words = words as u64;
     let mut txn = Vec::new();
     for following in (0..length).rev() {
         let (a, b) = (random.below(words), random.below(words));
         let k = if random.one_in(2) { random.below(4) } else { random.word() };
-        txn.extend(match random.below(40) {
-            0 => [4, 0, b, k],
-            1..=8 => [2, a, b, 0],
-            9..=16 => [3, a, b, k],
-            17..=24 if following > 0 => [5, 0, b, 1 + random.below(following)],
+        txn.extend(match random.below(39) {
+            _ if random.one_in(pokes) => [4, 0, b, k],
+            0..=7 => [2, a, b, 0],
+            8..=15 => [3, a, b, k],
+            16..=23 if following > 0 => [5, 0, b, 1 + random.below(following.min(15))],
             _ => [1, a, 0, k],
         });
     }
@@ -78,12 +101,17 @@ fn slot(random: &mut Random, words: usize, clock: u64) -> [u64; 2] {
     }
 }
 
-/// A lane's log of complete sequences with one wrap bit, some of them spoilt.
+/// A lane's log of complete sequences, some of them spoilt: with one wrap bit, or another one from some slot on; with timestamps in no order, or few different ones.
 fn fill_log(random: &mut Random, log: &mut [u64], words: usize, clock: u64) {
-    let wrap = random.below(2);
+    let mut wrap = random.below(2);
+    let turn = if random.one_in(2) { random.index(log.len()) } else { log.len() };
+    let stamps = if random.one_in(3) { 1 + random.below(3) } else { clock / 2 + 1 };
     let mut entries = 0;
     let mut length = random.below(17);
-    for pair in log.chunks_exact_mut(2) {
+    for (slot_number, pair) in log.chunks_exact_mut(2).enumerate() {
+        if slot_number == turn {
+            wrap = 1 - wrap;
+        }
         let words = if random.one_in(60) {
             slot(random, words, clock)
         } else if entries < length {
@@ -93,7 +121,7 @@ fn fill_log(random: &mut Random, log: &mut [u64], words: usize, clock: u64) {
             let closes = entries;
             entries = 0;
             length = if random.one_in(3) { random.below(17) } else { random.below(3) };
-            [8 * (4096 + closes) + wrap, (random.below(clock / 2 + 1) * 2 + 2) | wrap]
+            [8 * (4096 + closes) + wrap, (random.below(stamps) * 2 + 2) | wrap]
         };
         pair.copy_from_slice(&words);
     }
@@ -103,7 +131,7 @@ fn damage(random: &mut Random, world: &mut World) {
     let clock = world.record.first().copied().unwrap_or(0);
     let length = world.cache.len().min(world.nvm.len()).min(world.flags.len());
     let logs = 1 + world.words;
-    match random.below(11) {
+    match random.below(15) {
         0 => {
             let at = random.index(length);
             world.cache[at] = odd_word(random, clock);
@@ -147,12 +175,44 @@ fn damage(random: &mut Random, world: &mut World) {
             // a clock near its end
             world.record[0] = u64::MAX - 1 - 2 * random.below(4);
         }
-        9 => world.record[LAG_WORD] = if random.one_in(3) { random.pick(&BAD_LAGS) } else { good_lag(random) },
+        9 => lock_held(random, world, clock),
+        10 => {
+            // a field of the lock, or what would be one
+            let at = LOCK_WORD + random.index(6);
+            world.record[at] = odd_word(random, clock);
+        }
+        11 | 12 => world.record[LOCK_WORD] = 0,
+        13 => world.record[LAG_WORD] = if random.one_in(3) { random.pick(&BAD_LAGS) } else { good_lag(random) },
         _ => {
             let words = last_words(random, world);
             let image = if random.one_in(4) { &mut world.cache } else { &mut world.nvm };
             image[length - 4..].copy_from_slice(&words);
         }
+    }
+}
+
+/// A record whose lock is held, mostly in range.
+fn lock_held(random: &mut Random, world: &mut World, clock: u64) {
+    let lane = if random.one_in(10) { world.lanes as u64 } else { random.below(world.lanes as u64) };
+    let count = if random.one_in(10) { random.pick(&[0, 65, u64::MAX]) } else { 1 + random.below(64) };
+    let written = if random.one_in(8) { random.below(70) } else { 16 * random.below(count.clamp(1, 64).div_ceil(16)) };
+    let part_end = count.min(written + 16);
+    let logged = match random.below(10) {
+        0 => random.below(70),
+        1..=4 => written,
+        _ => part_end,
+    };
+    let stamp = if random.one_in(8) { odd_word(random, clock) } else { random.below(clock / 2 + 1) * 2 };
+    world.record[LOCK_WORD..LOCK_PAIRS].copy_from_slice(&[random.pick(&[1, 1, 2, u64::MAX]), lane, stamp, count, logged, written]);
+    for (number, pair) in world.record[LOCK_PAIRS..].chunks_exact_mut(2).enumerate() {
+        let good = (number as u64) < count && !random.one_in(400);
+        pair.copy_from_slice(&[if good { random.below(world.words as u64) } else { odd_word(random, clock) }, random.word()]);
+    }
+    if random.one_in(4) {
+        return;
+    }
+    if let Some(phase) = world.record[..LAG_WORD].get_mut(2 + 40 * lane as usize) {
+        *phase = 0;
     }
 }
 
@@ -171,16 +231,33 @@ fn last_words(random: &mut Random, world: &World) -> [u64; 4] {
 fn call(random: &mut Random, world: &World, held: &[Vec<u64>; 8]) -> Call {
     let lane = if random.one_in(40) { odd_word(random, 8) as usize } else { random.index(world.lanes) };
     let logged = lane < 8 && world.record.get(2 + 40 * lane).is_some_and(|&phase| phase != 0);
-    let mut words = txn(random, world.words);
+    let locked = world.record.get(LOCK_WORD).is_some_and(|&held| held != 0);
+    if locked && !random.one_in(3) {
+        // mostly the next step of the long transaction
+        return Call::Continue(match random.below(30) {
+            0 => odd_word(random, 8) as usize,
+            1 | 2 => lane,
+            _ => world.record[LOCK_WORD + 1] as usize,
+        });
+    }
+    let long = random.one_in(5);
+    let mut words = match long {
+        true if random.one_in(15) => without_writes(random, world),
+        true => long_txn(random, world.words),
+        false => txn(random, world.words),
+    };
     if random.one_in(30) {
         let at = random.index(words.len());
         words[at] = odd_word(random, 10);
     }
     if random.one_in(60) {
-        words.resize(random.index(70), 1);
+        words.resize(random.index(if long { 280 } else { 70 }), 1);
     }
     if random.one_in(30) {
         words.clear();
+    }
+    if long {
+        return if random.one_in(20) { Call::Continue(lane) } else { Call::Lock(lane, words) };
     }
     match random.below(16) {
         0 => Call::WriteBack(if random.one_in(10) { odd_word(random, 0) as usize } else { random.index(world.cache.len().max(1)) }),
@@ -222,7 +299,7 @@ fn misfit(random: &mut Random, world: &mut World) {
         0 => world.cache.push(0),
         1 => world.nvm.truncate(length - 1),
         2 => world.flags.clear(),
-        3 => world.record.resize(random.pick(&[0, 1, 2, 321, 322, 324, 400]), 0),
+        3 => world.record.resize(random.pick(&[0, 1, 2, 322, 323, 324, 400, 456, 458]), 0),
         4 => world.answer.resize(random.pick(&[0, 1, 3, 5]), 7),
         5 => world.words = random.pick(&[0, 1025, usize::MAX, usize::MAX / 8]),
         6 => world.lanes = random.pick(&[0, 9, usize::MAX, usize::MAX / 68]),
@@ -271,7 +348,15 @@ fn walk(seed: u64, steps: u64, damaged: bool, former: bool, make: &mut impl FnMu
             make(&mut other, if random.one_in(3) { &Call::RecoverRead(usize::MAX) } else { &call }, &place);
         }
         let number = make(&mut world, &call, &place);
-        if let (Call::Log(lane, _) | Call::Mark(lane), 9) = (&call, number) {
+        if let (Call::Log(lane, _) | Call::Lock(lane, _), 9) = (&call, number) {
+            // the slots that are left take marks
+            for _ in 0..20 {
+                if make(&mut world, &Call::Mark(*lane), &place) != 0 {
+                    break;
+                }
+            }
+        }
+        if let (Call::Log(lane, _) | Call::Mark(lane), 9 | 11) = (&call, number) {
             // a Log of no words wants one slot: there may be room for it where the Log had none, and none where a Mark had none
             make(&mut world, &Call::Log(*lane, vec![]), &place);
         }
@@ -284,7 +369,7 @@ fn walk(seed: u64, steps: u64, damaged: bool, former: bool, make: &mut impl FnMu
 }
 
 /// All outcomes that a call can have on images of either length.
-const EITHER: [&str; 42] = [
+const EITHER: [&str; 66] = [
     "write-back",
     "write-back refused 4",
     "drain",
@@ -296,6 +381,7 @@ const EITHER: [&str; 42] = [
     "log refused 3",
     "log refused 5",
     "log refused 6",
+    "log refused 11",
     "log refused 8",
     "log refused 15",
     "log refused 9",
@@ -303,6 +389,7 @@ const EITHER: [&str; 42] = [
     "log of no words refused 2",
     "log of no words refused 3",
     "log of no words refused 6",
+    "log of no words refused 11",
     "log of no words refused 8",
     "log of no words refused 15",
     "log of no words refused 9",
@@ -311,6 +398,7 @@ const EITHER: [&str; 42] = [
     "redo refused 2",
     "redo refused 3",
     "redo refused 7",
+    "redo refused 11",
     "redo refused 8",
     "validate",
     "validate changed",
@@ -319,18 +407,39 @@ const EITHER: [&str; 42] = [
     "validate refused 5",
     "validate of no words refused 5",
     "validate refused 7",
+    "validate refused 11",
     "validate refused 8",
     "mark",
     "mark dropped",
     "mark refused 2",
     "mark refused 3",
+    "mark refused 11",
     "mark refused 8",
     "mark refused 9",
+    "lock",
+    "lock without writes",
+    "lock refused 2",
+    "lock refused 3",
+    "lock refused 5",
+    "lock of no words refused 5",
+    "lock refused 6",
+    "lock refused 11",
+    "lock refused 12",
+    "lock refused 8",
+    "lock refused 15",
+    "lock refused 9",
+    "continue logged",
+    "continue written",
+    "continue committed",
+    "continue refused 2",
+    "continue refused 3",
+    "continue refused 7",
+    "continue refused 11",
     "recover-read refused 14",
 ];
 
 /// Those on images of the new length alone, on such of the former length, and those of slices that do not fit.
-const ONE_LENGTH: [&str; 22] = [
+const ONE_LENGTH: [&str; 24] = [
     "format",
     "format refused 16",
     "recover-read",
@@ -351,6 +460,8 @@ const ONE_LENGTH: [&str; 22] = [
     "redo refused 1",
     "validate refused 1",
     "mark refused 1",
+    "lock refused 1",
+    "continue refused 1",
     "recover refused 1",
     "recover-read refused 1",
 ];
@@ -375,6 +486,9 @@ fn outcome(world: &World, call: &Call, number: u64) -> String {
         Call::Validate(_, txn) if txn.is_empty() && number == 5 => "validate of no words",
         Call::Validate(..) => "validate",
         Call::Mark(_) => "mark",
+        Call::Lock(_, txn) if txn.is_empty() && number == 5 => "lock of no words",
+        Call::Lock(..) => "lock",
+        Call::Continue(_) => "continue",
         Call::Recover(_) => "recover",
         Call::RecoverRead(_) => "recover-read",
     };
@@ -391,6 +505,10 @@ fn outcome(world: &World, call: &Call, number: u64) -> String {
         (Call::Redo(_), [0, ..]) => " stale",
         (Call::Validate(..), [0, ..]) => " changed",
         (Call::Mark(_), [1, ..]) => " dropped",
+        (Call::Lock(..), [0, ..]) => " without writes",
+        (Call::Continue(_), [0, ..]) => " committed",
+        (Call::Continue(_), _) if world.record[LOCK_WORD + 4] > world.record[LOCK_WORD + 5] => " logged",
+        (Call::Continue(_), _) => " written",
         (Call::Recover(_) | Call::RecoverRead(_), [0, ..]) => " cut",
         (Call::Recover(_) | Call::RecoverRead(_), [1, ..]) => " none",
         _ => "",

@@ -28,7 +28,7 @@ drain-requires : tie.Need-drain-requires
 drain-requires c κs =
     let e = c .before .before .before in
     let p = e .before .before in
-    let k = log-known _ _ _ _ _ _ _ _ (p .plan-log .ensures) (e .if1 .left) in
+    let k = log-known _ _ _ _ _ _ _ _ _ (p .plan-log .ensures) (e .if1 .left) in
     (k .small, (k .checked .same-nvm, k .checked .same-flags))
 
 settle-requires : tie.Need-settle-requires
@@ -37,8 +37,8 @@ settle-requires c κs =
     let d = t .before .before .before .before .before in
     let e = d .before .before .before .before in
     let p = e .before .before in
-    let s = p .before .before .before .before .before .before .before .before in
-    settle-after _ _ _ _ _ _ _ _ (p .plan-log .ensures) (e .if1 .left) (t .if2 .taken) (lanes-eight (s .args .state) (s .good .1 .0)) _ (d .drain .ensures .1)
+    let s = p .before .before .before .before .before .before .before .before .before in
+    settle-after _ _ _ _ _ _ _ _ _ (p .plan-log .ensures) (e .if1 .left) (t .if2 .taken) (lanes-eight (s .args .state) (s .good .1 .0)) _ (d .drain .ensures .1)
 
 same-length-4 : tie.Need-same-length-4
 same-length-4 c = search needs
@@ -56,15 +56,15 @@ returns-2 c =
     let d = t .before .before .before .before .before in
     let e = d .before .before .before .before in
     let p = e .before .before in
-    log-settles _ _ _ _ _ _ _ _ _ (d .drain .ensures .0) (d .drain .ensures .1) (e .if1 .left) _ (p .plan-log .ensures) (t .if2 .taken) _
-    (a .settle .ensures _)
+    log-settles _ _ _ _ _ _ _ _ _ _ (d .drain .ensures .0) (d .drain .ensures .1) (e .if1 .left) _ (p .plan-log .ensures) (t .if2 .taken) _
+    (a .settle .ensures _ _)
 
 drained-requires : tie.Need-drained-requires
 drained-requires c κs =
     let d = c .before .before .before .before .before .before .before in
     let e = d .before .before .before .before in
     let p = e .before .before in
-    log-known _ _ _ _ _ _ _ _ (p .plan-log .ensures) (e .if1 .left) .small
+    log-known _ _ _ _ _ _ _ _ _ (p .plan-log .ensures) (e .if1 .left) .small
 
 same-length-7 : tie.Need-same-length-7
 same-length-7 c = search needs
@@ -82,7 +82,7 @@ returns-3 c =
     let d = n .before .before .before .before .before in
     let e = d .before .before .before .before in
     let p = e .before .before in
-    log-drains _ _ _ _ _ _ _ _ _ (d .drain .ensures .0) (d .drain .ensures .1) (e .if1 .left) _ (p .plan-log .ensures) (n .if2 .left) _
+    log-drains _ _ _ _ _ _ _ _ _ _ (d .drain .ensures .0) (d .drain .ensures .1) (e .if1 .left) _ (p .plan-log .ensures) (n .if2 .left) _
     (c .drained .ensures) (o .if3 .taken)
 
 log-writes-requires : tie.Need-log-writes-requires
@@ -92,9 +92,9 @@ log-writes-requires c κs =
     let d = n .before .before .before .before .before in
     let e = d .before .before .before .before in
     let p = e .before .before in
-    let s = p .before .before .before .before .before .before .before .before in
-    after-drain _ _ _ _ _ _ _ _ (log-known _ _ _ _ _ _ _ _ (p .plan-log .ensures) (e .if1 .left)) (lanes-eight (s .args .state) (s .good .1 .0))
-    (log-clock _ _ _ _ _ _ _ _ (p .plan-log .ensures) (e .if1 .left)
+    let s = p .before .before .before .before .before .before .before .before .before in
+    after-drain _ _ _ _ _ _ _ _ _ (log-known _ _ _ _ _ _ _ _ _ (p .plan-log .ensures) (e .if1 .left)) (lanes-eight (s .args .state) (s .good .1 .0))
+    (log-clock _ _ _ _ _ _ _ _ _ (p .plan-log .ensures) (e .if1 .left)
     (takes-some _ _ _ _ (p .plan-log .ensures .writes (e .if1 .left)) (o .if3 .left))) _ (d .drain .ensures .1)
 
 same-length-10 : tie.Need-same-length-10
@@ -114,8 +114,8 @@ returns-4 c =
     let d = n .before .before .before .before .before in
     let e = d .before .before .before .before in
     let p = e .before .before in
-    log-writes _ _ _ _ _ _ _ _ _ (d .drain .ensures .0) (d .drain .ensures .1) (e .if1 .left) _ (p .plan-log .ensures) (n .if2 .left) _
-    (a .log-writes .ensures _) (o .if3 .left)
+    log-writes _ _ _ _ _ _ _ _ _ _ (d .drain .ensures .0) (d .drain .ensures .1) (e .if1 .left) _ (p .plan-log .ensures) (n .if2 .left) _
+    (a .log-writes .ensures _ _) (o .if3 .left)
 
 pub log-spec : {M : Type 1} → statement M
 log-spec =

@@ -7,7 +7,7 @@ use borrow.Author.Tests.{not-true, not-false}
 use borrow.Author.Needs.{needs}
 use Rattle.record.specs.Record.{laneAt}
 use Rattle.store.specs.inner.StoreLaws.{checked, lane-small}
-use Rattle.append.specs.inner.LogMarkLaws.{checks-lane, checks-txn, checks-logged, checks-none}
+use Rattle.append.specs.inner.LogMarkLaws.{checks-lane, checks-txn, checks-logged, checks-held, checks-none}
 use Rattle.append.proofs.log_checks.Statement.{statement}
 use Rattle.append.proofs.log_checks.Tie as tie
 
@@ -30,13 +30,13 @@ returns-2 c =
 mul-at : tie.Need-mul-at
 mul-at c =
     let e = c .before in
-    let k = checked _ _ _ _ _ _ (sym (e .before .drain-refusal .ensures) ∙ e .if1 .left) in
+    let k = checked _ _ _ _ _ _ _ (sym (e .before .drain-refusal .ensures) ∙ e .if1 .left) in
     omega (arith, lane-small _ _ (k .image .sizes-ok) (k .lane-below))
 
 element-copy-out-at : tie.Need-element-copy-out-at
 element-copy-out-at c =
     let e = c .before in
-    let k = checked _ _ _ _ _ _ (sym (e .before .drain-refusal .ensures) ∙ e .if1 .left) in
+    let k = checked _ _ _ _ _ _ _ (sym (e .before .drain-refusal .ensures) ∙ e .if1 .left) in
     omega (arith, lane-small _ _ (k .image .sizes-ok) (k .lane-below))
 
 is-logged-requires : tie.Need-is-logged-requires
@@ -52,18 +52,37 @@ returns-3 c =
     (⊎-elim (λ w n. sym (w .1 .ensures) ∙ not-false _ (w .2 .left)) (λ w n. absurd (n (w .left))) (j .if2 .came))
     (sym (i .is-logged .ensures) ∙ c .if4 .taken)
 
+is-held-requires : tie.Need-is-held-requires
+is-held-requires c κs = search needs
+
 returns-4 : tie.Need-returns-4
 unfolding laneAt
 returns-4 c =
-    let i = c .before in
+    let h = c .before in
+    let g = h .before in
+    let i = g .before in
+    let j = i .before .before in
+    let e = j .before in
+    checks-held _ _ _ _ (sym (e .before .drain-refusal .ensures) ∙ e .if1 .left)
+    (⊎-elim (λ w n. sym (w .1 .ensures) ∙ not-false _ (w .2 .left)) (λ w n. absurd (n (w .left))) (j .if2 .came))
+    (sym (i .is-logged .ensures) ∙ g .if4 .left)
+    (sym (h .is-held .ensures) ∙ c .if5 .taken)
+
+returns-5 : tie.Need-returns-5
+unfolding laneAt
+returns-5 c =
+    let h = c .before in
+    let g = h .before in
+    let i = g .before in
     let j = i .before .before in
     let e = j .before in
     checks-none _ _ _ _ (sym (e .before .drain-refusal .ensures) ∙ e .if1 .left)
     (⊎-elim (λ w n. sym (w .1 .ensures) ∙ not-false _ (w .2 .left)) (λ w n. absurd (n (w .left))) (j .if2 .came))
-    (sym (i .is-logged .ensures) ∙ c .if4 .left)
+    (sym (i .is-logged .ensures) ∙ g .if4 .left)
+    (sym (h .is-held .ensures) ∙ c .if5 .left)
 
 pub log-checks-spec : {M : Type 1} → statement M
 log-checks-spec =
     tie.close
     (tie.spec drain-refusal-requires returns txn-ok-requires returns-2 mul-at element-copy-out-at is-logged-requires
-    returns-3 returns-4)
+    returns-3 is-held-requires returns-4 returns-5)

@@ -55,8 +55,8 @@ returns c =
     let n : w .count ≤ length (w .list) = omega (arith, k .writes .few, k .writes .full) in
     let h : s .args .lane < length (s .args .t2 .lanes) =
     omega (arith, lanes-eight (s .args .t2) (s .good .1 .0), lane-small _ _ (k .image .sizes-ok) (k .lane-below)) in
-    λ nvm. logged-by _ _ _ _ _ (s .pre .found) _ (d .drained-lane .ensures) h _ nvm _ w n (p .pairs-of .ensures) _
-    (appended-by _ _ _ _ _ (s .pre .found) _ (d .drained-lane .ensures) h _ _ nvm _ w n _ _ _ _ (a .appended .ensures .0) (c .stamped .ensures)
+    λ pairs nvm. logged-by _ _ _ _ _ (s .pre .found) _ (d .drained-lane .ensures) h _ pairs nvm _ w n (p .pairs-of .ensures) _
+    (appended-by _ _ _ _ _ (s .pre .found) _ (d .drained-lane .ensures) h _ _ pairs nvm _ w n _ _ _ _ (a .appended .ensures .0) (c .stamped .ensures)
     (a .appended .ensures .1 .0) (a .appended .ensures .1 .1))
 
 pub log-writes-spec : {M : Type 1} → statement M

@@ -35,7 +35,7 @@ drain-requires : tie.Need-drain-requires
 drain-requires c κs =
     let e = c .before .before .before in
     let p = e .before .before in
-    let k = mark-known _ _ _ _ _ _ _ (p .plan-mark .ensures) (e .if1 .left) in
+    let k = mark-known _ _ _ _ _ _ _ _ (p .plan-mark .ensures) (e .if1 .left) in
     (k .small, (k .checked .same-nvm, k .checked .same-flags))
 
 mul-old : tie.Need-mul-old
@@ -43,14 +43,14 @@ mul-old c =
     let d = c .before .before .before .before in
     let e = d .before .before .before .before in
     let p = e .before .before in
-    omega (arith, mark-known _ _ _ _ _ _ _ (p .plan-mark .ensures) (e .if1 .left) .small)
+    omega (arith, mark-known _ _ _ _ _ _ _ _ (p .plan-mark .ensures) (e .if1 .left) .small)
 
 element-copy-out-old : tie.Need-element-copy-out-old
 element-copy-out-old c =
     let d = c .before .before .before .before in
     let e = d .before .before .before .before in
     let p = e .before .before in
-    omega (arith, mark-known _ _ _ _ _ _ _ (p .plan-mark .ensures) (e .if1 .left) .small)
+    omega (arith, mark-known _ _ _ _ _ _ _ _ (p .plan-mark .ensures) (e .if1 .left) .small)
 
 drained-lane-requires : tie.Need-drained-lane-requires
 drained-lane-requires c κs = search needs
@@ -63,7 +63,7 @@ add-stamp c =
     let d = c .before .before .before .before .before .before .before .before in
     let e = d .before .before .before .before in
     let p = e .before .before in
-    omega (arith, mark-clock _ _ _ _ _ _ _ (p .plan-mark .ensures) (e .if1 .left))
+    omega (arith, mark-clock _ _ _ _ _ _ _ _ (p .plan-mark .ensures) (e .if1 .left))
 
 appended-requires : tie.Need-appended-requires
 unfolding laneAt
@@ -72,17 +72,17 @@ appended-requires c κs =
     let d = l .before .before .before .before .before .before in
     let e = d .before .before .before .before in
     let p = e .before .before in
-    let s = p .before .before .before .before .before .before .before in
+    let s = p .before .before .before .before .before .before .before .before in
     rw (l .drained-lane .ensures)
-    (after-drain _ _ _ _ _ _ _ _ (mark-known _ _ _ _ _ _ _ (p .plan-mark .ensures) (e .if1 .left)) (lanes-eight (s .args .t2) (s .good .1 .0))
-    (mark-clock _ _ _ _ _ _ _ (p .plan-mark .ensures) (e .if1 .left)) _ (d .drain .ensures .1) .appendable)
+    (after-drain _ _ _ _ _ _ _ _ _ (mark-known _ _ _ _ _ _ _ _ (p .plan-mark .ensures) (e .if1 .left)) (lanes-eight (s .args .t2) (s .good .1 .0))
+    (mark-clock _ _ _ _ _ _ _ _ (p .plan-mark .ensures) (e .if1 .left)) _ (d .drain .ensures .1) .appendable)
 
 stamped-requires : tie.Need-stamped-requires
 stamped-requires c κs =
     let d = c .before .before .before .before .before .before .before .before .before .before .before .before .before .before .before in
     let e = d .before .before .before .before in
     let p = e .before .before in
-    mark-known _ _ _ _ _ _ _ (p .plan-mark .ensures) (e .if1 .left) .small
+    mark-known _ _ _ _ _ _ _ _ (p .plan-mark .ensures) (e .if1 .left) .small
 
 same-length-4 : tie.Need-same-length-4
 same-length-4 c = search needs
@@ -102,15 +102,15 @@ returns-2 c =
     let d = l .before .before .before .before .before .before in
     let e = d .before .before .before .before in
     let p = e .before .before in
-    let s = p .before .before .before .before .before .before .before in
-    let k = after-drain _ _ _ _ _ _ _ _ (mark-known _ _ _ _ _ _ _ (p .plan-mark .ensures) (e .if1 .left)) (lanes-eight (s .args .t2) (s .good .1 .0))
-    (mark-clock _ _ _ _ _ _ _ (p .plan-mark .ensures) (e .if1 .left)) _ (d .drain .ensures .1) in
+    let s = p .before .before .before .before .before .before .before .before in
+    let k = after-drain _ _ _ _ _ _ _ _ _ (mark-known _ _ _ _ _ _ _ _ (p .plan-mark .ensures) (e .if1 .left)) (lanes-eight (s .args .t2) (s .good .1 .0))
+    (mark-clock _ _ _ _ _ _ _ _ (p .plan-mark .ensures) (e .if1 .left)) _ (d .drain .ensures .1) in
     let w = p .plan-mark .result .writes in
     let n : w .count ≤ length (w .list) = omega (arith, k .appendable .writes .few, k .appendable .writes .full) in
     let h : s .args .lane < length (s .args .t2 .lanes) =
-    omega (arith, lanes-eight (s .args .t2) (s .good .1 .0), mark-known _ _ _ _ _ _ _ (p .plan-mark .ensures) (e .if1 .left) .small) in
-    mark-taken _ _ _ _ _ _ _ _ _ (d .drain .ensures .0) (d .drain .ensures .1) (e .if1 .left) (p .plan-mark .ensures) _ _ (l .drained-lane .ensures)
-    (appended-by _ _ _ _ _ (k .found) _ (l .drained-lane .ensures) h _ _ _ _ w n _ _ _ _ (a .appended .ensures .0) (c .stamped .ensures)
+    omega (arith, lanes-eight (s .args .t2) (s .good .1 .0), mark-known _ _ _ _ _ _ _ _ (p .plan-mark .ensures) (e .if1 .left) .small) in
+    mark-taken _ _ _ _ _ _ _ _ _ _ (d .drain .ensures .0) (d .drain .ensures .1) (e .if1 .left) (p .plan-mark .ensures) _ _ (l .drained-lane .ensures)
+    (appended-by _ _ _ _ _ (k .found) _ (l .drained-lane .ensures) h _ _ _ _ _ w n _ _ _ _ (a .appended .ensures .0) (c .stamped .ensures)
     (a .appended .ensures .1 .0) (a .appended .ensures .1 .1))
     _ (i .is-logged .ensures)
 

@@ -28,12 +28,12 @@ returns c =
 writes-of-requires : tie.Need-writes-of-requires
 writes-of-requires c κs =
     let u = unrefused _ _ _ _ (sym (c .before .log-checks .ensures) ∙ c .if1 .left) in
-    (checked _ _ _ _ _ _ (u .at-lane) .image, u .txn-ok)
+    (checked _ _ _ _ _ _ _ (u .at-lane) .image, u .txn-ok)
 
 latest-in-requires : tie.Need-latest-in-requires
 latest-in-requires c κs =
     let e = c .before in
-    let k = checked _ _ _ _ _ _ (unrefused _ _ _ _ (sym (e .before .log-checks .ensures) ∙ e .if1 .left) .at-lane) in
+    let k = checked _ _ _ _ _ _ _ (unrefused _ _ _ _ (sym (e .before .log-checks .ensures) ∙ e .if1 .left) .at-lane) in
     (k .image, k .lane-below)
 
 returns-2 : tie.Need-returns-2
@@ -42,7 +42,7 @@ returns-2 c =
     let d = t .before in
     let r = d .before in
     let e = r .before in
-    let v = run-on _ _ _ _ _ _ _ (r .writes-of .ensures) in
+    let v = run-on _ _ _ _ _ _ _ _ (r .writes-of .ensures) in
     record {
       number = log-nothing _ _ _ _ (unrefused _ _ _ _ (sym (e .before .log-checks .ensures) ∙ e .if1 .left)) _ v (λ h. omega (arith, t .if2 .taken))
           (eqb-true _ 0 (c .if3 .taken));
@@ -55,19 +55,23 @@ add-append-refusal c =
     let r = c .before .before .before in
     let e = r .before in
     let u = unrefused _ _ _ _ (sym (e .before .log-checks .ensures) ∙ e .if1 .left) in
-    let k = checked _ _ _ _ _ _ (u .at-lane) in
-    omega (arith, few-planned _ _ _ _ _ (run-on _ _ _ _ _ _ _ (r .writes-of .ensures)) (sizes-in _ (k .image .sizes-ok) .words-high) u)
+    let k = checked _ _ _ _ _ _ _ (u .at-lane) in
+    omega (arith, few-planned _ _ _ _ _ (run-on _ _ _ _ _ _ _ _ (r .writes-of .ensures)) (sizes-in _ (k .image .sizes-ok) .words-high) u)
 
 append-refusal-requires : tie.Need-append-refusal-requires
 append-refusal-requires c κs =
     let d = c .before .before in
     let r = d .before in
     let e = r .before in
-    let s = e .before .before .before .before .before .before in
+    let s = e .before .before .before .before .before .before .before in
     let u = unrefused _ _ _ _ (sym (e .before .log-checks .ensures) ∙ e .if1 .left) in
-    let k = checked _ _ _ _ _ _ (u .at-lane) in
-    searchable _ _ _ _ _ _ k (lanes-eight (s .args .state) (s .good .1 .0)) _ _ (d .latest-in .ensures) (omega arith)
-    (omega (arith, few-planned _ _ _ _ _ (run-on _ _ _ _ _ _ _ (r .writes-of .ensures)) (sizes-in _ (k .image .sizes-ok) .words-high) u))
+    let k = checked _ _ _ _ _ _ _ (u .at-lane) in
+    searchable _ _ _ _ _ _ _ k (lanes-eight (s .args .state) (s .good .1 .0)) _ _ (d .latest-in .ensures) (omega arith)
+    (omega (
+      arith,
+      few-planned _ _ _ _ _ (run-on _ _ _ _ _ _ _ _ (r .writes-of .ensures)) (sizes-in _ (k .image .sizes-ok) .words-high) u,
+      sizes-in _ (k .image .sizes-ok) .slots-low,
+    ))
 
 returns-3 : tie.Need-returns-3
 returns-3 c =
@@ -75,7 +79,7 @@ returns-3 c =
     let d = j .before in
     let r = d .before in
     let e = r .before in
-    let v = run-on _ _ _ _ _ _ _ (r .writes-of .ensures) in
+    let v = run-on _ _ _ _ _ _ _ _ (r .writes-of .ensures) in
     record {
       number = log-room _ _ _ _ (unrefused _ _ _ _ (sym (e .before .log-checks .ensures) ∙ e .if1 .left)) _ v _ _ _ (c .append-refusal .ensures)
           (omega arith) refl

@@ -57,8 +57,8 @@ returns c =
     let l : w .count ≤ length (w .list) = omega (arith, count-of w [] (n .none .ensures)) in
     let h : s .args .lane < length (s .args .t2 .lanes) =
     omega (arith, lanes-eight (s .args .t2) (s .good .1 .0), lane-small _ _ (k .image .sizes-ok) (k .lane-below)) in
-    λ nvm. settled-by _ _ _ _ _ (s .pre .found) _ (d .drained-lane .ensures) h nvm _ w (n .none .ensures) _
-    (appended-by _ _ _ _ _ (s .pre .found) _ (d .drained-lane .ensures) h _ _ nvm _ w l (a .appended .result) _ _ _ (a .appended .ensures .0)
+    λ pairs nvm. settled-by _ _ _ _ _ (s .pre .found) _ (d .drained-lane .ensures) h pairs nvm _ w (n .none .ensures) _
+    (appended-by _ _ _ _ _ (s .pre .found) _ (d .drained-lane .ensures) h _ _ pairs nvm _ w l (a .appended .result) _ _ _ (a .appended .ensures .0)
     (c .stamped .ensures) (a .appended .ensures .1 .0) (a .appended .ensures .1 .1))
 
 pub settle-spec : {M : Type 1} → statement M

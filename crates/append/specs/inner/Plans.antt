@@ -6,6 +6,7 @@ use mathlib.Core.List.{List, [], _∷_}
 use mathlib.Core.Bool.{Bool, not, _&&_, _||_}
 use lib.Dec.{leb, eqb}
 use lib.ListN.{length}
+use Rattle.slot.specs.Slot.{maxEntries}
 use Rattle.txn.specs.Txn.{maxWrites, txnOk}
 use Rattle.txn.specs.inner.Writes.{writesOf}
 use Rattle.txn.specs.declared.Write.{Write}
@@ -15,13 +16,13 @@ use Rattle.image.specs.declared.Sizes.{Sizes}
 use Rattle.log.specs.Log.{latestIn, completeIn, hits}
 use Rattle.log.specs.inner.AppendEntries.{Loggable, Within}
 use Rattle.log.specs.declared.Latest.{Latest}
-use Rattle.record.specs.Record.{laneAt, isLogged, spent, boundOf, lagPassed, cursorOf, drainedLane}
+use Rattle.record.specs.Record.{laneAt, spent, boundOf, lagPassed, cursorOf, drainedLane}
 use Rattle.record.specs.declared.Lane.{Lane}
 use Rattle.record.specs.declared.Phase.the-variants.{Idle}
 use Rattle.record.specs.declared.Record.{Record}
 use Rattle.store.specs.declared.Answer.the-variants.{Logged, Settled}
 use Rattle.store.specs.Machine.{Machine, Step, Cause, firstCause}
-use Rattle.store.specs.Calls.{badBuffers, badRecord, badLane, writesOn, appended, logged}
+use Rattle.store.specs.Calls.{badBuffers, badRecord, badLane, alreadyLogged, lockHeld, writesOn, appended, logged}
 use Rattle.store.specs.inner.Checked.{drainedState}
 use Rattle.append.specs.declared.Plan.{Plan}
 
@@ -46,7 +47,8 @@ logChecks z L f m =
     ∷ badRecord z m
     ∷ badLane z L
     ∷ badWords z f
-    ∷ record { number = 6; holds = isLogged (laneAt m.state L .phase) }
+    ∷ alreadyLogged L m
+    ∷ lockHeld m
     ∷ [])
 
 -- does Log take a timestamp: it is given no words, or it writes
@@ -66,7 +68,7 @@ pub record Searchable (z : Sizes) (r : Record) (latest : Latest) (cache : List �
   pub found : latest ≡ latestIn z cache L
   pub next : laneAt r L .next < z .slots
   pub least : 1 ≤ n
-  pub most : n ≤ maxWrites + 1
+  pub most : n + maxEntries ≤ z .slots
 
 -- what an append of these writes to lane L, which is drained, needs at timestamp s
 pub record Appendable (z : Sizes) (drained : Lane) (cache flags : List ℕ) (L : ℕ) (w : Writes) (s : ℕ) : Type 0 where

@@ -1,5 +1,5 @@
 -- Inner: how the code goes, need not be believed. What a run keeps beside the second implementation's words: the store's answer, and pseudo-random
--- numbers. The code's constants are numbers here: region 15 is STORED, whose words 1,536 and 1,537 are the kind of the answer and its number; of region 0
+-- numbers. The code's constants are numbers here: region 15 is STORED, whose words 1,792 and 1,793 are the kind of the answer and its number; of region 0
 -- word 0 is the seed and word 13 the length of non-volatile memory; calls 7 and 9 are recovery with sizes and without. Assumes nothing.
 use Prim.Native.Nat.{ℕ, _-_, _*_, _/_, _%_, _^_}
 use mathlib.Core.Bool.{cond}
@@ -10,11 +10,11 @@ use Rattle.second.specs.inner.Words.{wordAt, stored, formerIn}
 
 -- the kind of the store's last answer
 abbrev pub kindIn : List ℕ → ℕ
-kindIn ws = wordAt ws 15 1536
+kindIn ws = wordAt ws 15 1792
 
 -- the number of its refusal, or 0
 unfoldable pub refusalIn : List ℕ → ℕ
-refusalIn ws = cond (eqb (kindIn ws) 0) (wordAt ws 15 1537) 0
+refusalIn ws = cond (eqb (kindIn ws) 0) (wordAt ws 15 1793) 0
 
 -- how long the buffers are
 abbrev pub lentIn : List ℕ → ℕ

@@ -31,8 +31,8 @@ mark-requires c κs = search needs
 lagging-requires : tie.Need-lagging-requires Inv-loop μ-loop
 lagging-requires c κs = search needs
 
-settled-requires : tie.Need-settled-requires Inv-loop μ-loop
-settled-requires c κs = search needs
+later-requires : tie.Need-later-requires Inv-loop μ-loop
+later-requires c κs = search needs
 
 add-i : tie.Need-add-i Inv-loop μ-loop
 add-i c = search needs
@@ -50,4 +50,4 @@ pub cases-spec : {M : Type 1} → statement M
 cases-spec =
     tie.close
     (tie.spec Inv-loop μ-loop clear-requires loop-holds edge-requires trailer-requires case-requires mark-requires
-    lagging-requires settled-requires add-i loop-less loop-again returns)
+    lagging-requires later-requires add-i loop-less loop-again returns)

@@ -1,14 +1,12 @@
--- `record_from` is `recordOf`: the loop has the lanes below `l`, each from its own words. Assumes nothing.
-use mathlib.Core.Path.{_≡_, refl, ap}
-use mathlib.Core.List.{List}
-use Prim.Native.Nat.{_+_, _≤_, _-_, _*_}
+-- `record_from` is `recordOf`: the loop has the lanes below `l`, each from its own words, and the lock is behind the lag limit. Assumes nothing.
+use mathlib.Core.Path.{_≡_, refl}
+use Prim.Native.Nat.{_≤_, _-_, _*_}
 use native.Mathlib.Omega.{arith}
-use lib.ListN.{getD, drop}
+use lib.ListN.{drop}
 use borrow.Author.Needs.{needs}
-use Rattle.record.specs.declared.Lane.{Lane}
 use Rattle.image.specs.Image.{maxLanes}
-use Rattle.codec.specs.Fields.{laneLength, rowOf, laneOf, recordOf}
-use Rattle.codec.specs.inner.FieldsLaws.{Begun, begun-all, row-begun, row-on, lane-read}
+use Rattle.codec.specs.Fields.{laneLength, rowOf, laneOf}
+use Rattle.codec.specs.inner.FieldsLaws.{Begun, begun-all, row-begun, row-on, lane-read, record-fields}
 use Rattle.codec.proofs.record_from.Statement.{statement}
 use Rattle.codec.proofs.record_from.Tie as tie
 
@@ -70,18 +68,34 @@ shared-slice-read-t20 c = search needs
 shared-slice-read-t23 : tie.Need-shared-slice-read-t23 Inv-loop μ-loop
 shared-slice-read-t23 c = search needs
 
+add-lock-from : tie.Need-add-lock-from Inv-loop μ-loop
+add-lock-from c = search needs
+
+mul-lock-from : tie.Need-mul-lock-from Inv-loop μ-loop
+mul-lock-from c = search needs
+
+sub-lock-from : tie.Need-sub-lock-from Inv-loop μ-loop
+sub-lock-from c = search needs
+
+part-lock-from-start : tie.Need-part-lock-from-start Inv-loop μ-loop
+part-lock-from-start c = search needs
+
+part-lock-from-end : tie.Need-part-lock-from-end Inv-loop μ-loop
+part-lock-from-end c = search needs
+
+lock-from-requires : tie.Need-lock-from-requires Inv-loop μ-loop
+lock-from-requires c κs = search needs
+
 returns : tie.Need-returns Inv-loop μ-loop
-unfolding recordOf
 returns c =
-    let l = c .before .before .before .before .loop in
+    let l = c .before .before .before .before .before .before .loop in
     let e : l .l ≡ maxLanes = omega arith in
-    let w = c .before .before .before .before .before .before .before .args .words .now in
-    ap (λ (ls : List Lane). record { clock = getD w 0 0; last = getD w 1 0; lanes = ls; lag = getD w (2 + maxLanes * laneLength) 0 })
-    (rw (← e) (begun-all _ _ _ _ (l .inv .1) e))
+    record-fields _ _ _ (rw (← e) (begun-all _ _ _ _ (l .inv .1) e)) (c .lock-from .ensures)
 
 pub record-from-spec : {M : Type 1} → statement M
 record-from-spec =
     tie.close
     (tie.spec Inv-loop μ-loop start-lane-requires loop-holds mul-lane-from add-lane-from mul-lane-from-2 sub-lane-from
     part-lane-from-start part-lane-from-end lane-from-requires mul-lanes array-set-from-lanes add-l loop-less loop-again
-    shared-slice-read-t18 shared-slice-read-t20 shared-slice-read-t23 returns)
+    shared-slice-read-t18 shared-slice-read-t20 shared-slice-read-t23 add-lock-from mul-lock-from sub-lock-from
+    part-lock-from-start part-lock-from-end lock-from-requires returns)

@@ -1,13 +1,13 @@
--- `record_to` leaves `wordsOf`: the loop has stored the lanes below `l`, and after 8 of them there is one word more. Assumes nothing.
-use mathlib.Core.Path.{refl}
+-- `record_to` leaves `wordsOf`: the loop has stored the lanes below `l`, and after 8 of them there are the lag limit and the lock. Assumes nothing.
+use mathlib.Core.Path.{refl, sym, _∙_}
 use Prim.Native.Nat.{_+_, _*_, _≤_, _-_}
 use native.Mathlib.Omega.{arith}
-use lib.ListN.{length-set}
+use lib.ListN.{length-set, length-take, length-drop}
 use borrow.Author.Needs.{needs}
 use Rattle.record.proofs.Lengths.{lanes-eight}
 use Rattle.image.specs.Image.{maxLanes}
 use Rattle.codec.specs.Fields.{laneLength, recordLength}
-use Rattle.codec.specs.inner.FieldsLaws.{Begun, upTo, lanes-none, lanes-on, record-put}
+use Rattle.codec.specs.inner.FieldsLaws.{Begun, begun-all, upTo, lanes-none, lanes-on, record-put}
 use Rattle.codec.proofs.record_to.Statement.{statement}
 use Rattle.codec.proofs.record_to.Tie as tie
 
@@ -75,15 +75,52 @@ loop-again c =
 slice-write-words-3 : tie.Need-slice-write-words-3 Inv-loop μ-loop
 slice-write-words-3 c = search needs
 
+holder-requires : tie.Need-holder-requires Inv-loop μ-loop
+holder-requires c κs = search needs
+
+slice-aggregate-copy-words : tie.Need-slice-aggregate-copy-words Inv-loop μ-loop
+slice-aggregate-copy-words c = search needs
+
+add-copy-words : tie.Need-add-copy-words Inv-loop μ-loop
+add-copy-words c = search needs
+
+mul-copy-words : tie.Need-mul-copy-words Inv-loop μ-loop
+mul-copy-words c = search needs
+
+sub-copy-words : tie.Need-sub-copy-words Inv-loop μ-loop
+sub-copy-words c = rw length-set (search needs)
+
+part-copy-words-start : tie.Need-part-copy-words-start Inv-loop μ-loop
+part-copy-words-start c = rw length-set (search needs)
+
+part-copy-words-end : tie.Need-part-copy-words-end Inv-loop μ-loop
+part-copy-words-end c = rw length-set (search needs)
+
+copy-words-requires : tie.Need-copy-words-requires Inv-loop μ-loop
+copy-words-requires c κs = rw (length-take, length-drop, length-set) (search needs)
+
 same-length : tie.Need-same-length Inv-loop μ-loop
-same-length c = rw length-set (search needs)
+same-length c =
+    let w = c .before .before in
+    let h = w .before .before .before in
+    let l = h .before .before .loop in
+    let s = h .before .before .before .before in
+    record-put (s .args .t1) _ _ _ _ (l .inv .1) (omega arith) (lanes-eight (s .args .t1) (s .good .0)) (h .holder .ensures) (w .copy-words .ensures) .in-all
+    ∙ sym (s .pre)
 
 returns : tie.Need-returns Inv-loop μ-loop
-returns c = let l = c .before .loop in let s = c .before .before .before in record-put _ _ _ (l .inv .1) (omega arith) (lanes-eight (s .args .t1) (s .good .0))
+returns c =
+    let w = c .before .before in
+    let h = w .before .before .before in
+    let l = h .before .before .loop in
+    let s = h .before .before .before .before in
+    begun-all _ _ _ _
+    (record-put (s .args .t1) _ _ _ _ (l .inv .1) (omega arith) (lanes-eight (s .args .t1) (s .good .0)) (h .holder .ensures) (w .copy-words .ensures)) refl
 
 pub record-to-spec : {M : Type 1} → statement M
 record-to-spec =
     tie.close
     (tie.spec Inv-loop μ-loop slice-write-words slice-write-words-2 loop-holds mul-lane element-copy-out-lane mul-at
     add-at add-put-lane mul-put-lane sub-put-lane part-put-lane-start part-put-lane-end put-lane-requires add-l
-    loop-less loop-again slice-write-words-3 same-length returns)
+    loop-less loop-again slice-write-words-3 holder-requires slice-aggregate-copy-words add-copy-words mul-copy-words
+    sub-copy-words part-copy-words-start part-copy-words-end copy-words-requires same-length returns)

@@ -15,9 +15,11 @@ use Rattle.record.specs.Record.{noPair, noLane}
 use Rattle.record.specs.declared.Pair.{Pair}
 use Rattle.record.specs.declared.Phase.{Phase}
 use Rattle.record.specs.declared.Lane.{Lane}
+use Rattle.record.specs.declared.Lock.{Lock}
 use Rattle.record.specs.declared.Record.{Record}
-use Rattle.codec.specs.Fields.{headLength, pairsLength, laneLength, recordLength, rowOf, phaseOf, floorOf, pairOf, laneOf}
-use Rattle.codec.specs.Fields.{rowWords, pairWords, headWords, laneWords, wordsOf}
+use Rattle.codec.specs.Fields.{headLength, pairsLength, laneLength, lanesEnd, holderLength, recordLength}
+use Rattle.codec.specs.Fields.{rowOf, phaseOf, floorOf, pairOf, laneOf, lockOf, recordOf}
+use Rattle.codec.specs.Fields.{rowWords, pairWords, headWords, laneWords, lockWords, wordsOf}
 
 -- the words from k on, as a part of a slice
 pub tail-is : (k : ℕ) (ws : List ℕ) → take (length ws - k) (drop k ws) ≡ drop k ws
@@ -152,15 +154,41 @@ lanes-on r i at ws ys b a h e n y =
     let next : 2 + laneLength * (i + 1) ≡ at + laneLength = omega arith in
     rw (next, ← lanes-next r i h e, ← y) (part-on recordLength (upTo r i) at (at + laneLength) ws ys b (omega (arith, n)) (omega arith) (omega arith))
 
--- the word after the lanes is the last
-pub record-put : (r : Record) (i : ℕ) (ws : List ℕ)
-    → Begun recordLength (upTo r i) (2 + laneLength * i) ws → i ≡ maxLanes → length (r .lanes) ≡ maxLanes
-    → set ws (2 + maxLanes * laneLength) (r .lag) ≡ wordsOf r
+-- the lag limit behind the lanes
+lag-on : (r : Record) (i : ℕ) (ws : List ℕ) → Begun recordLength (upTo r i) (2 + laneLength * i) ws → i ≡ maxLanes
+    → Begun recordLength (upTo r i ++ (r .lag ∷ [])) (lanesEnd + 1) (set ws lanesEnd (r .lag))
+lag-on r i ws b h =
+    let n : 2 + laneLength * i ≡ lanesEnd = omega arith in
+    record {
+      in-all = length-set ws lanesEnd (r .lag) ∙ b .in-all;
+      so-far = take-suc-set ws lanesEnd (r .lag) (omega (arith, b .in-all))
+          ∙ ap (λ (l : List ℕ). l ++ (r .lag ∷ [])) (ap (λ k. take k ws) (sym n) ∙ b .so-far);
+    }
+
+pub holder-six : (k : Lock) → length (lockWords k) ≡ holderLength
+unfolding lockWords
+holder-six k = refl
+
+all-of : (r : Record) (i : ℕ) → i ≡ maxLanes → length (r .lanes) ≡ maxLanes → (upTo r i ++ (r .lag ∷ [])) ++ lockWords (r .lock) ≡ wordsOf r
 unfolding upTo wordsOf
-record-put r i ws b h e =
-    let n : 2 + laneLength * i ≡ 2 + maxLanes * laneLength = omega arith in
-    sym (take-all (suc (2 + maxLanes * laneLength)) (set ws (2 + maxLanes * laneLength) (r .lag))
-    (omega (arith, length-set ws (2 + maxLanes * laneLength) (r .lag), b .in-all)))
-    ∙ take-suc-set ws (2 + maxLanes * laneLength) (r .lag) (omega (arith, b .in-all))
-    ∙ ap (λ (l : List ℕ). l ++ (r .lag ∷ [])) (ap (λ k. take k ws) (sym n) ∙ b .so-far)
-    ∙ ap (λ (l : List Lane). r .clock ∷ r .last ∷ (rowWords laneWords l ++ (r .lag ∷ []))) (take-all i (r .lanes) (omega (arith, e)))
+all-of r i h e =
+    ap (λ (l : List Lane). r .clock ∷ r .last ∷ ((rowWords laneWords l ++ (r .lag ∷ [])) ++ lockWords (r .lock))) (take-all i (r .lanes) (omega (arith, e)))
+    ∙ ap (λ (l : List ℕ). r .clock ∷ r .last ∷ l) (append-assoc (rowWords laneWords (r .lanes)) (r .lag ∷ []) (lockWords (r .lock)))
+
+-- the lock behind the lag limit, to the end
+pub record-put : (r : Record) (i : ℕ) (ws ks ys : List ℕ)
+    → Begun recordLength (upTo r i) (2 + laneLength * i) ws → i ≡ maxLanes → length (r .lanes) ≡ maxLanes → ks ≡ lockWords (r .lock) → ys ≡ ks
+    → let xs = set ws lanesEnd (r .lag) in Begun recordLength (wordsOf r) recordLength (putMid (lanesEnd + 1) (length xs - (lanesEnd + 1)) xs ys)
+record-put r i ws ks ys b h e f g =
+    let xs = set ws lanesEnd (r .lag) in
+    let a = lag-on r i ws b h in
+    let p = part-on recordLength (upTo r i ++ (r .lag ∷ [])) (lanesEnd + 1) recordLength xs ys a (ap length (g ∙ f) ∙ holder-six (r .lock))
+    (omega arith) (omega arith) in
+    rw (a .in-all) (record { in-all = p .in-all; so-far = p .so-far ∙ ap (λ (l : List ℕ). (upTo r i ++ (r .lag ∷ [])) ++ l) (g ∙ f) ∙ all-of r i h e })
+
+-- a record's fields, the lock from the part behind the lag limit
+pub record-fields : (ws : List ℕ) (ls : List Lane) (k : Lock) → ls ≡ rowOf laneLength laneOf maxLanes (drop 2 ws)
+    → k ≡ lockOf (take (length ws - (lanesEnd + 1)) (drop (lanesEnd + 1) ws))
+    → record { clock = getD ws 0 0; last = getD ws 1 0; lanes = ls; lag = getD ws lanesEnd 0; lock = k } ≡ recordOf ws
+unfolding recordOf
+record-fields ws ls k a b = rw (a, b, tail-is (lanesEnd + 1) ws)

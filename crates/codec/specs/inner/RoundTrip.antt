@@ -6,9 +6,10 @@ use mathlib.Core.Bool.{Bool, true, false, cond, _&&_}
 use mathlib.Core.List.{List, [], _∷_, _++_, append-assoc}
 use native.Mathlib.Omega.{arith}
 use native.Mathlib.Nat.{mul-suc}
+use native.Mathlib.Numerals.{add-one}
 use lib.Dec.{eqb}
 use lib.ListN.{length, getD, take, drop, length-append, length-drop}
-use lib.Seq.{take-all, take-suc, drop-at, take-add, getD-at}
+use lib.Seq.{drop-at, drop-drop, take-add, split-at, getD-at}
 use borrow.Author.Tests.{eq-eqb, eqb-true}
 use Rattle.laws.specs.inner.Tests.{clash, and-left, and-right, and-both}
 use Rattle.laws.specs.inner.Lists.{All, none, more, All-map}
@@ -16,15 +17,19 @@ use Rattle.txn.specs.Txn.{maxWrites}
 use Rattle.image.specs.Image.{maxLanes}
 use Rattle.log.specs.declared.Timestamp.{Timestamp}
 use Rattle.log.specs.declared.Timestamp.the-variants.{None, At}
-use Rattle.record.specs.Record.{isLogged, loggedIn}
+use Rattle.record.specs.Record.{isLogged, loggedIn, isHeld, lockedIn}
 use Rattle.record.specs.declared.Pair.{Pair}
 use Rattle.record.specs.declared.Phase.{Phase}
 use Rattle.record.specs.declared.Phase.the-variants.{Idle, Holds}
 use Rattle.record.specs.declared.Lane.{Lane}
+use Rattle.record.specs.declared.Lock.{Lock}
+use Rattle.record.specs.declared.Lock.the-variants.{Free, Held}
 use Rattle.record.specs.declared.Record.{Record}
-use Rattle.codec.specs.Fields.{laneLength, recordLength, rowOf, phaseOf, floorOf, pairOf, laneOf, recordOf}
-use Rattle.codec.specs.Fields.{rowWords, bitFor, isSet, stampOf, headWords, pairWords, laneWords, wordsOf}
-use Rattle.codec.specs.inner.Normal.{phaseNormal, floorNormal, lanesNormal, normal}
+use Rattle.codec.specs.Fields.{laneLength, holderLength, recordLength}
+use Rattle.codec.specs.Fields.{rowOf, phaseOf, floorOf, pairOf, laneOf, lockOf, recordOf}
+use Rattle.codec.specs.Fields.{rowWords, bitFor, isSet, stampOf, headWords, pairWords, laneWords, lockWords, wordsOf}
+use Rattle.codec.specs.inner.FieldsLaws.{holder-six}
+use Rattle.codec.specs.inner.Normal.{phaseNormal, floorNormal, lanesNormal, lockNormal, normal}
 
 -- ---- lengths
 row-length : {A : Type 0} (size : ℕ) (to : A → List ℕ) (xs : List A) → All (λ x. length (to x) ≡ size) xs → length (rowWords to xs) ≡ size * length xs
@@ -74,16 +79,28 @@ lane-back l rest e =
     lane-same (l .next) (l .wrap) (phase-back (l .phase) _) (floor-back (l .floor) _)
     (ap (λ n. rowOf 2 pairOf n (rowWords pairWords (l .redo) ++ rest)) (sym e) ∙ row-back 2 pairOf pairWords (l .redo) rest (pairs-back (l .redo)))
 
+lock-back : (k : Lock) → lockOf (lockWords k) ≡ k
+unfolding lockOf lockWords bitFor isHeld lockedIn
+lock-back Free = refl
+lock-back (Held k) = refl
+
+-- what stands behind n words and one more
+after-one : (ws : List ℕ) (a : ℕ) (rest : List ℕ) (n : ℕ) → length ws ≡ n → drop (suc n) (ws ++ (a ∷ rest)) ≡ rest
+after-one ws a rest n e = rw (← add-one n) (sym (drop-drop 1 n (ws ++ (a ∷ rest))) ∙ ap (drop 1) (drop-at ws (a ∷ rest) n e))
+
 -- the record's words are its own: 8 lanes of 16 pairs are what every record has
 pub record-back : (r : Record) → length (r .lanes) ≡ maxLanes → All (λ l. length (l .redo) ≡ maxWrites) (r .lanes) → recordOf (wordsOf r) ≡ r
 unfolding recordOf wordsOf
 record-back r e es =
     let ws = rowWords laneWords (r .lanes) in
-    let n = row-length laneLength laneWords (r .lanes) (All-map lane-length es) in
+    let rest = r .lag ∷ lockWords (r .lock) in
+    let n : length ws ≡ maxLanes * laneLength = omega (arith, row-length laneLength laneWords (r .lanes) (All-map lane-length es), e) in
     rw (
-      ap (λ n. rowOf laneLength laneOf n (ws ++ (r .lag ∷ []))) (sym e)
-          ∙ row-back laneLength laneOf laneWords (r .lanes) (r .lag ∷ []) (All-map (λ l n. (lane-length l n, λ ws. lane-back l ws n)) es),
-      getD-at ws (r .lag) [] 0 (maxLanes * laneLength) (omega (arith, n, e)),
+      ap (λ n. rowOf laneLength laneOf n (ws ++ rest)) (sym e)
+          ∙ row-back laneLength laneOf laneWords (r .lanes) rest (All-map (λ l n. (lane-length l n, λ ws. lane-back l ws n)) es),
+      getD-at ws (r .lag) (lockWords (r .lock)) 0 (maxLanes * laneLength) n,
+      after-one ws (r .lag) (lockWords (r .lock)) (maxLanes * laneLength) n,
+      lock-back (r .lock),
     )
 
 -- ---- encoding what was decoded
@@ -162,18 +179,52 @@ lanes-forth (suc n) ws h t =
     ∙ sym (take-add laneLength (n * laneLength) ws)
     ∙ ap (λ k. take k ws) (let e : laneLength + n * laneLength ≡ suc n * laneLength = omega arith in e)
 
+-- the fields of a lock are the words that it was read from
+lock-pick : (t : Bool) (a b c d e f : ℕ) → eqb a 0 ≡ t
+    → cond t (eqb b 0 && (eqb c 0 && (eqb d 0 && (eqb e 0 && eqb f 0)))) (eqb a 1) ≡ true
+    → lockWords (cond t Free (Held (record { lane = b; stamp = c; count = d; logged = e; written = f }))) ≡ a ∷ b ∷ c ∷ d ∷ e ∷ f ∷ []
+unfolding lockWords bitFor isHeld lockedIn
+lock-pick true a b c d e f g h =
+    let i = and-right (eqb b 0) (eqb c 0 && (eqb d 0 && (eqb e 0 && eqb f 0))) h in
+    let j = and-right (eqb c 0) (eqb d 0 && (eqb e 0 && eqb f 0)) i in
+    let k = and-right (eqb d 0) (eqb e 0 && eqb f 0) j in
+    rw (
+      eqb-true a 0 g,
+      eqb-true b 0 (and-left (eqb b 0) (eqb c 0 && (eqb d 0 && (eqb e 0 && eqb f 0))) h),
+      eqb-true c 0 (and-left (eqb c 0) (eqb d 0 && (eqb e 0 && eqb f 0)) i),
+      eqb-true d 0 (and-left (eqb d 0) (eqb e 0 && eqb f 0) j),
+      eqb-true e 0 (and-left (eqb e 0) (eqb f 0) k),
+      eqb-true f 0 (and-right (eqb e 0) (eqb f 0) k),
+    )
+lock-pick false a b c d e f g h = rw (eqb-true a 1 h)
+
+lock-forth : (ws : List ℕ) → length ws ≡ holderLength → lockNormal ws ≡ true → lockWords (lockOf ws) ≡ ws
+unfolding lockNormal lockOf
+lock-forth [] n t = absurd (omega (arith, n))
+lock-forth (a ∷ []) n t = absurd (omega (arith, n))
+lock-forth (a ∷ b ∷ []) n t = absurd (omega (arith, n))
+lock-forth (a ∷ b ∷ c ∷ []) n t = absurd (omega (arith, n))
+lock-forth (a ∷ b ∷ c ∷ d ∷ []) n t = absurd (omega (arith, n))
+lock-forth (a ∷ b ∷ c ∷ d ∷ e ∷ []) n t = absurd (omega (arith, n))
+lock-forth (a ∷ b ∷ c ∷ d ∷ e ∷ f ∷ []) n t = lock-pick (eqb a 0) a b c d e f refl t
+lock-forth (a ∷ b ∷ c ∷ d ∷ e ∷ f ∷ g ∷ ws) n t = absurd (omega (arith, n))
+
 -- words in normal form are their record's
 pub record-forth : (ws : List ℕ) → normal ws ≡ true → wordsOf (recordOf ws) ≡ ws
 unfolding normal wordsOf recordOf
 record-forth [] t = clash false t refl
 record-forth (a ∷ []) t = clash false t refl
 record-forth (a ∷ b ∷ ws) t =
-    let n = eqb-true (length (a ∷ b ∷ ws)) recordLength (and-left (eqb (length (a ∷ b ∷ ws)) recordLength) (lanesNormal maxLanes ws) t) in
+    let rest = drop (suc (maxLanes * laneLength)) ws in
+    let n = eqb-true (length (a ∷ b ∷ ws)) recordLength
+    (and-left (eqb (length (a ∷ b ∷ ws)) recordLength) (lanesNormal maxLanes ws && lockNormal rest) t) in
+    let u = and-right (eqb (length (a ∷ b ∷ ws)) recordLength) (lanesNormal maxLanes ws && lockNormal rest) t in
     ap (λ (l : List ℕ). a ∷ b ∷ l)
-    (ap (λ (l : List ℕ). l ++ (getD ws (maxLanes * laneLength) 0 ∷ []))
-    (lanes-forth maxLanes ws (omega (arith, n)) (and-right (eqb (length (a ∷ b ∷ ws)) recordLength) (lanesNormal maxLanes ws) t))
-    ∙ sym (take-suc ws (maxLanes * laneLength) 0 (omega (arith, n)))
-    ∙ take-all (suc (maxLanes * laneLength)) ws (omega (arith, n)))
+    (ap (λ (l : List ℕ). l ++ (getD ws (maxLanes * laneLength) 0 ∷ lockWords (lockOf rest)))
+    (lanes-forth maxLanes ws (omega (arith, n)) (and-left (lanesNormal maxLanes ws) (lockNormal rest) u))
+    ∙ ap (λ (l : List ℕ). take (maxLanes * laneLength) ws ++ (getD ws (maxLanes * laneLength) 0 ∷ l))
+    (lock-forth rest (omega (arith, n, length-drop (suc (maxLanes * laneLength)) ws)) (and-right (lanesNormal maxLanes ws) (lockNormal rest) u))
+    ∙ sym (split-at ws (maxLanes * laneLength) 0 (omega (arith, n))))
 
 -- ---- a record's words are in normal form
 phase-normal : (p : Phase) (rest : List ℕ) → phaseNormal (bitFor (isLogged p) ∷ loggedIn p .first ∷ loggedIn p .count ∷ loggedIn p .stamp ∷ rest) ≡ true
@@ -199,12 +250,20 @@ lanes-normal (l ∷ ls) rest (more e es) =
     let k = lane-normal l ws in
     rw (append-assoc (laneWords l) (rowWords laneWords ls) rest, k .0, k .1, drop-at (laneWords l) ws laneLength (lane-length l e)) (lanes-normal ls rest es)
 
+lock-normal : (k : Lock) → lockNormal (lockWords k) ≡ true
+unfolding lockNormal lockWords bitFor isHeld lockedIn
+lock-normal Free = refl
+lock-normal (Held k) = refl
+
 pub words-normal : (r : Record) → length (r .lanes) ≡ maxLanes → All (λ l. length (l .redo) ≡ maxWrites) (r .lanes) → normal (wordsOf r) ≡ true
 unfolding normal wordsOf
 words-normal r e es =
-    let ws = rowWords laneWords (r .lanes) ++ (r .lag ∷ []) in
-    and-both (eqb (length (r .clock ∷ r .last ∷ ws)) recordLength) (lanesNormal maxLanes ws)
-    (eq-eqb (length (r .clock ∷ r .last ∷ ws)) recordLength
-    (omega
-    (arith, length-append (rowWords laneWords (r .lanes)) (r .lag ∷ []), row-length laneLength laneWords (r .lanes) (All-map lane-length es), e)))
-    (ap (λ n. lanesNormal n ws) (sym e) ∙ lanes-normal (r .lanes) (r .lag ∷ []) es)
+    let ls = rowWords laneWords (r .lanes) in
+    let ws = ls ++ (r .lag ∷ lockWords (r .lock)) in
+    let rest = drop (suc (maxLanes * laneLength)) ws in
+    let n : length ls ≡ maxLanes * laneLength = omega (arith, row-length laneLength laneWords (r .lanes) (All-map lane-length es), e) in
+    and-both (eqb (length (r .clock ∷ r .last ∷ ws)) recordLength) (lanesNormal maxLanes ws && lockNormal rest)
+    (eq-eqb (length (r .clock ∷ r .last ∷ ws)) recordLength (omega (arith, length-append ls (r .lag ∷ lockWords (r .lock)), n, holder-six (r .lock))))
+    (and-both (lanesNormal maxLanes ws) (lockNormal rest)
+    (ap (λ n. lanesNormal n ws) (sym e) ∙ lanes-normal (r .lanes) (r .lag ∷ lockWords (r .lock)) es)
+    (ap lockNormal (after-one ls (r .lag) (lockWords (r .lock)) (maxLanes * laneLength) n) ∙ lock-normal (r .lock)))

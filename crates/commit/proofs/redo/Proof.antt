@@ -9,10 +9,10 @@ use Rattle.commit.proofs.redo.Statement.{statement}
 use Rattle.commit.proofs.redo.Tie as tie
 
 abbrev start : tie.Else1 → tie.Start
-start c = c .before .before .before .before .before .before .before .before
+start c = c .before .before .before .before .before .before .before .before .before
 
-accepted : (c : tie.Else1) → let a = start c .args in Accepted (a .sizes) (a .state) (now (a .cache)) (now (a .nvm)) (now (a .flags)) (a .lane)
-accepted c = redo-accepted _ _ _ _ _ _ _ (c .before .redo-refusal .ensures) (c .if1 .left)
+accepted : (c : tie.Else1) → let a = start c .args in Accepted (a .sizes) (a .state) (now (a .pairs)) (now (a .cache)) (now (a .nvm)) (now (a .flags)) (a .lane)
+accepted c = redo-accepted _ _ _ _ _ _ _ _ (c .before .redo-refusal .ensures) (c .if1 .left)
 
 redo-refusal-requires : tie.Need-redo-refusal-requires
 redo-refusal-requires c κs = search needs
@@ -49,7 +49,7 @@ redo-drained-requires c κs =
     let t = d .before .before .before .before in
     let e = t .before .before in
     let s = start e in
-    committable _ _ _ _ _ _ _ _ (accepted e) (lanes-eight (s .args .state) (s .good .1 .0)) (t .drained-state .ensures) (d .drain .ensures .1)
+    committable _ _ _ _ _ _ _ _ _ (accepted e) (lanes-eight (s .args .state) (s .good .1 .0)) (t .drained-state .ensures) (d .drain .ensures .1)
 
 same-length-4 : tie.Need-same-length-4
 same-length-4 c = search needs
@@ -66,8 +66,9 @@ returns-2 c =
     let d = r .before .before .before .before .before .before .before in
     let t = d .before .before .before .before in
     let e = t .before .before in
-    redo-taken _ _ _ _ _ _ _ _ _ (t .drained-state .ensures) (d .drain .ensures .0) (d .drain .ensures .1) _ _ (e .before .redo-refusal .ensures) (e .if1 .left)
-    (r .redo-drained .ensures _)
+    redo-taken _ _ _ _ _ _ _ _ _ _ (t .drained-state .ensures) (d .drain .ensures .0) (d .drain .ensures .1) _ _ (e .before .redo-refusal .ensures)
+    (e .if1 .left)
+    (r .redo-drained .ensures _ _)
 
 pub redo-spec : {M : Type 1} → statement M
 redo-spec =

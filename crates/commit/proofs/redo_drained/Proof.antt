@@ -18,7 +18,7 @@ logged-in-requires c κs = search needs
 
 returns : tie.Need-returns
 unfolding laneAt
-returns c = λ nvm. redo-stale _ _ _ _ nvm _ _ (c .before .before .logged-in .ensures) (c .if1 .taken)
+returns c = λ pairs nvm. redo-stale _ _ _ pairs _ nvm _ _ (c .before .before .logged-in .ensures) (c .if1 .taken)
 
 add-stamp : tie.Need-add-stamp
 add-stamp c = search needs
@@ -46,8 +46,8 @@ returns-2 c =
     let m = c .before .before .before .before .before in
     let e = m .before .before .before in
     let g = e .before .before in
-    λ nvm. redo-commits _ _ _ _ nvm _ _ (g .logged-in .ensures) _ (e .if1 .left)
-    (commit-done _ _ _ _ _ _ nvm _ _ _ _ (g .logged-in .ensures) (c .committed-state .ensures) (m .commit .ensures .0) (m .commit .ensures .1))
+    λ pairs nvm. redo-commits _ _ _ pairs _ nvm _ _ (g .logged-in .ensures) _ (e .if1 .left)
+    (commit-done _ _ _ _ _ pairs _ nvm _ _ _ _ (g .logged-in .ensures) (c .committed-state .ensures) (m .commit .ensures .0) (m .commit .ensures .1))
 
 pub redo-drained-spec : {M : Type 1} → statement M
 redo-drained-spec =

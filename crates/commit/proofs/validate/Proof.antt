@@ -13,11 +13,11 @@ use Rattle.commit.proofs.validate.Statement.{statement}
 use Rattle.commit.proofs.validate.Tie as tie
 
 abbrev start : tie.Else1 → tie.Start
-start c = c .before .before .before .before .before .before .before .before .before
+start c = c .before .before .before .before .before .before .before .before .before .before
 
-accepted : (c : tie.Else1) → let a = start c .args in Accepted (a .sizes) (a .state) (now (a .cache)) (now (a .nvm)) (now (a .flags)) (a .lane)
+accepted : (c : tie.Else1) → let a = start c .args in Accepted (a .sizes) (a .state) (now (a .pairs)) (now (a .cache)) (now (a .nvm)) (now (a .flags)) (a .lane)
     × (txnOk maxWrites (a .sizes .words) (now (a .txn)) ≡ true)
-accepted c = validate-accepted _ _ _ _ _ _ _ _ (c .before .validate-refusal .ensures) (c .if1 .left)
+accepted c = validate-accepted _ _ _ _ _ _ _ _ _ (c .before .validate-refusal .ensures) (c .if1 .left)
 
 validate-refusal-requires : tie.Need-validate-refusal-requires
 validate-refusal-requires c κs = search needs
@@ -61,7 +61,7 @@ validate-drained-requires c κs =
     let e = w .before .before in
     let s = start e in
     let a = accepted e in (
-      committable _ _ _ _ _ _ _ _ (a .0) (lanes-eight (s .args .state) (s .good .1 .0)) (t .drained-state .ensures) (d .drain .ensures .1),
+      committable _ _ _ _ _ _ _ _ _ (a .0) (lanes-eight (s .args .state) (s .good .1 .0)) (t .drained-state .ensures) (d .drain .ensures .1),
       (
         writes-few _ _ _ _ (w .writes-on .ensures) (a .1),
         (full-list _ _ (w .writes-on .ensures), writes-low _ _ _ _ (w .writes-on .ensures) (a .1)),
@@ -84,9 +84,9 @@ returns-2 c =
     let t = d .before .before .before .before in
     let w = t .before .before in
     let e = w .before .before in
-    validate-taken _ _ _ _ _ _ _ _ _ (t .drained-state .ensures) (d .drain .ensures .0) (d .drain .ensures .1) _ _ _ _ (e .before .validate-refusal .ensures)
+    validate-taken _ _ _ _ _ _ _ _ _ _ (t .drained-state .ensures) (d .drain .ensures .0) (d .drain .ensures .1) _ _ _ _ (e .before .validate-refusal .ensures)
     (e .if1 .left)
-    (writes-run _ _ _ _ (w .writes-on .ensures) (accepted e .1)) (r .validate-drained .ensures _)
+    (writes-run _ _ _ _ (w .writes-on .ensures) (accepted e .1)) (r .validate-drained .ensures _ _)
 
 pub validate-spec : {M : Type 1} → statement M
 validate-spec =

@@ -44,7 +44,8 @@ returns c =
     let n = i .before in
     let m = n .before in
     let g = m .before .before in
-    λ nvm. validate-changed _ _ _ _ nvm _ _ _ _ _ (m .matches .ensures ∙ held-matches _ _ _ _ _ _ nvm _ (g .logged-in .ensures)) (not-true _ (n .if1 .taken))
+    λ pairs nvm. validate-changed _ _ _ pairs _ nvm _ _ _ _ _
+    (m .matches .ensures ∙ held-matches _ _ _ _ _ pairs _ nvm _ (g .logged-in .ensures)) (not-true _ (n .if1 .taken))
     (i .idle-lane .ensures) (c .with-lane .ensures)
 
 add-stamp : tie.Need-add-stamp
@@ -88,9 +89,9 @@ returns-2 c =
     let g = q .before .before in
     let s = g .before .before .before .before in
     let w = s .args .writes in
-    λ nvm. validate-commits (s .args .sizes) (w .list) (w .count) (s .pre .1 .0) (search needs) _ (p .pairs-of .ensures) _ _ _ nvm _ _ _
-    (q .matches .ensures ∙ held-matches _ _ _ _ _ _ nvm _ (g .logged-in .ensures)) (not-false _ (e .if1 .left))
-    (commit-done _ _ _ _ _ _ nvm _ _ _ _ (g .logged-in .ensures) (c .committed-state .ensures) (m .commit .ensures .0) (m .commit .ensures .1))
+    λ pairs nvm. validate-commits (s .args .sizes) (w .list) (w .count) (s .pre .1 .0) (search needs) _ (p .pairs-of .ensures) _ _ pairs _ nvm _ _ _
+    (q .matches .ensures ∙ held-matches _ _ _ _ _ pairs _ nvm _ (g .logged-in .ensures)) (not-false _ (e .if1 .left))
+    (commit-done _ _ _ _ _ pairs _ nvm _ _ _ _ (g .logged-in .ensures) (c .committed-state .ensures) (m .commit .ensures .0) (m .commit .ensures .1))
 
 pub validate-drained-spec : {M : Type 1} → statement M
 validate-drained-spec =

@@ -26,14 +26,17 @@ returns-2 c =
 mul-at : tie.Need-mul-at
 mul-at c =
     let b = c .before .before in
-    let k = checked _ _ _ _ _ _ (sym (b .before .drain-refusal .ensures) ∙ b .if1 .left) in
+    let k = checked _ _ _ _ _ _ _ (sym (b .before .drain-refusal .ensures) ∙ b .if1 .left) in
     omega (arith, lane-small _ _ (k .image .sizes-ok) (k .lane-below))
 
 element-copy-out-at : tie.Need-element-copy-out-at
 element-copy-out-at c =
     let b = c .before .before in
-    let k = checked _ _ _ _ _ _ (sym (b .before .drain-refusal .ensures) ∙ b .if1 .left) in
+    let k = checked _ _ _ _ _ _ _ (sym (b .before .drain-refusal .ensures) ∙ b .if1 .left) in
     omega (arith, lane-small _ _ (k .image .sizes-ok) (k .lane-below))
+
+is-held-requires : tie.Need-is-held-requires
+is-held-requires c κs = search needs
 
 spent-requires : tie.Need-spent-requires
 spent-requires c κs = search needs
@@ -44,13 +47,14 @@ commit-refusal-requires c κs = search needs
 returns-3 : tie.Need-returns-3
 unfolding laneAt
 returns-3 c =
-    let d = c .before .before .before in
+    let l = c .before .before in
+    let d = l .before .before in
     let b = d .before .before in
-    validate-causes _ _ _ _ (b .before .drain-refusal .ensures) _ _ _ (b .if1 .left) (sym (d .before .txn-ok .ensures) ∙ not-false _ (d .if2 .left))
-    (c .before .spent .ensures) (c .commit-refusal .ensures)
+    validate-causes _ _ _ _ (b .before .drain-refusal .ensures) _ _ _ _ (b .if1 .left) (sym (d .before .txn-ok .ensures) ∙ not-false _ (d .if2 .left))
+    (l .is-held .ensures) (c .before .spent .ensures) (c .commit-refusal .ensures)
 
 pub validate-refusal-spec : {M : Type 1} → statement M
 validate-refusal-spec =
     tie.close
-    (tie.spec drain-refusal-requires returns txn-ok-requires returns-2 mul-at element-copy-out-at spent-requires
+    (tie.spec drain-refusal-requires returns txn-ok-requires returns-2 mul-at element-copy-out-at is-held-requires spent-requires
     commit-refusal-requires returns-3)

@@ -23,9 +23,14 @@ use Rattle.store.specs.declared.Answer.the-variants.{Committed, Stale, Changed}
 use Rattle.store.specs.Machine.{Machine, Step, firstCause}
 use Rattle.store.specs.Calls.{isStale, pairStores, redoPairs, committed, entriesMatch, matches, released}
 
--- the number of the last two causes, 7 and 8, of a lane of this phase
-unfoldable pub commitRefusal : Phase → Bool → ℕ
-commitRefusal phase spent = firstCause (record { number = 7; holds = not (isLogged phase) } ∷ record { number = 8; holds = spent } ∷ [])
+-- the number of the last three causes, 7, 11 and 8, of a lane of this phase
+unfoldable pub commitRefusal : Phase → (held spent : Bool) → ℕ
+commitRefusal phase held spent =
+    firstCause
+    (record { number = 7; holds = not (isLogged phase) }
+    ∷ record { number = 11; holds = held }
+    ∷ record { number = 8; holds = spent }
+    ∷ [])
 
 -- the record after a commit
 unfoldable pub committedState : ℕ → Record → Record

@@ -27,7 +27,7 @@ use Rattle.log.specs.Log.{slotAt}
 use Rattle.log.specs.Append.{circular, restampStore}
 use Rattle.log.specs.inner.AppendEntries.{WordsBelow}
 use Rattle.log.specs.inner.SearchLaws.{circular-low}
-use Rattle.record.specs.Record.{noPair, laneAt, isLogged, loggedIn, pairsOk, spent, idleLane, withLane, pairsOf}
+use Rattle.record.specs.Record.{noPair, laneAt, isLogged, loggedIn, isHeld, pairsOk, spent, idleLane, withLane, pairsOf}
 use Rattle.record.specs.inner.RecordLaws.{LoggedIn, record-in, lane-in, phase-in, clock-room, pair-below, pairs-cut}
 use Rattle.record.specs.declared.Lane.{Lane}
 use Rattle.record.specs.declared.Logged.{Logged}
@@ -36,7 +36,7 @@ use Rattle.record.specs.declared.Phase.{Phase}
 use Rattle.record.specs.declared.Record.{Record}
 use Rattle.store.specs.declared.Answer.the-variants.{Committed, Stale, Changed}
 use Rattle.store.specs.Machine.{Machine, Step, firstCause}
-use Rattle.store.specs.Calls.{badTxn, notLogged, clockSpent, drainRefusal, drained, changed, writesOn, pairStores, commitStores, committed}
+use Rattle.store.specs.Calls.{badTxn, notLogged, lockHeld, clockSpent, drainRefusal, drained, changed, writesOn, pairStores, commitStores, committed}
 use Rattle.store.specs.Calls.{redoRefusal, isStale, redoPairs, redoStep, entryMatches, entriesMatch, matches, released}
 use Rattle.store.specs.Calls.{validateRefusalBy, validateRefusal, validateStepBy, validateStep}
 use Rattle.store.specs.Interface.{machineOf}
@@ -46,24 +46,29 @@ use Rattle.store.specs.inner.StoreLaws.{step-taken}
 use Rattle.store.specs.inner.StoreLaws.{drained-by, drained-state, drained-clock, drained-last, drained-keeps}
 use Rattle.commit.specs.inner.Commit.{commitRefusal, committedState, commitWords, matchesHeld, Restampable, Committable, redoDrained, validateDrained}
 
--- ---- refusals 7 and 8
-module _ (phase : Phase) (spent b : Bool) (f : b ≡ isLogged phase) where
-  pub commit-idle : b ≡ false → 7 ≡ commitRefusal phase spent
+-- ---- refusals 7, 11 and 8
+module _ (phase : Phase) (held spent b : Bool) (f : b ≡ isLogged phase) where
+  pub commit-idle : b ≡ false → 7 ≡ commitRefusal phase held spent
   unfolding commitRefusal
   commit-idle k = sym (first-holds _ _ (rw (← f, k)))
 
-  pub commit-spent : b ≡ true → spent ≡ true → 8 ≡ commitRefusal phase spent
+  pub commit-held : b ≡ true → held ≡ true → 11 ≡ commitRefusal phase held spent
   unfolding commitRefusal
-  commit-spent k g = sym (first-fails _ _ (rw (← f, k)) ∙ first-holds _ _ g)
+  commit-held k l = sym (first-fails _ _ (rw (← f, k)) ∙ first-holds _ _ l)
 
-  pub commit-free : b ≡ true → spent ≡ false → 0 ≡ commitRefusal phase spent
+  pub commit-spent : b ≡ true → held ≡ false → spent ≡ true → 8 ≡ commitRefusal phase held spent
   unfolding commitRefusal
-  commit-free k g = sym (first-fails _ _ (rw (← f, k)) ∙ first-fails _ _ g ∙ first-end)
+  commit-spent k l g = sym (first-fails _ _ (rw (← f, k)) ∙ first-fails _ _ l ∙ first-holds _ _ g)
+
+  pub commit-free : b ≡ true → held ≡ false → spent ≡ false → 0 ≡ commitRefusal phase held spent
+  unfolding commitRefusal
+  commit-free k l g = sym (first-fails _ _ (rw (← f, k)) ∙ first-fails _ _ l ∙ first-fails _ _ g ∙ first-end)
 
 -- the record alone decides them
-commit-causes : (L : ℕ) (m : Machine) → commitRefusal (laneAt (m .state) L .phase) (spent (m .state)) ≡ firstCause (notLogged L m ∷ clockSpent m ∷ [])
-unfolding commitRefusal notLogged clockSpent
-commit-causes L m = refl
+commit-causes : (L : ℕ) (m : Machine) (h s : Bool) → h ≡ isHeld (m .state .lock) → s ≡ spent (m .state)
+    → commitRefusal (laneAt (m .state) L .phase) h s ≡ firstCause (notLogged L m ∷ lockHeld m ∷ clockSpent m ∷ [])
+unfolding commitRefusal notLogged lockHeld clockSpent
+commit-causes L m h s e f = rw (e, f)
 
 -- ---- the whole refusals, where a call has found Drain's number
 module _ (z : Sizes) (L : ℕ) (m : Machine) (number : ℕ) (e : number ≡ drainRefusal z L m) where
@@ -71,9 +76,10 @@ module _ (z : Sizes) (L : ℕ) (m : Machine) (number : ℕ) (e : number ≡ drai
   unfolding redoRefusal
   redo-refused h = e ∙ sym (at-lane z L m _ (λ k. h (e ∙ k)))
 
-  pub redo-causes : (k : ℕ) (s : Bool) → number ≡ 0 → s ≡ spent (m .state) → k ≡ commitRefusal (laneAt (m .state) L .phase) s → k ≡ redoRefusal z L m
+  pub redo-causes : (k : ℕ) (l s : Bool) → number ≡ 0 → l ≡ isHeld (m .state .lock) → s ≡ spent (m .state)
+      → k ≡ commitRefusal (laneAt (m .state) L .phase) l s → k ≡ redoRefusal z L m
   unfolding redoRefusal
-  redo-causes k s h g f = f ∙ ap (commitRefusal (laneAt (m .state) L .phase)) g ∙ commit-causes L m ∙ sym (after-lane z L m _ (sym e ∙ h))
+  redo-causes k l s h d g f = f ∙ commit-causes L m l s d g ∙ sym (after-lane z L m _ (sym e ∙ h))
 
   module _ (t : List ℕ) where
     pub validate-refused : (number ≡ 0 → ⊥) → number ≡ validateRefusal z L t m
@@ -82,46 +88,46 @@ module _ (z : Sizes) (L : ℕ) (m : Machine) (number : ℕ) (e : number ≡ drai
 
     pub validate-bad : number ≡ 0 → txnOk maxWrites (z .words) t ≡ false → 5 ≡ validateRefusal z L t m
     unfolding validateRefusalBy
-    validate-bad h f = sym (after-lane z L m _ (sym e ∙ h) ∙ refuses-txn _ z t f)
+    validate-bad h f = sym (after-lane z L m _ (sym e ∙ h) ∙ refuses-txn _ _ z t f)
 
-    pub validate-causes : (k : ℕ) (s : Bool) → number ≡ 0 → txnOk maxWrites (z .words) t ≡ true → s ≡ spent (m .state)
-        → k ≡ commitRefusal (laneAt (m .state) L .phase) s
+    pub validate-causes : (k : ℕ) (l s : Bool) → number ≡ 0 → txnOk maxWrites (z .words) t ≡ true → l ≡ isHeld (m .state .lock) → s ≡ spent (m .state)
+        → k ≡ commitRefusal (laneAt (m .state) L .phase) l s
         → k ≡ validateRefusal z L t m
     unfolding validateRefusalBy
-    validate-causes k s h g d f = f ∙ ap (commitRefusal (laneAt (m .state) L .phase)) d ∙ commit-causes L m
-        ∙ sym (after-lane z L m _ (sym e ∙ h) ∙ passes-txn _ z t g)
+    validate-causes k l s h g c d f = f ∙ commit-causes L m l s c d ∙ sym (after-lane z L m _ (sym e ∙ h) ∙ passes-txn _ _ z t g)
 
 -- ---- what a call knows that is not refused
-commit-none : (L : ℕ) (m : Machine) → firstCause (notLogged L m ∷ clockSpent m ∷ []) ≡ 0
+commit-none : (L : ℕ) (m : Machine) → firstCause (notLogged L m ∷ lockHeld m ∷ clockSpent m ∷ []) ≡ 0
     → (isLogged (laneAt (m .state) L .phase) ≡ true) × (spent (m .state) ≡ false)
-unfolding notLogged clockSpent
+unfolding notLogged lockHeld clockSpent
 commit-none L m e =
     let a = first-none _ _ (λ z. omega arith) e in
     let b = first-none _ _ (λ z. omega arith) (a .1) in
-    (not-false _ (a .0), b .0)
+    let c = first-none _ _ (λ z. omega arith) (b .1) in
+    (not-false _ (a .0), c .0)
 
 -- a call that may commit, before its drain
-pub record Accepted (z : Sizes) (state : Record) (cache nvm flags : List ℕ) (L : ℕ) : Type 0 where
-  pub known : Checked z state cache nvm flags L
+pub record Accepted (z : Sizes) (state : Record) (pairs cache nvm flags : List ℕ) (L : ℕ) : Type 0 where
+  pub known : Checked z state pairs cache nvm flags L
   pub holds : isLogged (laneAt state L .phase) ≡ true
   pub unspent : spent state ≡ false
 
-module _ (z : Sizes) (state : Record) (cache nvm flags : List ℕ) (L number : ℕ) where
-  pub redo-accepted : number ≡ redoRefusal z L (machineOf state cache nvm flags) → number ≡ 0 → Accepted z state cache nvm flags L
+module _ (z : Sizes) (state : Record) (pairs cache nvm flags : List ℕ) (L number : ℕ) where
+  pub redo-accepted : number ≡ redoRefusal z L (machineOf state pairs cache nvm flags) → number ≡ 0 → Accepted z state pairs cache nvm flags L
   unfolding redoRefusal
   redo-accepted e h =
-      let a = lane-passed z L (machineOf state cache nvm flags) _ (sym e ∙ h) in
-      let b = commit-none L (machineOf state cache nvm flags) (a .1) in
-      record { known = checked z state cache nvm flags L (a .0); holds = b .0; unspent = b .1 }
+      let a = lane-passed z L (machineOf state pairs cache nvm flags) _ (sym e ∙ h) in
+      let b = commit-none L (machineOf state pairs cache nvm flags) (a .1) in
+      record { known = checked z state pairs cache nvm flags L (a .0); holds = b .0; unspent = b .1 }
 
-  pub validate-accepted : (t : List ℕ) → number ≡ validateRefusal z L t (machineOf state cache nvm flags) → number ≡ 0
-      → Accepted z state cache nvm flags L × (txnOk maxWrites (z .words) t ≡ true)
+  pub validate-accepted : (t : List ℕ) → number ≡ validateRefusal z L t (machineOf state pairs cache nvm flags) → number ≡ 0
+      → Accepted z state pairs cache nvm flags L × (txnOk maxWrites (z .words) t ≡ true)
   unfolding validateRefusalBy badTxn
   validate-accepted t e h =
-      let a = lane-passed z L (machineOf state cache nvm flags) _ (sym e ∙ h) in
+      let a = lane-passed z L (machineOf state pairs cache nvm flags) _ (sym e ∙ h) in
       let c = first-none _ _ (λ z. omega arith) (a .1) in
-      let b = commit-none L (machineOf state cache nvm flags) (c .1) in
-      (record { known = checked z state cache nvm flags L (a .0); holds = b .0; unspent = b .1 }, not-false _ (c .0))
+      let b = commit-none L (machineOf state pairs cache nvm flags) (c .1) in
+      (record { known = checked z state pairs cache nvm flags L (a .0); holds = b .0; unspent = b .1 }, not-false _ (c .0))
 
 -- what the range check says of a logged transaction, where clock, redo log and phase are equal
 same-logged : (z : Sizes) (k₁ k₂ : ℕ) (r₁ r₂ : List Pair) (p₁ p₂ : Phase) → k₁ ≡ k₂ → r₁ ≡ r₂ → p₁ ≡ p₂ → LoggedIn z k₂ r₂ (loggedIn p₂)
@@ -129,11 +135,11 @@ same-logged : (z : Sizes) (k₁ k₂ : ℕ) (r₁ r₂ : List Pair) (p₁ p₂ :
 same-logged z k₁ k₂ r₁ r₂ p₁ p₂ e f h g = rw (e, f, h) g
 
 -- and after it
-pub committable : (z : Sizes) (state : Record) (cache nvm flags : List ℕ) (L : ℕ) (r : Record) (f : List ℕ) → Accepted z state cache nvm flags L
+pub committable : (z : Sizes) (state : Record) (pairs cache nvm flags : List ℕ) (L : ℕ) (r : Record) (f : List ℕ) → Accepted z state pairs cache nvm flags L
     → length (state .lanes) ≡ maxLanes → r ≡ drainedState z cache L state → f ≡ drainedFlags L flags → Committable z r cache f L
-committable z state cache nvm flags L r f a n d e =
+committable z state pairs cache nvm flags L r f a n d e =
     let k = a .known in
-    let q = record-in z state (k .in-range) in
+    let q = record-in z state pairs (k .in-range) in
     let s = drained-keeps z cache L state in
     let u : L < length (state .lanes) = omega (arith, sizes-in z (k .image .sizes-ok) .lanes-high, k .lane-below) in
     let g = phase-in z (state .clock) (laneAt state L .redo) (laneAt state L .phase) (a .holds)
@@ -255,12 +261,12 @@ module _ (z : Sizes) (L : ℕ) (g : Logged) (s : ℕ) (ps : List Pair) (cache ca
       ∙ flushAll-append L (places (pairStores ps)) (places (last-store ∷ [])) flags))
 
 -- the machine then, with its record
-pub commit-done : (z : Sizes) (L : ℕ) (g : Logged) (ps : List Pair) (r : Record) (cache nvm flags : List ℕ) (r₂ : Record) (cache₂ flags₂ : List ℕ)
+pub commit-done : (z : Sizes) (L : ℕ) (g : Logged) (ps : List Pair) (r : Record) (pairs cache nvm flags : List ℕ) (r₂ : Record) (cache₂ flags₂ : List ℕ)
     → g ≡ loggedIn (laneAt r L .phase) → r₂ ≡ committedState L r
     → cache₂ ≡ stored (commitWords z L g (r .clock + 2) ps cache) cache → flags₂ ≡ flushAll L (places (commitWords z L g (r .clock + 2) ps cache)) flags
-    → machineOf r₂ cache₂ nvm flags₂ ≡ committed z L ps (machineOf r cache nvm flags)
+    → machineOf r₂ pairs cache₂ nvm flags₂ ≡ committed z L ps (machineOf r pairs cache nvm flags)
 unfolding committed changed commitStores commitWords committedState
-commit-done z L g ps r cache nvm flags r₂ cache₂ flags₂ h e f k = rw (e, f, k, h)
+commit-done z L g ps r pairs cache nvm flags r₂ cache₂ flags₂ h e f k = rw (e, f, k, h)
 
 -- ---- writes compared with entries
 -- i writes compared, all matching: what is left to compare from this slot on decides
@@ -313,23 +319,24 @@ module _ (z : Sizes) (L : ℕ) (g : Logged) (list : List Write) (n : ℕ) (k : n
   unfolding matchesHeld
   matches-log part b h p q = q ∙ rw (length-take-le n list k, eq-eqb n (g .count) h, p)
 
-pub held-matches : (z : Sizes) (L : ℕ) (g : Logged) (ws : List Write) (r : Record) (cache nvm flags : List ℕ) → g ≡ loggedIn (laneAt r L .phase)
-    → matchesHeld z L g ws cache ≡ matches z L ws (machineOf r cache nvm flags)
+pub held-matches : (z : Sizes) (L : ℕ) (g : Logged) (ws : List Write) (r : Record) (pairs cache nvm flags : List ℕ) → g ≡ loggedIn (laneAt r L .phase)
+    → matchesHeld z L g ws cache ≡ matches z L ws (machineOf r pairs cache nvm flags)
 unfolding matchesHeld matches
-held-matches z L g ws r cache nvm flags f = rw f
+held-matches z L g ws r pairs cache nvm flags f = rw f
 
 -- ---- how Redo ends, on a drained lane
 pub redo-requires : (z : Sizes) (L : ℕ) (r : Record) (cache flags : List ℕ) (g : Logged) → Committable z r cache flags L → g ≡ loggedIn (laneAt r L .phase)
     → Restampable z cache flags L g (r .clock + 2) × ((g .count ≤ maxWrites) × (pairsOk (z .words) (take (g .count) (laneAt r L .redo)) ≡ true))
 redo-requires z L r cache flags g k f = (rw f (k .restampable), (rw f (k .logged .most), rw f (k .logged .pairs)))
 
-module _ (z : Sizes) (L : ℕ) (r : Record) (cache nvm flags : List ℕ) (g : Logged) (f : g ≡ loggedIn (laneAt r L .phase)) where
-  pub redo-stale : g .stamp < r .last → record { answer = Stale; machine = machineOf r cache nvm flags } ≡ redoDrained z L (machineOf r cache nvm flags)
+module _ (z : Sizes) (L : ℕ) (r : Record) (pairs cache nvm flags : List ℕ) (g : Logged) (f : g ≡ loggedIn (laneAt r L .phase)) where
+  pub redo-stale : g .stamp < r .last
+      → record { answer = Stale; machine = machineOf r pairs cache nvm flags } ≡ redoDrained z L (machineOf r pairs cache nvm flags)
   unfolding redoDrained isStale
   redo-stale h = rw (← f, lt-ltb (g .stamp) (r .last) h)
 
-  pub redo-commits : (m : Machine) → r .last ≤ g .stamp → m ≡ committed z L (take (g .count) (laneAt r L .redo)) (machineOf r cache nvm flags)
-      → record { answer = Committed (r .clock + 2); machine = m } ≡ redoDrained z L (machineOf r cache nvm flags)
+  pub redo-commits : (m : Machine) → r .last ≤ g .stamp → m ≡ committed z L (take (g .count) (laneAt r L .redo)) (machineOf r pairs cache nvm flags)
+      → record { answer = Committed (r .clock + 2); machine = m } ≡ redoDrained z L (machineOf r pairs cache nvm flags)
   unfolding redoDrained isStale redoPairs
   redo-commits m h d = rw (← f, le-ltb (g .stamp) (r .last) h, d)
 
@@ -339,26 +346,27 @@ unfolding pairsOk pairsOf
 pairs-low W none = refl
 pairs-low W (more {x = w} h a) = rw (lt-ltb (w .word) W h) (pairs-low W a)
 
-module _ (z : Sizes) (list : List Write) (n : ℕ) (k : n ≤ maxWrites) (long : n ≤ length list) (pairs : List Pair)
-    (p : pairs ≡ pairsOf maxWrites (take n list)) where
-  first-pairs : take n pairs ≡ pairsOf (length (take n list)) (take n list)
+module _ (z : Sizes) (list : List Write) (n : ℕ) (k : n ≤ maxWrites) (long : n ≤ length list) (redo : List Pair)
+    (p : redo ≡ pairsOf maxWrites (take n list)) where
+  first-pairs : take n redo ≡ pairsOf (length (take n list)) (take n list)
   first-pairs = rw (p, length-take-le n list long) (pairs-cut n maxWrites (take n list) k)
 
-  pub validate-pairs : WordsBelow (z .words) (take n list) → pairsOk (z .words) (take n pairs) ≡ true
+  pub validate-pairs : WordsBelow (z .words) (take n list) → pairsOk (z .words) (take n redo) ≡ true
   validate-pairs a = rw first-pairs (pairs-low (z .words) a)
 
-  pub validate-commits : (L : ℕ) (r : Record) (cache nvm flags : List ℕ) (b : Bool) (m : Machine) → b ≡ matches z L (take n list) (machineOf r cache nvm flags)
+  pub validate-commits : (L : ℕ) (r : Record) (pairs cache nvm flags : List ℕ) (b : Bool) (m : Machine)
+      → b ≡ matches z L (take n list) (machineOf r pairs cache nvm flags)
       → b ≡ true
-      → m ≡ committed z L (take n pairs) (machineOf r cache nvm flags)
-      → record { answer = Committed (r .clock + 2); machine = m } ≡ validateDrained z L (take n list) (machineOf r cache nvm flags)
+      → m ≡ committed z L (take n redo) (machineOf r pairs cache nvm flags)
+      → record { answer = Committed (r .clock + 2); machine = m } ≡ validateDrained z L (take n list) (machineOf r pairs cache nvm flags)
   unfolding validateDrained
-  validate-commits L r cache nvm flags b m e h d = rw (← e, h, d, first-pairs)
+  validate-commits L r pairs cache nvm flags b m e h d = rw (← e, h, d, first-pairs)
 
-pub validate-changed : (z : Sizes) (L : ℕ) (r : Record) (cache nvm flags : List ℕ) (ws : List Write) (b : Bool) (i : Lane) (r₂ : Record)
-    → b ≡ matches z L ws (machineOf r cache nvm flags) → b ≡ false → i ≡ idleLane (laneAt r L) → r₂ ≡ withLane r L i
-    → record { answer = Changed; machine = machineOf r₂ cache nvm flags } ≡ validateDrained z L ws (machineOf r cache nvm flags)
+pub validate-changed : (z : Sizes) (L : ℕ) (r : Record) (pairs cache nvm flags : List ℕ) (ws : List Write) (b : Bool) (i : Lane) (r₂ : Record)
+    → b ≡ matches z L ws (machineOf r pairs cache nvm flags) → b ≡ false → i ≡ idleLane (laneAt r L) → r₂ ≡ withLane r L i
+    → record { answer = Changed; machine = machineOf r₂ pairs cache nvm flags } ≡ validateDrained z L ws (machineOf r pairs cache nvm flags)
 unfolding validateDrained released
-validate-changed z L r cache nvm flags ws b i r₂ e h f g = rw (← e, h, g, f)
+validate-changed z L r pairs cache nvm flags ws b i r₂ e h f g = rw (← e, h, g, f)
 
 -- ---- the drain before: it keeps all that Redo and Validate look at
 module _ (z : Sizes) (L : ℕ) (m : Machine) where
@@ -403,20 +411,20 @@ module _ (z : Sizes) (L : ℕ) (m : Machine) where
   validate-drained ws = rw (same-matches ws, same-clock)
 
 -- ---- the calls, where they are not refused
-module _ (z : Sizes) (L : ℕ) (state : Record) (cache nvm flags : List ℕ) (r : Record) (nvm₁ flags₁ : List ℕ)
+module _ (z : Sizes) (L : ℕ) (state : Record) (pairs cache nvm flags : List ℕ) (r : Record) (nvm₁ flags₁ : List ℕ)
     (d : r ≡ drainedState z cache L state) (e : nvm₁ ≡ drainedNvm L flags cache nvm) (f : flags₁ ≡ drainedFlags L flags) (number : ℕ) (step : Step) where
-  pub redo-taken : number ≡ redoRefusal z L (machineOf state cache nvm flags) → number ≡ 0 → step ≡ redoDrained z L (machineOf r cache nvm₁ flags₁)
-      → step ≡ redoStep z L (machineOf state cache nvm flags)
+  pub redo-taken : number ≡ redoRefusal z L (machineOf state pairs cache nvm flags) → number ≡ 0 → step ≡ redoDrained z L (machineOf r pairs cache nvm₁ flags₁)
+      → step ≡ redoStep z L (machineOf state pairs cache nvm flags)
   unfolding redoStep
   redo-taken n h s =
-      s ∙ ap (redoDrained z L) (drained-by z L state cache nvm flags r nvm₁ flags₁ d e f) ∙ redo-drained z L (machineOf state cache nvm flags)
-      ∙ step-taken number _ (machineOf state cache nvm flags) _ n h
+      s ∙ ap (redoDrained z L) (drained-by z L state pairs cache nvm flags r nvm₁ flags₁ d e f) ∙ redo-drained z L (machineOf state pairs cache nvm flags)
+      ∙ step-taken number _ (machineOf state pairs cache nvm flags) _ n h
 
-  pub validate-taken : (t : List ℕ) (ws : List Write) → number ≡ validateRefusal z L t (machineOf state cache nvm flags) → number ≡ 0
-      → ws ≡ run (z .words) t (dataOf z cache) → step ≡ validateDrained z L ws (machineOf r cache nvm₁ flags₁)
-      → step ≡ validateStep z L t (machineOf state cache nvm flags)
+  pub validate-taken : (t : List ℕ) (ws : List Write) → number ≡ validateRefusal z L t (machineOf state pairs cache nvm flags) → number ≡ 0
+      → ws ≡ run (z .words) t (dataOf z cache) → step ≡ validateDrained z L ws (machineOf r pairs cache nvm₁ flags₁)
+      → step ≡ validateStep z L t (machineOf state pairs cache nvm flags)
   unfolding validateStepBy writesOn
   validate-taken t ws n h w s =
-      s ∙ rw w (ap (validateDrained z L (run (z .words) t (dataOf z cache))) (drained-by z L state cache nvm flags r nvm₁ flags₁ d e f)
-      ∙ validate-drained z L (machineOf state cache nvm flags) (run (z .words) t (dataOf z cache)))
-      ∙ step-taken number _ (machineOf state cache nvm flags) _ n h
+      s ∙ rw w (ap (validateDrained z L (run (z .words) t (dataOf z cache))) (drained-by z L state pairs cache nvm flags r nvm₁ flags₁ d e f)
+      ∙ validate-drained z L (machineOf state pairs cache nvm flags) (run (z .words) t (dataOf z cache)))
+      ∙ step-taken number _ (machineOf state pairs cache nvm flags) _ n h

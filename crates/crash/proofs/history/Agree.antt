@@ -4,8 +4,8 @@ use mathlib.Core.Path.{_≡_, refl, ap, _∙_, sym}
 use mathlib.Core.Logic.{_≢_}
 use mathlib.Core.Bool.{Bool, true, false, _&&_}
 use mathlib.Core.List.{List, [], _∷_}
-use mathlib.Core.Option.{some}
-use Prim.Native.Nat.{ℕ, suc, _+_, _≤_, _<_}
+use mathlib.Core.Option.{Option, none, some}
+use Prim.Native.Nat.{ℕ, suc, _+_, _-_, _≤_, _<_}
 use native.Mathlib.Omega.{arith}
 use native.Mathlib.Nat.{le-refl}
 use lib.Dec.{eqb, ltb}
@@ -14,7 +14,7 @@ use borrow.Author.Tests.{ne-eqb, ltb-true, ltb-false, lt-ltb, le-ltb}
 use Rattle.laws.specs.inner.Tests.{split, eqb-same}
 use Rattle.laws.specs.inner.Lists.{All, none as nil, more}
 use Rattle.slot.specs.declared.Content.the-variants.{Entry}
-use Rattle.txn.specs.Txn.{maxWrites, former, txnBy}
+use Rattle.txn.specs.Txn.{maxWrites, maxLong, current, former, txnBy, run}
 use Rattle.txn.specs.inner.Writes.{noWrite}
 use Rattle.txn.specs.declared.Write.{Write}
 use Rattle.image.specs.Image.{buffersOk, logOf}
@@ -22,15 +22,19 @@ use Rattle.image.specs.declared.Sizes.{Sizes}
 use Rattle.log.specs.Log.{slotAt, latestIn}
 use Rattle.log.specs.Append.{circular}
 use Rattle.log.specs.inner.SearchLaws.{circular-low}
-use Rattle.log.specs.declared.Timestamp.the-variants.{At}
-use Rattle.record.specs.Record.{laneAt, isLogged, loggedIn, stampOk, recordOk, pairsOf}
+use Rattle.log.specs.declared.Timestamp.the-variants.{None, At}
+use Rattle.record.specs.Record.{laneAt, isLogged, loggedIn, lockLength, isHeld, stampOk, recordOk, pairsOf, wordsOfPairs}
+use Rattle.record.specs.declared.Locked.{Locked}
+use Rattle.record.specs.declared.Lock.{Lock}
+use Rattle.record.specs.declared.Lock.the-variants.{Free, Held}
 use Rattle.record.specs.declared.Logged.{Logged}
 use Rattle.record.specs.declared.Phase.{Phase}
 use Rattle.record.specs.declared.Phase.the-variants.{Idle, Holds}
 use Rattle.store.specs.Machine.{Machine}
 use Rattle.store.specs.Calls.{entryMatches, entriesMatch}
-use Rattle.crash.specs.History.{closingAt, newestStamp, Commit, History, pageAt, writesLogged, sameOlds, isAbove, commitAbove}
-use Rattle.crash.specs.Theorem.{Live}
+use Rattle.crash.specs.History.{closingAt, newestStamp, Commit, Holder, History, pageAt, replay, wordsBelow, present, written, visible}
+use Rattle.crash.specs.History.{writesLogged, sameOlds, isAbove, commitAbove}
+use Rattle.crash.specs.Theorem.{lockState, holderState, Live}
 use Rattle.crash.proofs.recovery.Data.{Rising, last, then}
 use Rattle.crash.proofs.lane.Newest.{newestOf}
 
@@ -61,11 +65,35 @@ pub record Holding (z : Sizes) (base : ℕ) (h : History) (m : Machine) (L : ℕ
   pub count : g .count ≡ length (writesLogged z L h)
   pub redo : take (g .count) (laneAt (m .state) L .redo) ≡ pairsOf (g .count) (writesLogged z L h)
 
+-- the writes of a transaction on all commits: while the lock is held, those of the transaction that holds it
+unfoldable pub allWrites : Sizes → List ℕ → History → List Write
+allWrites z f h = run z.words f (present z h)
+
+-- what the history says of a lock that record and transaction tell
+unfoldable pub holderOf : Locked → List ℕ → Holder
+holderOf k f = record { lane = k.lane; txn = f; stamp = k.stamp; left = k.count - k.written; ready = ltb k.written k.logged }
+
+-- the lock is held, as k says: the history's holder is the same, the pairs are those of all its writes, and its timestamp is the clock, above all others
+pub record Locking (z : Sizes) (base : ℕ) (h : History) (m : Machine) (k : Locked) : Type 0 where
+  pub txn : List ℕ
+  pub ok : txnBy current maxLong z.words txn ≡ true
+  pub holder : h .lock ≡ some (holderOf k txn)
+  pub clock : h .clock ≡ k .stamp
+  pub low : base < k .stamp
+  pub commits : All (λ c. c .stamp < k .stamp) (h .commits)
+  pub others : (M s : ℕ) → M < z.lanes → M ≢ k .lane → newestStamp (pageAt h M .newest) ≡ At s → s < k .stamp
+  -- of its own lane, until its first part is logged, and from then on
+  pub mine : k .logged ≡ 0 → (s : ℕ) → newestStamp (pageAt h (k .lane) .newest) ≡ At s → s < k .stamp
+  pub own : 0 < k .logged → pageAt h (k .lane) .newest ≡ closingAt (k .stamp)
+  pub count : k .count ≡ length (allWrites z txn h)
+  pub pairs : m .pairs ≡ wordsOfPairs (pairsOf maxLong (allWrites z txn h))
+
 -- `base` is the clock at the start
 pub record Book (z : Sizes) (base : ℕ) (h : History) (m : Machine) : Type 0 where
   -- causes 1 and 2 do not hold
   pub buffers : buffersOk z (length (m .cache)) (length (m .nvm)) (length (m .flags)) ≡ true
-  pub fields : recordOk z (m .state) ≡ true
+  pub in-pairs : length (m .pairs) ≡ lockLength
+  pub fields : recordOk z (m .state) (m .pairs) ≡ true
   pub lanes : z.lanes ≤ length (m .state .lanes)
   pub pages : length (h .pages) ≡ z.lanes
   pub live : Live z h m
@@ -76,6 +104,7 @@ pub record Book (z : Sizes) (base : ℕ) (h : History) (m : Machine) : Type 0 wh
   pub last : m .state .last ≡ lastOf base (h .commits)
   pub stamps : (L s : ℕ) → L < z.lanes → newestStamp (pageAt h L .newest) ≡ At s → stampOk (h .clock) s ≡ true
   pub holding : (L : ℕ) (g : Logged) → L < z.lanes → laneAt (m .state) L .phase ≡ Holds g → Holding z base h m L g
+  pub locking : (k : Locked) → m .state .lock ≡ Held k → Locking z base h m k
 
 -- ---- what the cached logs must say
 pub record Logs (z : Sizes) (h : History) (m : Machine) : Type 0 where
@@ -90,6 +119,49 @@ pub is-held : (p : Phase) → isLogged p ≡ true → p ≡ Holds (loggedIn p)
 unfolding isLogged loggedIn
 is-held Idle e = absurd (let z : _≡_ {A = ℕ} 0 1 = cc in omega arith)
 is-held (Holds g) e = refl
+
+-- ---- the lock
+-- a free one has no holder
+pub no-holder : (l : Lock) (y : Option Holder) → lockState l ≡ holderState y → isHeld l ≡ false → y ≡ none
+unfolding lockState holderState isHeld
+no-holder Free none e f = refl
+no-holder Free (some k) e f = absurd (let z : _≡_ {A = ℕ} 0 1 = cc in omega arith)
+no-holder (Held k) y e f = absurd (let z : _≡_ {A = ℕ} 0 1 = cc in omega arith)
+
+pub not-locked : {A : Type 0} (l : Lock) (k : Locked) → isHeld l ≡ false → l ≡ Held k → A
+unfolding isHeld
+not-locked l k f e = absurd (let d = ap isHeld e in let z : _≡_ {A = ℕ} 0 1 = cc in omega arith)
+
+-- then the words are those of the commits
+pub visible-free : (z : Sizes) (h : History) → h .lock ≡ none → visible z h ≡ present z h
+unfolding visible written
+visible-free z h e = ap (λ (y : Option Holder). written z y (present z h)) e
+
+-- what keeps it
+module _ (z : Sizes) (base : ℕ) (h k : History) (m n : Machine) (start : k .start ≡ h .start) (clock : k .clock ≡ h .clock)
+    (commits : k .commits ≡ h .commits) (lock : k .lock ≡ h .lock) (newest : (M : ℕ) → pageAt k M .newest ≡ pageAt h M .newest)
+    (pairs : n .pairs ≡ m .pairs) where
+  same-all : (f : List ℕ) → allWrites z f k ≡ allWrites z f h
+  unfolding allWrites present wordsBelow
+  same-all f =
+      ap (λ (cs : List Commit). run z.words f (replay z.words None cs (k .start))) commits
+      ∙ ap (λ (ws : List ℕ). run z.words f (replay z.words None (h .commits) ws)) start
+
+  pub locking-kept : (x : Locked) → Locking z base h m x → Locking z base k n x
+  locking-kept x v =
+      record {
+        txn = v .txn;
+        ok = v .ok;
+        holder = lock ∙ v .holder;
+        clock = clock ∙ v .clock;
+        low = v .low;
+        commits = rw commits (v .commits);
+        others = λ M s i d e. v .others M s i d (ap newestStamp (sym (newest M)) ∙ e);
+        mine = λ q s e. v .mine q s (ap newestStamp (sym (newest (x .lane))) ∙ e);
+        own = λ q. newest (x .lane) ∙ v .own q;
+        count = v .count ∙ ap length (sym (same-all (v .txn)));
+        pairs = pairs ∙ v .pairs ∙ ap (λ (ws : List Write). wordsOfPairs (pairsOf maxLong ws)) (sym (same-all (v .txn)));
+      }
 
 -- ---- stale
 -- commits that rise from c on do not end below it

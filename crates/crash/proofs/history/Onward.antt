@@ -1,9 +1,10 @@
--- The history goes on: a call adds commits above the clock, at the end, and what stood below stays. Assumes nothing.
+-- The history goes on: a call adds commits not below the clock and above what was given before, at the end, and what stood below stays. Assumes nothing.
 use mathlib.Core.Path.{_≡_, refl, ap, _∙_, sym}
+use mathlib.Core.Logic.{_≢_}
 use mathlib.Core.Bool.{cond}
 use mathlib.Core.List.{List, [], _∷_, _++_, append-nil}
 use mathlib.Core.Option.{Option, none, some}
-use Prim.Native.Nat.{ℕ, _+_, _≤_, _<_}
+use Prim.Native.Nat.{ℕ, _+_, _-_, _≤_, _<_}
 use native.Mathlib.Omega.{arith}
 use native.Mathlib.Nat.{le-refl}
 use lib.ListN.{length, take}
@@ -13,12 +14,13 @@ use Rattle.image.specs.declared.Sizes.{Sizes}
 use Rattle.log.specs.declared.Timestamp.{Timestamp}
 use Rattle.log.specs.declared.Timestamp.the-variants.{At}
 use Rattle.record.specs.Record.{laneAt, pairsOf}
+use Rattle.record.specs.inner.RecordLaws.{stamp-in}
 use Rattle.record.specs.declared.Logged.{Logged}
 use Rattle.store.specs.Machine.{Machine}
 use Rattle.crash.specs.History.{Newest, closingAt, newestStamp, Commit, History, pageAt, isBelow, replay, wordsBelow}
 use Rattle.crash.specs.History.{afterDrain, stamped, released, writesLogged}
 use Rattle.crash.proofs.recovery.Data.{Rising, last, then, replay-none}
-use Rattle.crash.proofs.history.Agree.{lastOf, Holding}
+use Rattle.crash.proofs.history.Agree.{lastOf, Holding, Book}
 
 -- ---- commits at the end
 pub replay-append : (W : ℕ) (b : Timestamp) (cs ds : List Commit) (ws : List ℕ) → replay W b (cs ++ ds) ws ≡ replay W b ds (replay W b cs ws)
@@ -44,33 +46,58 @@ unfolding writesLogged newestStamp
 writes-held z h L f s p q = rw (p, writesLogged) (ap (λ (n : Newest). run z.words f (wordsBelow z (newestStamp n) h)) q)
 
 -- ---- the relation
-pub record Onward (h k : History) : Type 0 where
+-- the new commits are not below the clock, and above `given`: that is the clock too, unless one of them has the clock's own timestamp
+pub record Onward (given : ℕ) (h k : History) : Type 0 where
   pub new : List Commit
   pub start : k .start ≡ h .start
   pub lag : k .lag ≡ h .lag
   pub clock : h .clock ≤ k .clock
   pub commits : k .commits ≡ h .commits ++ new
   pub rising : Rising new
-  pub fresh : All (λ c. h .clock < c .stamp) new
+  pub fresh : All (λ c. h .clock ≤ c .stamp) new
   pub upto : All (λ c. c .stamp ≤ k .clock) new
+  pub over : All (λ c. given < c .stamp) new
 
-pub onward-drained : (L : ℕ) (h : History) → Onward h (afterDrain L h)
+-- but for the newest of lane L, no timestamp of the history is above `given`
+pub record Earlier (z : Sizes) (L : ℕ) (h : History) (given : ℕ) : Type 0 where
+  pub commits : All (λ c. c .stamp ≤ given) (h .commits)
+  pub others : (M s : ℕ) → M < z .lanes → M ≢ L → newestStamp (pageAt h M .newest) ≡ At s → s ≤ given
+
+-- none is above the clock
+pub earlier-clock : (z : Sizes) (base : ℕ) (h : History) (m : Machine) → Book z base h m → (L : ℕ) → Earlier z L h (h .clock)
+earlier-clock z base h m b L = record { commits = b .upto; others = λ M s i d e. stamp-in (h .clock) s (b .stamps M s i e) .low }
+
+-- nothing is committed
+pub onward-same : (h k : History) → k .start ≡ h .start → k .lag ≡ h .lag → h .clock ≤ k .clock → k .commits ≡ h .commits → Onward (h .clock) h k
+onward-same h k start lag clock commits =
+    record {
+      new = [];
+      start = start;
+      lag = lag;
+      clock = clock;
+      commits = commits ∙ sym (append-nil (h .commits));
+      rising = last;
+      fresh = nil;
+      upto = nil;
+      over = nil;
+    }
+
+pub onward-drained : (L : ℕ) (h : History) → Onward (h .clock) h (afterDrain L h)
 unfolding afterDrain
-onward-drained L h =
-    record { new = []; start = refl; lag = refl; clock = le-refl (h .clock); commits = sym (append-nil (h .commits)); rising = last; fresh = nil; upto = nil }
+onward-drained L h = onward-same h (afterDrain L h) refl refl (le-refl (h .clock)) refl
 
-pub onward-released : (L : ℕ) (h : History) → Onward h (released L h)
+pub onward-released : (L : ℕ) (h : History) → Onward (h .clock) h (released L h)
 unfolding released
-onward-released L h =
-    record { new = []; start = refl; lag = refl; clock = le-refl (h .clock); commits = sym (append-nil (h .commits)); rising = last; fresh = nil; upto = nil }
+onward-released L h = onward-same h (released L h) refl refl (le-refl (h .clock)) refl
 
 -- a timestamp without a commit
-pub onward-stamped : (L : ℕ) (kind : ℕ → Newest) (held : Option (List ℕ)) (h : History) → Onward h (stamped L kind held [] h)
+pub onward-stamped : (L : ℕ) (kind : ℕ → Newest) (held : Option (List ℕ)) (h : History) → Onward (h .clock) h (stamped L kind held [] h)
 unfolding stamped
-onward-stamped L kind held h = record { new = []; start = refl; lag = refl; clock = omega arith; commits = refl; rising = last; fresh = nil; upto = nil }
+onward-stamped L kind held h =
+    onward-same h (stamped L kind held [] h) refl refl (let c : h .clock ≤ h .clock + 2 = omega arith in c) (append-nil (h .commits))
 
 -- a commit
-pub onward-commit : (L : ℕ) (f : List ℕ) (h : History) → Onward h (stamped L closingAt none (f ∷ []) h)
+pub onward-commit : (L : ℕ) (f : List ℕ) (h : History) → Onward (h .clock) h (stamped L closingAt none (f ∷ []) h)
 unfolding stamped
 onward-commit L f h =
     record {
@@ -80,17 +107,34 @@ onward-commit L f h =
       clock = omega arith;
       commits = refl;
       rising = then nil last;
-      fresh = more (let k : h .clock < h .clock + 2 = omega arith in k) nil;
+      fresh = more (let k : h .clock ≤ h .clock + 2 = omega arith in k) nil;
       upto = more (le-refl (h .clock + 2)) nil;
+      over = more (let k : h .clock < h .clock + 2 = omega arith in k) nil;
+    }
+
+-- the commit of a transaction that holds the lock, at the clock's own timestamp
+pub onward-written : (s : ℕ) (f : List ℕ) (h k : History) → k .start ≡ h .start → k .lag ≡ h .lag → k .clock ≡ h .clock
+    → k .commits ≡ h .commits ++ (record { stamp = s; txn = f } ∷ []) → h .clock ≡ s → 0 < s → Onward (s - 1) h k
+onward-written s f h k start lag clock commits at pos =
+    record {
+      new = record { stamp = s; txn = f } ∷ [];
+      start = start;
+      lag = lag;
+      clock = omega arith;
+      commits = commits;
+      rising = then nil last;
+      fresh = more (let l : h .clock ≤ s = omega arith in l) nil;
+      upto = more (let l : s ≤ k .clock = omega arith in l) nil;
+      over = more (let l : s - 1 < s = omega arith in l) nil;
     }
 
 -- ---- what it keeps
-module _ (z : Sizes) (h k : History) (o : Onward h k) where
-  pub rising-onward : Rising (h .commits) → All (λ c. c .stamp ≤ h .clock) (h .commits) → Rising (k .commits)
-  rising-onward r u = rw (o .commits) (rising-append (h .clock) r u (o .rising) (o .fresh))
+module _ (z : Sizes) (h k : History) {given : ℕ} (o : Onward given h k) where
+  pub rising-onward : Rising (h .commits) → All (λ c. c .stamp ≤ given) (h .commits) → Rising (k .commits)
+  rising-onward r u = rw (o .commits) (rising-append (given) r u (o .rising) (o .over))
 
-  pub above-onward : (base : ℕ) → base ≤ h .clock → All (λ c. base < c .stamp) (h .commits) → All (λ c. base < c .stamp) (k .commits)
-  above-onward base b a = rw (o .commits) (All-append a (All-map (λ c p. omega arith) (o .fresh)))
+  pub above-onward : (base : ℕ) → base ≤ given → All (λ c. base < c .stamp) (h .commits) → All (λ c. base < c .stamp) (k .commits)
+  above-onward base b a = rw (o .commits) (All-append a (All-map (λ c p. omega arith) (o .over)))
 
   pub upto-onward : All (λ c. c .stamp ≤ h .clock) (h .commits) → All (λ c. c .stamp ≤ k .clock) (k .commits)
   upto-onward u = rw (o .commits) (All-append (All-map (λ c p. omega (arith, p, o .clock)) u) (o .upto))
@@ -103,10 +147,10 @@ module _ (z : Sizes) (h k : History) (o : Onward h k) where
       (replay-none z.words s (replay z.words (At s) (h .commits) (h .start)) (All-map (λ c p. omega arith) (o .fresh)))
 
   -- a transaction that another lane holds, or that is held through a drain
-  pub holding-onward : (base : ℕ) (m n : Machine) (M : ℕ) (g : Logged) → Holding z base h m M g
+  pub holding-onward : (base : ℕ) (m n : Machine) (M : ℕ) (g : Logged) → Holding z base h m M g → g .stamp ≤ given
       → pageAt k M .held ≡ pageAt h M .held → pageAt k M .newest ≡ pageAt h M .newest → laneAt (n .state) M .redo ≡ laneAt (m .state) M .redo
       → Holding z base k n M g
-  holding-onward base m n M g v p q r =
+  holding-onward base m n M g v l p q r =
       record {
         txn = v .txn;
         held = p ∙ v .held;
@@ -114,7 +158,7 @@ module _ (z : Sizes) (h k : History) (o : Onward h k) where
         newest = q ∙ v .newest;
         above = v .above;
         upto = omega (arith, v .upto, o .clock);
-        apart = rw (o .commits) (All-append (v .apart) (All-map (λ c i e. omega (arith, v .upto)) (o .fresh)));
+        apart = rw (o .commits) (All-append (v .apart) (All-map (λ c i e. omega arith) (o .over)));
         count = v .count ∙ sym (ap length same);
         redo = ap (take (g .count)) r ∙ v .redo ∙ ap (pairsOf (g .count)) (sym same);
       }

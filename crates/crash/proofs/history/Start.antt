@@ -13,20 +13,21 @@ use Rattle.image.specs.inner.ImageLaws.{sizes-in, getD-log, length-log, log-fit
 use Rattle.image.specs.inner.BulkLaws.{getD-zeros}
 use Rattle.image.specs.declared.Sizes.{Sizes}
 use Rattle.log.specs.declared.Timestamp.the-variants.{At}
-use Rattle.record.specs.Record.{startLane, startRecord, laneAt, isLogged, floorOk, phaseOk, lagOk, recordOk}
+use Rattle.record.specs.Record.{startLane, startRecord, laneAt, isLogged, lockLength, noPairs, isHeld, floorOk, phaseOk, lagOk, recordOk}
 use Rattle.record.specs.inner.RecordLaws.{LaneIn}
 use Rattle.record.specs.declared.Phase.the-variants.{Idle, Holds}
 use Rattle.record.specs.declared.Lane.{Lane}
 use Rattle.record.specs.declared.Logged.{Logged}
+use Rattle.record.specs.declared.Lock.the-variants.{Free}
 use Rattle.store.specs.Calls.{started, startImage}
 use Rattle.store.specs.inner.Checked.{bodyOf}
 use Rattle.store.specs.inner.FormatLaws.{length-body, body-trailer, length-startImage}
-use Rattle.crash.specs.History.{newestStamp, Page, blankPage, pageAt, opened, replay, wordsBelow, present, isSome}
-use Rattle.crash.specs.Theorem.{Live, endOf}
+use Rattle.crash.specs.History.{newestStamp, Page, blankPage, pageAt, opened, replay, wordsBelow, present, written, visible, isSome}
+use Rattle.crash.specs.Theorem.{lockState, holderState, Live, endOf}
 use Rattle.crash.proofs.recovery.Data.{last}
 use Rattle.crash.proofs.history.Lanes.{lane-start}
-use Rattle.crash.proofs.history.Ranges.{RecordRange, record-ranged, stamp-now}
-use Rattle.crash.proofs.history.Agree.{lastOf, Book}
+use Rattle.crash.proofs.history.Ranges.{RecordRange, record-ranged, free-ok, stamp-now}
+use Rattle.crash.proofs.history.Agree.{lastOf, Book, not-locked}
 use Rattle.crash.proofs.lane.Ends.{Form, form-buffers}
 
 -- ---- the book
@@ -47,7 +48,7 @@ module _ (z : Sizes) (lag base : ℕ) (image words : List ℕ) (ok : sizesOk z �
   unfolding startRecord
   eight-lanes = length-replicate maxLanes startLane
 
-  ranges-start : RecordRange z (startRecord lag base)
+  ranges-start : RecordRange z (startRecord lag base) noPairs
   unfolding startRecord
   ranges-start =
       record {
@@ -55,10 +56,11 @@ module _ (z : Sizes) (lag base : ℕ) (image words : List ℕ) (ok : sizesOk z �
         last = stamp-now base even;
         lag = in-lag;
         lanes = λ M i. subst (LaneIn z base) (sym (lane-start z lag base eight M i)) start-range;
+        lock = free-ok z (startRecord lag base) noPairs Free refl;
       }
 
-  in-range : recordOk z (startRecord lag base) ≡ true
-  in-range = record-ranged z (startRecord lag base) (rw eight-lanes eight) ranges-start
+  in-range : recordOk z (startRecord lag base) noPairs ≡ true
+  in-range = record-ranged z (startRecord lag base) noPairs (rw eight-lanes eight) ranges-start
 
   idle-start : (M : ℕ) → M < z.lanes → laneAt (startRecord lag base) M .phase ≡ Idle
   unfolding startLane
@@ -82,7 +84,7 @@ module _ (z : Sizes) (lag base : ℕ) (image words : List ℕ) (ok : sizesOk z �
       absurd (let d = ap (λ (p : Page). newestStamp (p .newest)) (page-start M i) in let z : _≡_ {A = ℕ} 0 1 = cc in omega arith)
 
   live-start : Live z (opened z lag words base) (started lag base image)
-  unfolding started opened present wordsBelow replay startRecord
+  unfolding started opened present wordsBelow visible written replay startRecord lockState holderState
   live-start =
       record {
         words = same;
@@ -90,13 +92,15 @@ module _ (z : Sizes) (lag base : ℕ) (image words : List ℕ) (ok : sizesOk z �
         lag = refl;
         floors = floors-start;
         held = held-start;
+        lock = refl;
       }
 
   pub book-start : Book z base (opened z lag words base) (started lag base image)
-  unfolding started opened lastOf startRecord
+  unfolding started opened lastOf startRecord isHeld
   book-start =
       record {
         buffers = form-buffers z image image (replicate (length image) 0) ok long form refl (length-replicate {A = ℕ} (length image) 0);
+        in-pairs = length-replicate {A = ℕ} lockLength 0;
         fields = in-range;
         lanes = rw eight-lanes eight;
         pages = length-replicate z.lanes blankPage;
@@ -108,6 +112,7 @@ module _ (z : Sizes) (lag base : ℕ) (image words : List ℕ) (ok : sizesOk z �
         last = refl;
         stamps = λ M s i e. no-stamp M s i e;
         holding = λ M g i e. none-held M g i e;
+        locking = λ k e. not-locked Free k refl e;
       }
 
 -- ---- the image of Format

@@ -39,6 +39,11 @@ module _ (z : Sizes) (L : ℕ) where
       data-slot (c .slot) (entryOf (w .word) (w .old) (c .wrap)) (appendFrom (logStart z L) z.slots n s (onward z.slots c) ws) image
       (λ i. data-append n s (onward z.slots c) ws i)
 
+  pub data-stored : (s : ℕ) (c : Cursor) (ws : List Write) (image : List ℕ)
+      → dataOf z (stored (appendStores (logStart z L) z.slots s c ws) image) ≡ dataOf z image
+  unfolding appendStores
+  data-stored s c ws image = data-append (length ws) s c ws image
+
   pub data-appended : (ws : List Write) (phase : Phase) (redo : List Pair) (m : Machine) → dataOf z (appended z L ws phase redo m .cache) ≡ dataOf z (m .cache)
   unfolding appended changed appendStores
   data-appended ws phase redo m = data-append (length ws) (m .state .clock + 2) _ ws (m .cache)

@@ -4,21 +4,26 @@ use mathlib.Core.Logic.{inl, inr}
 use mathlib.Core.Bool.{true, false}
 use mathlib.Core.List.{List, [], _∷_}
 use mathlib.Core.Option.{none, some}
-use Prim.Native.Nat.{ℕ, _+_, _*_, _%_, _≤_, _<_}
+use Prim.Native.Nat.{ℕ, _+_, _-_, _*_, _%_, _≤_, _<_}
 use native.Mathlib.Omega.{arith}
 use lib.ListN.{length, replicate}
-use Rattle.txn.specs.Txn.{maxWrites, former, txnBy}
+use Rattle.txn.specs.Txn.{maxWrites, maxLong, current, former, txnBy}
 use Rattle.image.specs.Image.{sizesOk, formerLength, baseOf, dataOf, logOf}
 use Rattle.image.specs.Flush.{writtenBack}
 use Rattle.image.specs.inner.FlushLaws.{length-writtenBack}
 use Rattle.image.specs.declared.Sizes.{Sizes}
-use Rattle.record.specs.Record.{laneAt, isLogged, lagOk, pairsOf}
+use Rattle.record.specs.Record.{laneAt, isLogged, isHeld, partLength, lagOk, pairsOf}
+use Rattle.record.specs.declared.Locked.{Locked}
+use Rattle.record.specs.declared.Lock.the-variants.{Held}
 use Rattle.store.specs.Machine.{Machine}
 use Rattle.store.specs.Calls.{started, startImage, drained, writesOn, marked, logged, committed, isStale, redoPairs, matches}
 use Rattle.store.specs.Calls as calls
+use Rattle.store.specs.Locks.{slotsCounted, locked}
+use Rattle.store.specs.Locks as store
 use Rattle.recovery.specs.Recovery.{boundary, newBase, Restarted}
 use Rattle.crash.specs.Events.{live, vandzulge}
 use Rattle.crash.specs.History.{closingAt, markAt, History, opened, pageAt, wordsBelow, afterDrain, stamped, released, heldBy, restarted, leastFloorOf}
+use Rattle.crash.specs.History.{lockTaken, partLogged, partWritten}
 use Rattle.crash.specs.Theorem.{endOf, InStep, NotBelow, recoveryAnswer, Holds, CrashTheorem, FormerTheorem}
 use Rattle.recovery.specs.inner.SequenceLaws.{newBase-even}
 use Rattle.recovery.specs.inner.AgainLaws.{recoveredImage}
@@ -27,9 +32,11 @@ use Rattle.crash.proofs.recovery.Restart.{recovered-end, answer-finishe
 use Rattle.crash.proofs.recovery.Recovered.{Shows, recovered-right}
 use Rattle.crash.proofs.induction.Moves.{Known, Room, Ready}
 use Rattle.crash.proofs.induction.Fed.{Steps, call-by-steps}
-use Rattle.crash.proofs.history.Agree.{Book, Logs}
-use Rattle.crash.proofs.history.Answers.{answers}
+use Rattle.crash.proofs.history.Agree.{holderOf, Book, Logs, locking-kept}
+use Rattle.crash.proofs.history.Answers.{part-logged, answers}
+use Rattle.crash.proofs.history.Parts.{in-range}
 use Rattle.crash.proofs.history.Books.{book-drains, book-logs, book-marks, book-gives-up, book-validates, book-redoes}
+use Rattle.crash.proofs.history.BooksLock.{next-logs, next-writes, book-locks, book-parts, book-writes}
 use Rattle.crash.proofs.history.Start.{book-start, image-fits, image-end, image-data, image-base, image-log}
 use Rattle.crash.proofs.lane.Ends.{Form, Tailed, no-end}
 use Rattle.crash.proofs.induction.Skeleton.{Laws, starts-from, crash-theorem-from}
@@ -56,11 +63,12 @@ pub record LogLaws (z : Sizes) (G : ℕ → Machine → History → Type 0) : Ty
       → G base (started lag base image) (opened z lag words base)
   -- it is kept by write-backs and by each move
   pub writes : (base : ℕ) (m : Machine) (h : History) (i : ℕ) → Book z base h m → G base m h
-      → G base (record { state = m .state; cache = m .cache; nvm = writtenBack i (m .cache) (m .nvm); flags = m .flags }) h
+      → G base (record { state = m .state; pairs = m .pairs; cache = m .cache; nvm = writtenBack i (m .cache) (m .nvm); flags = m .flags }) h
   pub drains : (base : ℕ) (m : Machine) (h : History) (L : ℕ) → Book z base h m → G base m h → Known z m L → G base (drained z L m) (afterDrain L h)
   pub appends : (base : ℕ) (m : Machine) (h : History) (L : ℕ) (f : List ℕ) → Book z base h m → G base m h → Known z m L
       → txnBy former maxWrites z.words f ≡ true
-      → isLogged (laneAt (m .state) L .phase) ≡ false → 0 < length (writesOn z f m) → Room z m L (length (writesOn z f m) + 1)
+      → isLogged (laneAt (m .state) L .phase) ≡ false → isHeld (m .state .lock) ≡ false → 0 < length (writesOn z f m)
+      → Room z m L (length (writesOn z f m) + 1)
       → G base (logged z L (writesOn z f m) (drained z L m)) (stamped L closingAt (some f) [] (afterDrain L h))
   pub redoes : (base : ℕ) (m : Machine) (h : History) (L : ℕ) → Book z base h m → G base m h → Known z m L → Ready m L → isStale L m ≡ false
       → G base (committed z L (redoPairs L m) (drained z L m)) (stamped L closingAt none (heldBy (pageAt h L .held)) (afterDrain L h))
@@ -72,8 +80,20 @@ pub record LogLaws (z : Sizes) (G : ℕ → Machine → History → Type 0) : Ty
       → txnBy former maxWrites z.words f ≡ true
       → Ready m L → matches z L (writesOn z f m) m ≡ false
       → G base (calls.released L (drained z L m)) (released L (afterDrain L h))
-  pub marks : (base : ℕ) (m : Machine) (h : History) (L : ℕ) → Book z base h m → G base m h → Known z m L → Room z m L 1
+  pub marks : (base : ℕ) (m : Machine) (h : History) (L : ℕ) → Book z base h m → G base m h → Known z m L → isHeld (m .state .lock) ≡ false
+      → Room z m L 1
       → G base (marked z L m) (stamped L markAt none [] (afterDrain L h))
+  -- the lock is taken, the next part is logged, it is written
+  pub locks : (base : ℕ) (m : Machine) (h : History) (L : ℕ) (f : List ℕ) → Book z base h m → G base m h → Known z m L
+      → txnBy current maxLong z.words f ≡ true → isLogged (laneAt (m .state) L .phase) ≡ false → isHeld (m .state .lock) ≡ false
+      → slotsCounted f ≤ z.slots - 17 → 0 < length (writesOn z f m) → Room z m L (slotsCounted f)
+      → G base (locked L (writesOn z f m) (drained z L m)) (lockTaken L f (length (writesOn z f m)) (afterDrain L h))
+  pub parts : (base : ℕ) (m : Machine) (h : History) (k : Locked) (b : Book z base h m) → G base m h → Known z m (k .lane)
+      → (e : m .state .lock ≡ Held k) → k .logged ≡ k .written
+      → G base (store.partLogged z k (drained z (k .lane) m)) (partLogged (holderOf k (b .locking k e .txn)) (afterDrain (k .lane) h))
+  pub makes : (base : ℕ) (m : Machine) (h : History) (k : Locked) (b : Book z base h m) → G base m h → Known z m (k .lane)
+      → (e : m .state .lock ≡ Held k) → k .logged ≡ k .written + partLength k
+      → G base (store.partWritten k (drained z (k .lane) m)) (partWritten (holderOf k (b .locking k e .txn)) (afterDrain (k .lane) h))
 
 -- ---- the whole invariant
 pub record Inv (z : Sizes) (G : ℕ → Machine → History → Type 0) (m : Machine) (h : History) : Type 0 where
@@ -90,11 +110,11 @@ module _ (z : Sizes) (ok : sizesOk z ≡ true) (G : ℕ → Machine → History 
       record {
         drains = λ m h L v k.
             record { base = v .base; book = book-drains z (v .base) h m (v .book) (says m h v) L k; rest = laws .drains (v .base) m h L (v .book) (v .rest) k };
-        logs = λ m h L f v k t i p r.
+        logs = λ m h L f v k t i e p r.
             record {
               base = v .base;
-              book = book-logs z (v .base) h m (v .book) (says m h v) L k f t p;
-              rest = laws .appends (v .base) m h L f (v .book) (v .rest) k t i p r;
+              book = book-logs z (v .base) h m (v .book) (says m h v) L k e f t p;
+              rest = laws .appends (v .base) m h L f (v .book) (v .rest) k t i e p r;
             };
         redoes = λ m h L v k y t.
             record {
@@ -111,11 +131,38 @@ module _ (z : Sizes) (ok : sizesOk z ≡ true) (G : ℕ → Machine → History 
         gives-up = λ m h L f v k t y e.
             record {
               base = v .base;
-              book = book-gives-up z (v .base) h m (v .book) (says m h v) L k;
+              book = book-gives-up z (v .base) h m (v .book) (says m h v) L k (y .free);
               rest = laws .gives-up (v .base) m h L f (v .book) (v .rest) k t y e;
             };
-        marks = λ m h L v k r.
-            record { base = v .base; book = book-marks z (v .base) h m (v .book) (says m h v) L k; rest = laws .marks (v .base) m h L (v .book) (v .rest) k r };
+        marks = λ m h L v k e r.
+            record {
+              base = v .base;
+              book = book-marks z (v .base) h m (v .book) (says m h v) L k e;
+              rest = laws .marks (v .base) m h L (v .book) (v .rest) k e r;
+            };
+        locks = λ m h L f v k t i e d p r.
+            record {
+              base = v .base;
+              book = book-locks z (v .base) h m (v .book) (says m h v) L k f t i e p;
+              rest = laws .locks (v .base) m h L f (v .book) (v .rest) k t i e d p r;
+            };
+        parts = λ m h k v known e t.
+            let x = v .book .locking k e in
+            rw (next-logs k (x .txn) (h .lock) (afterDrain (k .lane) h) (x .holder) t)
+            (record {
+              base = v .base;
+              book = book-parts z (v .base) h m (v .book) (says m h v) k known e t;
+              rest = laws .parts (v .base) m h k (v .book) (v .rest) known e t;
+            });
+        makes = λ m h k v known e d.
+            let x = v .book .locking k e in
+            let t = part-logged (v .book) k e d in
+            rw (next-writes k (x .txn) (h .lock) (afterDrain (k .lane) h) (x .holder) (in-range z (v .base) h m (v .book) k e .left) t)
+            (record {
+              base = v .base;
+              book = book-writes z (v .base) h m (v .book) (says m h v) k known e t;
+              rest = laws .makes (v .base) m h k (v .book) (v .rest) known e t;
+            });
       }
 
   -- a start is one of the book and of the logs
@@ -130,15 +177,23 @@ module _ (z : Sizes) (ok : sizesOk z ≡ true) (G : ℕ → Machine → History 
       }
 
   written : (m : Machine) (h : History) (i : ℕ) (v : Inv z G m h)
-      → Book z (v .base) h (record { state = m .state; cache = m .cache; nvm = writtenBack i (m .cache) (m .nvm); flags = m .flags })
+      → Book z (v .base) h (record { state = m .state; pairs = m .pairs; cache = m .cache; nvm = writtenBack i (m .cache) (m .nvm); flags = m .flags })
   written m h i v =
       let b = v .book in
       record {
         buffers = rw (length-writtenBack i (m .cache) (m .nvm)) (b .buffers);
+        in-pairs = b .in-pairs;
         fields = b .fields;
         lanes = b .lanes;
         pages = b .pages;
-        live = record { words = b .live .words; clock = b .live .clock; lag = b .live .lag; floors = b .live .floors; held = b .live .held };
+        live = record {
+          words = b .live .words;
+          clock = b .live .clock;
+          lag = b .live .lag;
+          floors = b .live .floors;
+          held = b .live .held;
+          lock = b .live .lock;
+        };
         rising = b .rising;
         above = b .above;
         upto = b .upto;
@@ -158,6 +213,7 @@ module _ (z : Sizes) (ok : sizesOk z ≡ true) (G : ℕ → Machine → History 
               count = x .count;
               redo = x .redo;
             };
+        locking = λ k e. locking-kept z (v .base) h h m _ refl refl refl refl (λ M. refl) refl k (b .locking k e);
       }
 
   -- what a finished recovery leaves is one
@@ -188,6 +244,7 @@ module _ (z : Sizes) (ok : sizesOk z ≡ true) (G : ℕ → Machine → History 
             (image-base z start e) (image-data z start e) (λ L i. image-log z start e L i);
         lives = λ m h v. v .book .live;
         buffers = λ m h v. v .book .buffers;
+        pairs = λ m h v. v .book .in-pairs;
         calls = call-by-steps z (Inv z G) steps;
         answers = λ m h c v. answers z (v .base) h m (v .book) (says m h v) c;
         writes = λ m h i v. record { base = v .base; book = written m h i v; rest = laws .writes (v .base) m h i (v .book) (v .rest) };

@@ -19,11 +19,11 @@ use Rattle.log.specs.declared.Timestamp.{Timestamp}
 use Rattle.log.specs.declared.Timestamp.the-variants.{None, At}
 use Rattle.record.specs.Record.{lesser}
 use Rattle.store.specs.Machine.{Machine, Said, said}
-use Rattle.crash.specs.Events.{Call, logBy, redo, validateBy, mark, drain, laneOf, live, Design, happens}
+use Rattle.crash.specs.Events.{Call, logBy, redo, validateBy, mark, drain, lock, proceed, laneOf, live, Design, happens}
 use Rattle.crash.specs.Events.{Event, format, call, recover}
 use Rattle.crash.specs.Events.{Reply, answered, recovered, failed, ignored}
 use Rattle.crash.specs.History.{markAt, Page, History, blankPage, pageAt}
-use Rattle.crash.specs.History.{floorOr, floorOnDrain, afterDrain, stamped, released, taken, afterCall}
+use Rattle.crash.specs.History.{floorOr, floorOnDrain, afterDrain, stamped, released, lockTaken, partLogged, partWritten, taken, afterCall}
 use Rattle.crash.specs.History.{fedAnswer, fed, leastFloorOf}
 use Rattle.crash.specs.Theorem.{Holds, CrashTheorem}
 use Rattle.crash.proofs.induction.Lists.{holds-next, holds-after}
@@ -43,15 +43,18 @@ Floorless p = (p .floor ≡ None) × Marked p
 -- ---- what idle events do to a page: a property that a blank page has and that a drain keeps is kept
 module _ (P : Page → Type 0) (blank : P blankPage) (drains : (p : Page) → P p → P (onDrain p)) (L : ℕ) where
   page-keeping : Keeping (λ h. P (pageAt h L)) (λ M. L ≢ M)
-  unfolding afterDrain stamped released pageAt
+  unfolding afterDrain stamped released lockTaken partLogged partWritten pageAt
   page-keeping =
       record {
         drains = λ M h i. elim (ℕ-discrete M L) [
           | yes e ↦ rw e (page-set P blank L (h .pages) (onDrain (getD (h .pages) L blankPage)) (drains (getD (h .pages) L blankPage) i))
           | no d ↦ subst P (sym (getD-set-other (h .pages) M L (onDrain (getD (h .pages) M blankPage)) blankPage (λ e. d (sym e)))) i
         ];
-        stamps = λ M d kind ks held txns h i. subst P (sym (getD-set-other (h .pages) M L _ blankPage d)) i;
-        releases = λ M d h i. subst P (sym (getD-set-other (h .pages) M L _ blankPage d)) i;
+        stamps = λ M d kind ks held txns h e i. subst P (sym (getD-set-other (h .pages) M L _ blankPage d)) i;
+        releases = λ M d h e i. subst P (sym (getD-set-other (h .pages) M L _ blankPage d)) i;
+        locks = λ M d f n h e i. i;
+        logs = λ k d h e r i. subst P (sym (getD-set-other (h .pages) (k .lane) L _ blankPage d)) i;
+        writes = λ k d h e r i. i;
       }
 
   -- a step of an idle event is another lane's
@@ -64,10 +67,10 @@ module _ (P : Page → Type 0) (blank : P blankPage) (drains : (p : Page) → P 
   idle-steps (e ∷ es) t =
       more (λ c p f. other-lane c (ap (isIdle L) (sym p) ∙ and-left (isIdle L e) _ t) f) (idle-steps es (and-right (isIdle L e) _ t))
 
-  idle-page : (d : Design) (z : Sizes) (w : World) (es : List Event) → staysIdle L es ≡ true → P (pageAt (w .history) L)
-      → P (pageAt (worldAfter d z w es .history) L)
-  idle-page d z w es t i =
-      after-keeps (λ h. P (pageAt h L)) (λ M. L ≢ M) page-keeping d z w es (idle-steps es t)
+  idle-page : (d : Design) (z : Sizes) (end : List ℕ) (w : World) (es : List Event) → Holds d z end (w .system) (w .history) es → staysIdle L es ≡ true
+      → P (pageAt (w .history) L) → P (pageAt (worldAfter d z w es .history) L)
+  idle-page d z end w es v t i =
+      after-keeps (λ h. P (pageAt h L)) (λ M. L ≢ M) page-keeping d z end w es v (idle-steps es t)
       (inl (λ lag start clock. opened-page P blank z lag start clock L)) i
 
 -- ---- a mark, and a drain
@@ -119,6 +122,8 @@ mark-marks (redo L) e t h = clash false e refl
 mark-marks (validateBy r L f) e t h = clash false e refl
 mark-marks (mark L) e t h = stamp-marks L (afterDrain L h)
 mark-marks (drain L) e t h = clash false e refl
+mark-marks (lock L f) e t h = clash false e refl
+mark-marks (proceed L) e t h = clash false e refl
 
 drain-drains : (L : ℕ) (t : Said) (h : History) → Marked (pageAt h L) → Floorless (pageAt (taken (drain L) t h) L)
 unfolding taken afterDrain pageAt
@@ -151,17 +156,20 @@ module _ (d : Design) (z : Sizes) (lag : ℕ) (start : List ℕ) (m : Machine) (
   abbrev c : World
   c = worldAfter d z (nextWorld d z b (call (drain L))) gs
 
-  holds-last : (e : Event) → ((es : List Event) → Holds d z (trailer z) (live m) h (format lag start ∷ es))
-      → Holds d z (trailer z) (c .system) (c .history) (e ∷ [])
-  holds-last e v =
-      let third : List Event = gs ++ (e ∷ []) in
-      let second : List Event = fs ++ (call (drain L) ∷ third) in
-      holds-after d z (trailer z) (nextWorld d z b (call (drain L))) gs (e ∷ [])
-      (holds-next d z (trailer z) b (call (drain L)) third
-      (holds-after d z (trailer z) (nextWorld d z a (call x)) fs (call (drain L) ∷ third)
-      (holds-next d z (trailer z) a (call x) second
-      (holds-after d z (trailer z) (record { system = live m; history = h }) (format lag start ∷ es) (call x ∷ second)
-      (v (es ++ (call x ∷ second)))))))
+  -- what holds of every list from the Format on holds of every list from the mark on, and from the drain on
+  module _ (v : (es : List Event) → Holds d z (trailer z) (live m) h (format lag start ∷ es)) where
+    from-mark : (rest : List Event) → let w = nextWorld d z a (call x) in Holds d z (trailer z) (w .system) (w .history) rest
+    from-mark rest =
+        holds-next d z (trailer z) a (call x) rest
+        (holds-after d z (trailer z) (record { system = live m; history = h }) (format lag start ∷ es) (call x ∷ rest) (v (es ++ (call x ∷ rest))))
+
+    from-drain : (rest : List Event) → let w = nextWorld d z b (call (drain L)) in Holds d z (trailer z) (w .system) (w .history) rest
+    from-drain rest =
+        holds-next d z (trailer z) b (call (drain L)) rest
+        (holds-after d z (trailer z) (nextWorld d z a (call x)) fs (call (drain L) ∷ rest) (from-mark (fs ++ (call (drain L) ∷ rest))))
+
+    holds-last : (e : Event) → Holds d z (trailer z) (c .system) (c .history) (e ∷ [])
+    holds-last e = holds-after d z (trailer z) (nextWorld d z b (call (drain L))) gs (e ∷ []) (from-drain (gs ++ (e ∷ [])))
 
   -- the lane's page from the mark on, and from the drain on
   page-marked : isMark x ≡ true → isDone (happens d z (a .system) (call x) .reply) ≡ true → Marked (pageAt (nextWorld d z a (call x) .history) L)
@@ -173,15 +181,18 @@ module _ (d : Design) (z : Sizes) (lag : ℕ) (start : List ℕ) (m : Machine) (
   unfolding nextWorld
   page-floorless done i = done-call (λ k. Floorless (pageAt k L)) z (drain L) _ _ (b .history) done (λ t. drain-drains L t (b .history) i)
 
-  page-rests : isMark x ≡ true → isDone (happens d z (a .system) (call x) .reply) ≡ true → staysIdle L fs ≡ true
+  page-rests : ((es : List Event) → Holds d z (trailer z) (live m) h (format lag start ∷ es)) → isMark x ≡ true
+      → isDone (happens d z (a .system) (call x) .reply) ≡ true → staysIdle L fs ≡ true
       → isDone (happens d z (b .system) (call (drain L)) .reply) ≡ true → staysIdle L gs ≡ true → Floorless (pageAt (c .history) L)
-  page-rests is marks idle drains stays =
-      idle-page Floorless blank-floorless (λ p e. drain-ends p (floorless-marked p e)) L d z (nextWorld d z b (call (drain L))) gs stays
-      (page-floorless drains (idle-page Marked blank-marked drain-keeps L d z (nextWorld d z a (call x)) fs idle (page-marked is marks)))
+  page-rests v is marks idle drains stays =
+      idle-page Floorless blank-floorless (λ p e. drain-ends p (floorless-marked p e)) L d z (trailer z) (nextWorld d z b (call (drain L))) gs
+      (from-drain v gs) stays
+      (page-floorless drains
+      (idle-page Marked blank-marked drain-keeps L d z (trailer z) (nextWorld d z a (call x)) fs (from-mark v fs) idle (page-marked is marks)))
 
 pub idle-from : (d : Design) → CrashTheorem d → IdleTheorem d
 unfolding CrashTheorem IdleTheorem
 idle-from d theorem z lag start m h ok x es fs gs is marks idle drains stays lag₁ limit j =
-    let q = others-floor (laneOf x) _ (page-rests d z lag start m h x es fs gs is marks idle drains stays) in
+    let q = others-floor (laneOf x) _ (page-rests d z lag start m h x es fs gs (theorem z lag start m h ok) is marks idle drains stays) in
     recovery-keeps d z (c d z lag start m h x es fs gs) _ (λ s e. rw q e) lag₁ limit j
-    (holds-last d z lag start m h x es fs gs (recover lag₁ limit j) (theorem z lag start m h ok))
+    (holds-last d z lag start m h x es fs gs (theorem z lag start m h ok) (recover lag₁ limit j))

@@ -1,4 +1,5 @@
--- What an event does to the history is made of drains, timestamps, releases and starts: a property of histories that these keep is kept by every event.
+-- What an event does to the history is made of drains, timestamps, releases, starts, and what long transactions do: the lock taken, a part logged, a part
+-- written. A property of histories that these keep is kept by every event that is replied to as the theorem says.
 -- Assumes nothing.
 use mathlib.Core.Path.{_≡_, refl, ap, sym, subst}
 use mathlib.Core.Logic.{_⊎_, inl, inr}
@@ -8,7 +9,7 @@ use mathlib.Core.Option.{Option, none, some}
 use Prim.Native.Nat.{ℕ, _≤_}
 use native.Mathlib.Omega.{arith}
 use native.Mathlib.Decide.{ℕ-discrete}
-use lib.Dec.{ltb}
+use lib.Dec.{eqb, ltb}
 use lib.ListN.{length, getD, set, replicate, length-set, length-replicate, getD-replicate, List·getD-eq-default}
 use lib.Seq.{getD-set-same, getD-set-other}
 use borrow.Author.Tests.{ltb-true, ltb-false, not-true}
@@ -21,13 +22,16 @@ use Rattle.store.specs.Machine.{Said, said}
 use Rattle.store.specs.declared.Answer.{Answer}
 use Rattle.recovery.specs.Recovery.{boundary, newBase, told}
 use Rattle.recovery.specs.declared.Recovered.{Recovered}
-use Rattle.crash.specs.Events.{Call, logBy, redo, validateBy, mark, drain, laneOf, Design, happens}
+use Rattle.crash.specs.Events.{Call, logBy, redo, validateBy, mark, drain, lock, proceed, laneOf, System, Design, happens}
 use Rattle.crash.specs.Events.{Event, format, writeBack, call, recover, fails, failsInDrain, failsAfterDrain, failsInRecovery}
 use Rattle.crash.specs.Events.{Reply, answered, recovered, failed, ignored}
 use Rattle.crash.specs.History.{Newest, unset, closingAt, markAt, newestStamp, Page, History, blankPage, pageAt, opened, wordsBelow}
 use Rattle.crash.specs.History.{floorOnDrain, afterDrain, stamped, released, isCounted, heldBy}
+use Rattle.crash.specs.History.{Holder, lockTaken, partLogged, leftAfter, partWritten, nextPart}
 use Rattle.crash.specs.History.{taken, restarted, afterCall, afterRecovered, fedAnswer, fedRecovery, fedFailure, fed}
-use Rattle.crash.specs.Corollaries.{World, nextWorld, worldAfter, isFormat, startsAnew, goesOn, isDrain}
+use Rattle.crash.specs.Theorem.{Replied, Holds}
+use Rattle.crash.specs.Corollaries.{World, nextWorld, worldAfter, isDone, isFormat, startsAnew, goesOn, isDrain}
+use Rattle.crash.proofs.induction.Fits.{Fits, replied-fits}
 
 -- ---- pages
 -- a second drain leaves the floor
@@ -69,17 +73,58 @@ module _ (P : Page → Type 0) (blank : P blankPage) where
       (λ t. rw (List·getD-eq-default (replicate (z .lanes) blankPage) blankPage
       (let l : length (replicate (z .lanes) blankPage) ≤ L = omega (arith, length-replicate (z .lanes) blankPage, ltb-false L (z .lanes) t) in l)) blank)
 
+-- ---- the lock: of a transaction that holds it
+abbrev pub OfLock : (Holder → Type 0) → Option Holder → Type 0
+OfLock P none = Unit {0}
+OfLock P (some k) = P k
+
+-- once the part that is logged is written
+abbrev pub onward : Holder → Holder
+onward k = record { lane = k .lane; txn = k .txn; stamp = k .stamp; left = leftAfter k; ready = false }
+
+module _ (P : Holder → Type 0) where
+  pub free-lock : (x : Option Holder) → x ≡ none → OfLock P x
+  free-lock x e = subst (OfLock P) (sym e) tt
+
+  pub of-holder : (x : Option Holder) (k : Holder) → x ≡ some k → OfLock P x → P k
+  of-holder x k e i = subst (OfLock P) e i
+
+  passed-by : (b : Bool) (k : Holder) → P k → OfLock P (cond b none (some k))
+  passed-by true k i = tt
+  passed-by false k i = i
+
+  -- freed by the last part, or handed on
+  pub passed-on : (k : Holder) → P (onward k) → OfLock P (cond (eqb (leftAfter k) 0) none (some (onward k)))
+  passed-on k i = passed-by (eqb (leftAfter k) 0) (onward k) i
+
+pub lock-map : (P Q : Holder → Type 0) (x : Option Holder) → ((k : Holder) → P k → Q k) → OfLock P x → OfLock Q x
+lock-map P Q none f i = tt
+lock-map P Q (some k) f i = f k i
+
 -- ---- histories
--- kept by a drain of any lane, and by timestamps and releases of the lanes that may step
+-- kept by a drain of any lane, and of the lanes that may step: by timestamps, releases and the lock taken, all of which find it free, and by a part logged
+-- or written of the transaction that holds it
 pub record Keeping (P : History → Type 0) (may : ℕ → Type 0) : Type 0 where
   pub drains : (M : ℕ) (h : History) → P h → P (afterDrain M h)
   pub stamps : (M : ℕ) → may M → (kind : ℕ → Newest) → ((n : ℕ) → newestStamp (kind n) ≡ At n) → (held : Option (List ℕ)) (txns : List (List ℕ))
-      → (h : History) → P h → P (stamped M kind held txns h)
-  pub releases : (M : ℕ) → may M → (h : History) → P h → P (released M h)
+      → (h : History) → h .lock ≡ none → P h → P (stamped M kind held txns h)
+  pub releases : (M : ℕ) → may M → (h : History) → h .lock ≡ none → P h → P (released M h)
+  pub locks : (M : ℕ) → may M → (f : List ℕ) (n : ℕ) (h : History) → h .lock ≡ none → P h → P (lockTaken M f n h)
+  pub logs : (k : Holder) → may (k .lane) → (h : History) → h .lock ≡ some k → k .ready ≡ false → P h → P (partLogged k h)
+  pub writes : (k : Holder) → may (k .lane) → (h : History) → h .lock ≡ some k → k .ready ≡ true → P h → P (partWritten k h)
 
 -- of an event: a step that is called is of a lane that may, and a start has the property
 abbrev pub MayStep : (ℕ → Type 0) → Event → Type 0
 MayStep may e = (c : Call) → e ≡ call c → isDrain c ≡ false → may (laneOf c)
+
+-- a call that is taken finds the lock as it has to
+abbrev pub Fitting : Event → Reply → History → Type 0
+Fitting e r h = (c : Call) → e ≡ call c → isDone r ≡ true → Fits c h
+
+pub fitting : (z : Sizes) (end : List ℕ) (h : History) (e : Event) (was y : System) (found : List ℕ) (r : Reply) → Replied z end h e was found y r
+    → Fitting e r h
+fitting z end h e was y found r v c p =
+    replied-fits z h end c was y found r (subst (λ (x : Event). Replied z end h x was found y r) p v)
 
 abbrev Starts : (History → Type 0) → Sizes → Event → Reply → Type 0
 Starts P z e r = startsAnew e r ≡ true → (lag : ℕ) (start : List ℕ) (clock : ℕ) → P (opened z lag start clock)
@@ -97,37 +142,53 @@ module _ (P : History → Type 0) (may : ℕ → Type 0) (k : Keeping P may) whe
   one-of true h g i j = i
   one-of false h g i j = j
 
+  -- the transaction that holds the lock goes on
+  next-part : (M : ℕ) → may M → (x : Option Holder) (h : History) → h .lock ≡ x → ((k : Holder) → x ≡ some k → k .lane ≡ M) → P h → P (nextPart x h)
+  unfolding nextPart
+  next-part M m none h e own d = d
+  next-part M m (some j) h e own d =
+      let l : may (j .lane) = subst may (sym (own j refl)) m in
+      split (j .ready)
+      (λ t. subst (λ (b : Bool). P (cond b (partWritten j h) (partLogged j h))) (sym t) (k .writes j l h e t d))
+      (λ t. subst (λ (b : Bool). P (cond b (partWritten j h) (partLogged j h))) (sym t) (k .logs j l h e t d))
+
   -- a call that drains, or whose lane may step: a property that its lane's drain leaves
-  pub taken-from : (c : Call) → (isDrain c ≡ false → may (laneOf c)) → (t : Said) (h : History) → P (afterDrain (laneOf c) h) → P (taken c t h)
-  unfolding taken isDrain laneOf
-  taken-from (logBy r M []) m t h d = k .stamps M (m refl) markAt marks none [] (afterDrain M h) d
-  taken-from (logBy r M (w ∷ f)) m t h d =
-      one-of (isCounted (t .count)) _ _ (k .stamps M (m refl) closingAt closes (some (w ∷ f)) [] (afterDrain M h) d) d
-  taken-from (redo M) m t h d = one-of (t .stale) _ _ d (k .stamps M (m refl) closingAt closes none (heldBy (pageAt h M .held)) (afterDrain M h) d)
-  taken-from (validateBy r M f) m t h d =
-      one-of (t .changed) _ _ (k .releases M (m refl) (afterDrain M h) d) (k .stamps M (m refl) closingAt closes none (f ∷ []) (afterDrain M h) d)
-  taken-from (mark M) m t h d = k .stamps M (m refl) markAt marks none [] (afterDrain M h) d
-  taken-from (drain M) m t h d = d
+  pub taken-from : (c : Call) → (isDrain c ≡ false → may (laneOf c)) → (t : Said) (h : History) → Fits c h → P (afterDrain (laneOf c) h) → P (taken c t h)
+  unfolding taken isDrain laneOf afterDrain
+  taken-from (logBy r M []) m t h e d = k .stamps M (m refl) markAt marks none [] (afterDrain M h) e d
+  taken-from (logBy r M (w ∷ f)) m t h e d =
+      one-of (isCounted (t .count)) _ _ (k .stamps M (m refl) closingAt closes (some (w ∷ f)) [] (afterDrain M h) e d) d
+  taken-from (redo M) m t h e d = one-of (t .stale) _ _ d (k .stamps M (m refl) closingAt closes none (heldBy (pageAt h M .held)) (afterDrain M h) e d)
+  taken-from (validateBy r M f) m t h e d =
+      one-of (t .changed) _ _ (k .releases M (m refl) (afterDrain M h) e d) (k .stamps M (m refl) closingAt closes none (f ∷ []) (afterDrain M h) e d)
+  taken-from (mark M) m t h e d = k .stamps M (m refl) markAt marks none [] (afterDrain M h) e d
+  taken-from (drain M) m t h e d = d
+  taken-from (lock M f) m t h e d = one-of (isCounted (t .left)) _ _ (k .locks M (m refl) f (getD (t .left) 0 0) (afterDrain M h) e d) d
+  taken-from (proceed M) m t h e d = next-part M (m refl) (h .lock) (afterDrain M h) refl e d
 
   -- or one that it had before
-  taken-keeps : (c : Call) → (isDrain c ≡ false → may (laneOf c)) → (t : Said) (h : History) → P h → P (taken c t h)
-  taken-keeps c m t h i = taken-from c m t h (k .drains (laneOf c) h i)
+  taken-keeps : (c : Call) → (isDrain c ≡ false → may (laneOf c)) → (t : Said) (h : History) → Fits c h → P h → P (taken c t h)
+  taken-keeps c m t h e i = taken-from c m t h e (k .drains (laneOf c) h i)
 
   -- an event that does not start anew, or whose start has the property
   module _ (z : Sizes) where
-    answered-keeps : (e : Event) (a : Answer) → MayStep may e → Starts P z e (answered a) → (h : History) → P h → P (fedAnswer z e a h)
-    unfolding fedAnswer afterCall startsAnew isFormat
-    answered-keeps (format lag start) a m s h i =
+    answered-keeps : (e : Event) (a : Answer) → MayStep may e → Starts P z e (answered a) → (h : History) → Fitting e (answered a) h → P h
+        → P (fedAnswer z e a h)
+    unfolding fedAnswer afterCall startsAnew isFormat isDone
+    answered-keeps (format lag start) a m s h v i =
         split (said a .refused)
         (λ t. subst (λ (b : Bool). P (cond b h (opened z lag start 0))) (sym t) i)
         (λ t. subst (λ (b : Bool). P (cond b h (opened z lag start 0))) (sym t) (s (ap not t) lag start 0))
-    answered-keeps (writeBack w) a m s h i = i
-    answered-keeps (call c) a m s h i = one-of (said a .refused) _ _ i (taken-keeps c (m c refl) (said a) h i)
-    answered-keeps (recover lag limit j) a m s h i = i
-    answered-keeps (fails j) a m s h i = i
-    answered-keeps (failsInDrain c ws j) a m s h i = i
-    answered-keeps (failsAfterDrain c j) a m s h i = i
-    answered-keeps (failsInRecovery n j) a m s h i = i
+    answered-keeps (writeBack w) a m s h v i = i
+    answered-keeps (call c) a m s h v i =
+        split (said a .refused)
+        (λ t. subst (λ (b : Bool). P (cond b h (taken c (said a) h))) (sym t) i)
+        (λ t. subst (λ (b : Bool). P (cond b h (taken c (said a) h))) (sym t) (taken-keeps c (m c refl) (said a) h (v c refl (ap not t)) i))
+    answered-keeps (recover lag limit j) a m s h v i = i
+    answered-keeps (fails j) a m s h v i = i
+    answered-keeps (failsInDrain c ws j) a m s h v i = i
+    answered-keeps (failsAfterDrain c j) a m s h v i = i
+    answered-keeps (failsInRecovery n j) a m s h v i = i
 
     failed-keeps : (e : Event) (d : Bool) (h : History) → P h → P (fedFailure e d h)
     unfolding fedFailure
@@ -155,23 +216,25 @@ module _ (P : History → Type 0) (may : ℕ → Type 0) (k : Keeping P may) whe
     recovered-keeps (failsAfterDrain c j) r s found h i = i
     recovered-keeps (failsInRecovery n j) r s found h i = i
 
-    pub fed-keeps : (e : Event) (r : Reply) → MayStep may e → Starts P z e r → (found : List ℕ) (h : History) → P h → P (fed z e r found h)
+    pub fed-keeps : (e : Event) (r : Reply) → MayStep may e → Starts P z e r → (found : List ℕ) (h : History) → Fitting e r h → P h → P (fed z e r found h)
     unfolding fed
-    fed-keeps e (answered a) m s found h i = answered-keeps e a m s h i
-    fed-keeps e (recovered x) m s found h i = recovered-keeps e x s found h i
-    fed-keeps e (failed d) m s found h i = failed-keeps e d h i
-    fed-keeps e ignored m s found h i = i
+    fed-keeps e (answered a) m s found h v i = answered-keeps e a m s h v i
+    fed-keeps e (recovered x) m s found h v i = recovered-keeps e x s found h i
+    fed-keeps e (failed d) m s found h v i = failed-keeps e d h i
+    fed-keeps e ignored m s found h v i = i
 
 -- ---- lists
-module _ (P : History → Type 0) (may : ℕ → Type 0) (k : Keeping P may) (d : Design) (z : Sizes) where
+module _ (P : History → Type 0) (may : ℕ → Type 0) (k : Keeping P may) (d : Design) (z : Sizes) (end : List ℕ) where
   -- of events that start anew where every start has the property, or that do not
-  pub after-keeps : (w : World) (es : List Event) → All (MayStep may) es
+  pub after-keeps : (w : World) (es : List Event) → Holds d z end (w .system) (w .history) es → All (MayStep may) es
       → ((lag : ℕ) (start : List ℕ) (clock : ℕ) → P (opened z lag start clock)) ⊎ (goesOn d z w es ≡ true) → P (w .history) → P (worldAfter d z w es .history)
   unfolding worldAfter nextWorld goesOn
-  after-keeps w [] nil s i = i
-  after-keeps w (e ∷ es) (more m ms) (inl s) i =
-      after-keeps (nextWorld d z w e) es ms (inl s) (fed-keeps P may k z e (happens d z (w .system) e .reply) m (λ t. s) _ (w .history) i)
-  after-keeps w (e ∷ es) (more m ms) (inr t) i =
+  after-keeps w [] v nil s i = i
+  after-keeps w (e ∷ es) v (more m ms) (inl s) i =
+      let f = fitting z end (w .history) e (w .system) _ _ _ (v .0 .reply) in
+      after-keeps (nextWorld d z w e) es (v .1) ms (inl s) (fed-keeps P may k z e (happens d z (w .system) e .reply) m (λ t. s) _ (w .history) f i)
+  after-keeps w (e ∷ es) v (more m ms) (inr t) i =
       let x = happens d z (w .system) e .reply in
-      after-keeps (nextWorld d z w e) es ms (inr (and-right (not (startsAnew e x)) _ t))
-      (fed-keeps P may k z e x m (λ y. clash (startsAnew e x) y (not-true (startsAnew e x) (and-left _ _ t))) _ (w .history) i)
+      let f = fitting z end (w .history) e (w .system) _ _ _ (v .0 .reply) in
+      after-keeps (nextWorld d z w e) es (v .1) ms (inr (and-right (not (startsAnew e x)) _ t))
+      (fed-keeps P may k z e x m (λ y. clash (startsAnew e x) y (not-true (startsAnew e x) (and-left _ _ t))) _ (w .history) f i)

@@ -1,10 +1,10 @@
--- A commit that can no longer be lost: floors rise, end, or are set above the clock, so the least floor stays above a timestamp that it has passed. Of every
+-- A commit that can no longer be lost: floors rise, end, or are set at timestamps to come, so the least floor stays above one that it has passed. Of every
 -- store of which the crash theorem holds. Assumes nothing.
 use mathlib.Core.Path.{_≡_, refl, ap, sym, subst, _∙_}
 use mathlib.Core.Logic.{inl, inr}
 use mathlib.Core.Bool.{true}
 use mathlib.Core.List.{List, [], _∷_, _++_}
-use mathlib.Core.Option.{Option, none}
+use mathlib.Core.Option.{Option, none, some}
 use Prim.Native.Nat.{ℕ, zero, suc, _+_, _≤_, _<_, min}
 use native.Mathlib.Omega.{arith}
 use native.Mathlib.Nat.{le-trans}
@@ -23,11 +23,13 @@ use Rattle.store.specs.Calls.{badLag, formatRefusal}
 use Rattle.crash.specs.Events.{Event, format, recover, live, Design, happens, afterFormat}
 use Rattle.crash.specs.History.{Newest, unset, closingAt, markAt, newestStamp, Page, History, blankPage, pageAt, opened, isBelow}
 use Rattle.crash.specs.History.{floorOr, floorOnDrain, afterDrain, stamped, released, fedAnswer, fed, leastFloorOf}
-use Rattle.crash.specs.Theorem.{Replied, CrashTheorem}
-use Rattle.crash.specs.Corollaries.{World, nextWorld, worldAfter, SafeTheorem}
+use Rattle.crash.specs.History.{Holder, lockTaken, partLogged, partWritten}
+use Rattle.crash.specs.Theorem.{Replied, Holds, CrashTheorem}
+use Rattle.crash.specs.Corollaries.{World, nextWorld, worldAfter, nextCommit, SafeTheorem}
 use Rattle.crash.proofs.induction.Lists.{holds-next, holds-after}
 use Rattle.crash.proofs.induction.Moves.{none-holds}
 use Rattle.crash.proofs.induction.Pages.{drained-twice, onDrain, page-set, page-at, page-all, opened-page, Keeping, MayStep, after-keeps}
+use Rattle.crash.proofs.induction.Pages.{OfLock, free-lock, of-holder, passed-on, closes}
 use Rattle.crash.proofs.induction.Kept.{recovery-keeps}
 
 -- ---- timestamps
@@ -79,10 +81,10 @@ new-drained (closingAt u) floor s t e l = let q : u ≡ t = at-one e in lt-ltb s
 new-drained (markAt u) floor s t e l = refl
 
 -- a page's floor and newest timestamp are not above the clock, and a drain does not lower its floor
-record Rises (clock : ℕ) (p : Page) : Type 0 where
-  floor-low : (a : ℕ) → p .floor ≡ At a → a ≤ clock
-  newest-low : (t : ℕ) → p .newest ≡ closingAt t → t ≤ clock
-  rises : (s : ℕ) → isBelow (p .floor) s ≡ true → isBelow (floorOnDrain (p .newest) (p .floor)) s ≡ true
+pub record Rises (clock : ℕ) (p : Page) : Type 0 where
+  pub floor-low : (a : ℕ) → p .floor ≡ At a → a ≤ clock
+  pub newest-low : (t : ℕ) → p .newest ≡ closingAt t → t ≤ clock
+  pub rises : (s : ℕ) → isBelow (p .floor) s ≡ true → isBelow (floorOnDrain (p .newest) (p .floor)) s ≡ true
 
 rises-blank : (clock : ℕ) → Rises clock blankPage
 unfolding floorOnDrain
@@ -111,7 +113,7 @@ unfolding floorOr
 or-low None c t a l g e = let q : t ≡ a = at-one e in omega arith
 or-low (At b) c t a l g e = let q : b ≡ a = at-one e in let k = g b refl in omega arith
 
-or-below : (f : Timestamp) (c t s : ℕ) → c < t → ((x : ℕ) → f ≡ At x → x ≤ c) → isBelow (floorOr f (At t)) s ≡ true → s < t
+or-below : (f : Timestamp) (c t s : ℕ) → c ≤ t → ((x : ℕ) → f ≡ At x → x ≤ c) → isBelow (floorOr f (At t)) s ≡ true → s < t
 unfolding floorOr isBelow
 or-below None c t s l g e = ltb-true s t e
 or-below (At b) c t s l g e = let k = g b refl in omega (arith, ltb-true s b e)
@@ -120,38 +122,65 @@ stamp-one : (n : Newest) (t u : ℕ) → newestStamp n ≡ At t → n ≡ closin
 unfolding newestStamp
 stamp-one n t u e p = let q : At u ≡ At t = sym (ap newestStamp p) ∙ e in let r : u ≡ t = at-one q in omega arith
 
-rises-stamp : (c t : ℕ) (p q : Page) → c < t → Rises c p → newestStamp (q .newest) ≡ At t → q .floor ≡ floorOr (p .floor) (At t) → Rises t q
+rises-stamp : (c t : ℕ) (p q : Page) → c ≤ t → Rises c p → newestStamp (q .newest) ≡ At t → q .floor ≡ floorOr (p .floor) (At t) → Rises t q
 rises-stamp c t p q l r n f =
     record {
-      floor-low = λ a e. or-low (p .floor) c t a (omega arith) (r .floor-low) (sym f ∙ e);
+      floor-low = λ a e. or-low (p .floor) c t a l (r .floor-low) (sym f ∙ e);
       newest-low = λ u e. stamp-one (q .newest) t u n e;
       rises = λ s e. new-drained (q .newest) (q .floor) s t n (or-below (p .floor) c t s l (r .floor-low) (rw f at e));
     }
 
--- ---- all pages, from Format on
-pub Rising : History → Type 0
-Rising h = (L : ℕ) → Rises (h .clock) (pageAt h L)
+-- ---- all pages, from Format on; and the lock's timestamp is the clock, since nothing takes one while it is held
+pub record Rising (h : History) : Type 0 where
+  pub pages : (L : ℕ) → Rises (h .clock) (pageAt h L)
+  pub lock : OfLock (λ k. k .stamp ≡ h .clock) (h .lock)
+
+-- a part logged with the clock's timestamp
+rises-part : (c s : ℕ) (p : Page) → s ≡ c → Rises c p → Rises c (record { held = p .held; newest = closingAt s; floor = floorOr (p .floor) (At s) })
+rises-part c s p e r =
+    rises-later s c _ (omega arith)
+    (rises-stamp c s p (record { held = p .held; newest = closingAt s; floor = floorOr (p .floor) (At s) }) (omega arith) r (closes s) refl)
 
 pub rising-keeping : Keeping Rising (λ M. Unit {0})
-unfolding Rising afterDrain stamped released pageAt
+unfolding afterDrain stamped released lockTaken partLogged partWritten pageAt
 rising-keeping =
     record {
       drains = λ M h f.
-          page-all (Rises (h .clock)) (rises-blank (h .clock)) (h .pages) M (onDrain (getD (h .pages) M blankPage)) (rises-drain (h .clock) _ (f M)) f;
-      stamps = λ M u kind ks held txns h f.
-          page-all (Rises (h .clock + 2)) (rises-blank (h .clock + 2)) (h .pages) M _
-          (rises-stamp (h .clock) (h .clock + 2) (getD (h .pages) M blankPage)
-          (record { held = held; newest = kind (h .clock + 2); floor = floorOr (getD (h .pages) M blankPage .floor) (At (h .clock + 2)) })
-          (omega arith) (f M) (ks (h .clock + 2)) refl)
-          (λ L. rises-later (h .clock) (h .clock + 2) _ (omega arith) (f L));
-      releases = λ M u h f.
-          page-all (Rises (h .clock)) (rises-blank (h .clock)) (h .pages) M _
-          (record { floor-low = f M .floor-low; newest-low = f M .newest-low; rises = f M .rises }) f;
+          record {
+            pages = page-all (Rises (h .clock)) (rises-blank (h .clock)) (h .pages) M (onDrain (getD (h .pages) M blankPage))
+                (rises-drain (h .clock) _ (f .pages M)) (f .pages);
+            lock = f .lock;
+          };
+      stamps = λ M u kind ks held txns h e f.
+          record {
+            pages = page-all (Rises (h .clock + 2)) (rises-blank (h .clock + 2)) (h .pages) M _
+                (rises-stamp (h .clock) (h .clock + 2) (getD (h .pages) M blankPage)
+                (record { held = held; newest = kind (h .clock + 2); floor = floorOr (getD (h .pages) M blankPage .floor) (At (h .clock + 2)) })
+                (omega arith) (f .pages M) (ks (h .clock + 2)) refl)
+                (λ L. rises-later (h .clock) (h .clock + 2) _ (omega arith) (f .pages L));
+            lock = free-lock (λ k. k .stamp ≡ h .clock + 2) (h .lock) e;
+          };
+      releases = λ M u h e f.
+          record {
+            pages = page-all (Rises (h .clock)) (rises-blank (h .clock)) (h .pages) M _
+                (record { floor-low = f .pages M .floor-low; newest-low = f .pages M .newest-low; rises = f .pages M .rises }) (f .pages);
+            lock = f .lock;
+          };
+      locks = λ M u t n h e f. record { pages = λ L. rises-later (h .clock) (h .clock + 2) _ (omega arith) (f .pages L); lock = refl };
+      logs = λ k u h e r f.
+          let s = of-holder (λ x. x .stamp ≡ h .clock) (h .lock) k e (f .lock) in
+          record {
+            pages = page-all (Rises (h .clock)) (rises-blank (h .clock)) (h .pages) (k .lane) _
+                (rises-part (h .clock) (k .stamp) (getD (h .pages) (k .lane) blankPage) s (f .pages (k .lane))) (f .pages);
+            lock = s;
+          };
+      writes = λ k u h e r f.
+          record { pages = f .pages; lock = passed-on (λ x. x .stamp ≡ h .clock) k (of-holder (λ x. x .stamp ≡ h .clock) (h .lock) k e (f .lock)) };
     }
 
 pub rising-opened : (z : Sizes) (lag : ℕ) (start : List ℕ) (clock : ℕ) → Rising (opened z lag start clock)
-unfolding Rising opened
-rising-opened z lag start clock L = opened-page (Rises clock) (rises-blank clock) z lag start clock L
+unfolding opened
+rising-opened z lag start clock = record { pages = opened-page (Rises clock) (rises-blank clock) z lag start clock; lock = tt }
 
 -- ---- a page with its floor above s
 pub record Above (s : ℕ) (p : Page) : Type 0 where
@@ -171,22 +200,34 @@ or-above (At b) t s l e = e
 unfoldable pub Reaches : ℕ → Page → Type 0
 Reaches s p = isBelow (floorOnDrain (p .newest) (p .floor)) s ≡ true
 
-reaches-blank : (s : ℕ) → Reaches s blankPage
+pub reaches-blank : (s : ℕ) → Reaches s blankPage
 unfolding Reaches
 reaches-blank s = above-blank s .drained
 
-reaches-stamped : (n : Newest) (held : Option (List ℕ)) (floor : Timestamp) (s t : ℕ) → newestStamp n ≡ At t → s < t
+pub reaches-stamped : (n : Newest) (held : Option (List ℕ)) (floor : Timestamp) (s t : ℕ) → newestStamp n ≡ At t → s < t
     → Reaches s (record { held = held; newest = n; floor = floor })
 unfolding Reaches
 reaches-stamped n held floor s t e l = new-drained n floor s t e l
 
-reaches-drained : (s : ℕ) (p : Page) → Reaches s p → Above s (onDrain p)
+pub reaches-drained : (s : ℕ) (p : Page) → Reaches s p → Above s (onDrain p)
 unfolding Reaches
 reaches-drained s p e = record { floor = e; drained = rw (drained-twice (p .newest) (p .floor)) e }
 
--- ---- lane L's page, where the clock has reached s: what drains, timestamps above s and releases keep
+-- ---- every timestamp that is still to be given to a sequence or a commit is above s: the next one, and the lock's
+unfoldable pub Ahead : ℕ → History → Type 0
+Ahead s h = (s < h .clock + 2) × OfLock (λ k. s < k .stamp) (h .lock)
+
+pub ahead-free : (s : ℕ) (h : History) → h .lock ≡ none → s < h .clock + 2 → Ahead s h
+unfolding Ahead
+ahead-free s h e l = (l, free-lock (λ k. s < k .stamp) (h .lock) e)
+
+pub ahead-held : (s : ℕ) (h : History) (k : Holder) → h .lock ≡ some k → k .stamp ≤ h .clock → s < k .stamp → Ahead s h
+unfolding Ahead
+ahead-held s h k e c l = (omega arith, subst (OfLock (λ x. s < x .stamp)) (sym e) l)
+
+-- ---- lane L's page, with every timestamp to come above s: what drains, those timestamps and releases keep
 unfoldable pub LaneHas : ℕ → (Page → Type 0) → ℕ → History → Type 0
-LaneHas s P L h = (s < h .clock + 2) × P (pageAt h L)
+LaneHas s P L h = Ahead s h × P (pageAt h L)
 
 module _ (s : ℕ) (P : Page → Type 0) (blank : P blankPage) (drains : (p : Page) → P p → P (onDrain p))
     (stamps : (p : Page) (n : Newest) (held : Option (List ℕ)) (t : ℕ) → newestStamp n ≡ At t → s < t → P p
@@ -196,16 +237,26 @@ module _ (s : ℕ) (P : Page → Type 0) (blank : P blankPage) (drains : (p : Pa
   here h M e i = subst (λ x. P (getD (h .pages) x blankPage)) (sym e) i
 
   lane-keeping : Keeping (LaneHas s P L) (λ M. Unit {0})
-  unfolding LaneHas afterDrain stamped released pageAt
+  unfolding LaneHas Ahead afterDrain stamped released lockTaken partLogged partWritten pageAt
   lane-keeping =
       record {
         drains = λ M h i. (i .0, page-at P blank (h .pages) M _ L (λ e. drains (getD (h .pages) M blankPage) (here h M e (i .1))) (i .1));
-        stamps = λ M u kind ks held txns h i. (
-          omega (arith, i .0),
+        stamps = λ M u kind ks held txns h e i. (
+          (omega (arith, i .0 .0), i .0 .1),
           page-at P blank (h .pages) M _ L
-              (λ e. stamps (getD (h .pages) M blankPage) (kind (h .clock + 2)) held (h .clock + 2) (ks (h .clock + 2)) (i .0) (here h M e (i .1))) (i .1),
+              (λ q. stamps (getD (h .pages) M blankPage) (kind (h .clock + 2)) held (h .clock + 2) (ks (h .clock + 2)) (i .0 .0) (here h M q (i .1))) (i .1),
         );
-        releases = λ M u h i. (i .0, page-at P blank (h .pages) M _ L (λ e. releases (getD (h .pages) M blankPage) (here h M e (i .1))) (i .1));
+        releases = λ M u h e i. (i .0, page-at P blank (h .pages) M _ L (λ q. releases (getD (h .pages) M blankPage) (here h M q (i .1))) (i .1));
+        locks = λ M u f n h e i. ((omega (arith, i .0 .0), i .0 .0), i .1);
+        logs = λ k u h e r i.
+            let l = of-holder (λ x. s < x .stamp) (h .lock) k e (i .0 .1) in (
+              (i .0 .0, l),
+              page-at P blank (h .pages) (k .lane) _ L
+                  (λ q.
+                  stamps (getD (h .pages) (k .lane) blankPage) (closingAt (k .stamp)) _ (k .stamp) (closes (k .stamp)) l (here h (k .lane) q (i .1))) (i .1),
+            );
+        writes = λ k u h e r i.
+            ((i .0 .0, passed-on (λ x. s < x .stamp) k (of-holder (λ x. s < x .stamp) (h .lock) k e (i .0 .1))), i .1);
       }
 
 pub reaches-keeping : (s L : ℕ) → Keeping (LaneHas s (Reaches s) L) (λ M. Unit {0})
@@ -223,19 +274,27 @@ floor-keeping s =
 
 -- the lane's drain makes the one the other
 pub lane-drained : (s L : ℕ) (h : History) → LaneHas s (Reaches s) L h → LaneHas s (Above s) L (afterDrain L h)
-unfolding LaneHas Reaches afterDrain pageAt
+unfolding LaneHas Ahead Reaches afterDrain pageAt
 lane-drained s L h i =
     (i .0, page-set (Above s) (above-blank s) L (h .pages) (onDrain (getD (h .pages) L blankPage)) (reaches-drained s (getD (h .pages) L blankPage) (i .1)))
 
--- a new timestamp above s makes the lane reach s
+-- a timestamp above s makes the lane reach s: a new one
 pub lane-stamped : (s L : ℕ) (kind : ℕ → Newest) → ((n : ℕ) → newestStamp (kind n) ≡ At n) → (held : Option (List ℕ)) (txns : List (List ℕ)) (h : History)
-    → s < h .clock + 2 → LaneHas s (Reaches s) L (stamped L kind held txns h)
-unfolding LaneHas stamped pageAt
+    → Ahead s h → LaneHas s (Reaches s) L (stamped L kind held txns h)
+unfolding LaneHas Ahead stamped pageAt
 lane-stamped s L kind kinds held txns h l = (
-  omega arith,
+  (omega (arith, l .0), l .1),
   page-set (Reaches s) (reaches-blank s) L (h .pages)
       (record { held = held; newest = kind (h .clock + 2); floor = floorOr (pageAt h L .floor) (At (h .clock + 2)) })
-      (reaches-stamped (kind (h .clock + 2)) held _ s (h .clock + 2) (kinds (h .clock + 2)) l),
+      (reaches-stamped (kind (h .clock + 2)) held _ s (h .clock + 2) (kinds (h .clock + 2)) (l .0)),
+)
+
+-- and a part's
+pub lane-part : (s : ℕ) (k : Holder) (h : History) → s < h .clock + 2 → s < k .stamp → LaneHas s (Reaches s) (k .lane) (partLogged k h)
+unfolding LaneHas Ahead partLogged pageAt
+lane-part s k h l m = (
+  (l, m),
+  page-set (Reaches s) (reaches-blank s) (k .lane) (h .pages) _ (reaches-stamped (closingAt (k .stamp)) _ _ s (k .stamp) (closes (k .stamp)) m),
 )
 
 -- ---- all pages
@@ -247,14 +306,17 @@ unfolding AllAbove
 above-keeping s =
     record {
       drains = λ M h i L. floor-keeping s L .drains M h (i L);
-      stamps = λ M u kind ks held txns h i L. floor-keeping s L .stamps M u kind ks held txns h (i L);
-      releases = λ M u h i L. floor-keeping s L .releases M u h (i L);
+      stamps = λ M u kind ks held txns h e i L. floor-keeping s L .stamps M u kind ks held txns h e (i L);
+      releases = λ M u h e i L. floor-keeping s L .releases M u h e (i L);
+      locks = λ M u f n h e i L. floor-keeping s L .locks M u f n h e (i L);
+      logs = λ k u h e r i L. floor-keeping s L .logs k u h e r (i L);
+      writes = λ k u h e r i L. floor-keeping s L .writes k u h e r (i L);
     }
 
 -- floors above s stay so, since drains do not lower them
-pub above-from : (s : ℕ) (h : History) → Rising h → s < h .clock + 2 → isBelow (leastFloorOf (h .pages)) s ≡ true → AllAbove s h
-unfolding Rising AllAbove LaneHas pageAt
-above-from s h r l e L = let f = each-above (h .pages) s e L in (l, record { floor = f; drained = r L .rises s f })
+pub above-from : (s : ℕ) (h : History) → Rising h → Ahead s h → isBelow (leastFloorOf (h .pages)) s ≡ true → AllAbove s h
+unfolding AllAbove LaneHas pageAt
+above-from s h r l e L = let f = each-above (h .pages) s e L in (l, record { floor = f; drained = r .pages L .rises s f })
 
 pub above-least : (s : ℕ) (h : History) → AllAbove s h → isBelow (leastFloorOf (h .pages)) s ≡ true
 unfolding AllAbove LaneHas pageAt
@@ -280,19 +342,34 @@ pub formatted : (d : Design) (z : Sizes) (lag : ℕ) (start : List ℕ) (m : Mac
 unfolding nextWorld happens afterFormat fed fedAnswer trailer said
 formatted d z lag start m h ok v = let t = format-words z lag start m ok in rw (v, t .0, t .1)
 
+-- what is below every commit to come, where the lock's timestamp is the clock
+ahead-by : (s : ℕ) (h : History) (x : Option Holder) → h .lock ≡ x → OfLock (λ k. k .stamp ≡ h .clock) x → s < nextCommit x (h .clock) → Ahead s h
+unfolding nextCommit
+ahead-by s h none e i l = ahead-free s h e l
+ahead-by s h (some k) e i l = ahead-held s h k e (omega arith) l
+
+-- the floors rise from Format on
+pub rising-after : (d : Design) → CrashTheorem d → (z : Sizes) (lag : ℕ) (start : List ℕ) (m : Machine) (h : History) → formatRefusal z lag start m ≡ 0
+    → (es : List Event) → Rising (worldAfter d z (record { system = live m; history = h }) (format lag start ∷ es) .history)
+unfolding CrashTheorem worldAfter nextWorld
+rising-after d theorem z lag start m h ok es =
+    let w : World = record { system = live m; history = h } in
+    let v = theorem z lag start m h ok es in
+    after-keeps Rising (λ M. Unit {0}) rising-keeping d z (trailer z) (nextWorld d z w (format lag start)) es (v .1) (any-step es)
+    (inl (rising-opened z)) (subst Rising (sym (formatted d z lag start m h ok (v .0 .reply))) (rising-opened z lag start 0))
+
 pub safe-from : (d : Design) → CrashTheorem d → SafeTheorem d
 unfolding CrashTheorem SafeTheorem worldAfter
 safe-from d theorem z lag start m h ok es fs s low above goes lag₁ limit j =
     let w : World = record { system = live m; history = h } in
-    let v = theorem z lag start m h ok (es ++ (fs ++ (recover lag₁ limit j ∷ []))) in
     let f = nextWorld d z w (format lag start) in
     let a = worldAfter d z f es in
     let b = worldAfter d z a fs in
-    let r : Rising (a .history) = after-keeps Rising (λ M. Unit {0}) rising-keeping d z f es (any-step es)
-    (inl (rising-opened z)) (subst Rising (sym (formatted d z lag start m h ok (v .0 .reply))) (rising-opened z lag start 0)) in
-    let i : AllAbove s (b .history) = after-keeps (AllAbove s) (λ M. Unit {0}) (above-keeping s) d z a fs (any-step fs)
-    (inr goes) (above-from s (a .history) r (omega (arith, low)) above) in
+    let v : (rest : List Event) → Holds d z (trailer z) (a .system) (a .history) rest = λ rest.
+    holds-after d z (trailer z) f es rest
+    (holds-next d z (trailer z) w (format lag start) (es ++ rest) (theorem z lag start m h ok (es ++ rest))) in
+    let r : Rising (a .history) = rising-after d theorem z lag start m h ok es in
+    let i : AllAbove s (b .history) = after-keeps (AllAbove s) (λ M. Unit {0}) (above-keeping s) d z (trailer z) a fs (v fs) (any-step fs)
+    (inr goes) (above-from s (a .history) r (ahead-by s (a .history) (a .history .lock) refl (r .lock) low) above) in
     recovery-keeps d z b (At (s + 1)) (λ t e. below-earlier _ s t (up-to s t e) (above-least s (b .history) i)) lag₁ limit j
-    (holds-after d z (trailer z) a fs (recover lag₁ limit j ∷ [])
-    (holds-after d z (trailer z) f es (fs ++ (recover lag₁ limit j ∷ []))
-    (holds-next d z (trailer z) w (format lag start) (es ++ (fs ++ (recover lag₁ limit j ∷ []))) v)))
+    (holds-after d z (trailer z) a fs (recover lag₁ limit j ∷ []) (v (fs ++ (recover lag₁ limit j ∷ []))))

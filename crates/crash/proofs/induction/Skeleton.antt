@@ -15,7 +15,7 @@ use Rattle.image.specs.inner.ImageLaws.{buffers-in, format-good}
 use Rattle.image.specs.Flush.{flushed, writtenBack, drainedNvm}
 use Rattle.image.specs.inner.FlushLaws.{length-writtenBack, length-drainedNvm}
 use Rattle.image.specs.declared.Sizes.{Sizes}
-use Rattle.record.specs.Record.{lagOk}
+use Rattle.record.specs.Record.{lockLength, lagOk}
 use Rattle.store.specs.Machine.{Machine, Step, firstCause, unless, said}
 use Rattle.store.specs.Calls.{badBuffers, badLag, started, startImage, drained, formatRefusal, formatStep, writeBackRefusal, writeBackStep}
 use Rattle.store.specs.inner.FormatLaws.{length-startImage}
@@ -45,10 +45,11 @@ pub record Laws (z : Sizes) (Inv : Machine → History → Type 0) (AtCut : List
   pub lives : (m : Machine) (h : History) → Inv m h → Live z h m
   pub tails : (m : Machine) (h : History) → Inv m h → Tailed z m
   pub buffers : (m : Machine) (h : History) → Inv m h → buffersOk z (length (m .cache)) (length (m .nvm)) (length (m .flags)) ≡ true
+  pub pairs : (m : Machine) (h : History) → Inv m h → length (m .pairs) ≡ lockLength
   pub calls : (m : Machine) (h : History) (c : Call) → Inv m h → Inv (callStep z c m .machine) (afterCall c (callStep z c m .answer) h)
   pub answers : (m : Machine) (h : History) (c : Call) → Inv m h → Answers z h m c (callStep z c m .answer)
   pub writes : (m : Machine) (h : History) (i : ℕ) → Inv m h
-      → Inv (record { state = m .state; cache = m .cache; nvm = writtenBack i (m .cache) (m .nvm); flags = m .flags }) h
+      → Inv (record { state = m .state; pairs = m .pairs; cache = m .cache; nvm = writtenBack i (m .cache) (m .nvm); flags = m .flags }) h
   -- the cells that a failure leaves
   pub cuts : (m : Machine) (h : History) → Inv m h → AtCut (m .nvm) h
   pub size : (cells : List ℕ) (h : History) → AtCut cells h → formerLength z ≤ length cells
@@ -89,13 +90,16 @@ format-answer z ok end lag start m (inr e) s =
 
 -- ---- write-back
 abbrev written : ℕ → Machine → Machine
-written i m = record { state = m .state; cache = m .cache; nvm = writtenBack i (m .cache) (m .nvm); flags = m .flags }
+written i m = record { state = m .state; pairs = m .pairs; cache = m .cache; nvm = writtenBack i (m .cache) (m .nvm); flags = m .flags }
 
-write-answer : (z : Sizes) (i n : ℕ) (m : Machine) → buffersOk z (length (m .cache)) (length (m .nvm)) (length (m .flags)) ≡ true → length (m .cache) ≡ n
+write-answer : (z : Sizes) (i n : ℕ) (m : Machine) → buffersOk z (length (m .cache)) (length (m .nvm)) (length (m .flags)) ≡ true
+    → length (m .pairs) ≡ lockLength → length (m .cache) ≡ n
     → writeBackStep z i m
     ≡ cond (leb n i) (record { answer = answer.Refused 4; machine = m }) (record { answer = answer.Done; machine = written i m })
 unfolding writeBackStep writeBackRefusal badBuffers firstCause unless
-write-answer z i n m b c = split (leb n i) (λ e. rw (b, c, e)) (λ e. rw (b, c, e))
+write-answer z i n m b p c =
+    let q = eq-eqb (length (m .pairs)) lockLength p in
+    split (leb n i) (λ e. rw (b, q, c, e)) (λ e. rw (b, q, c, e))
 
 write-reply : (i n : ℕ) (m : Machine)
     → cond {A = Step} (leb n i) (record { answer = answer.Refused 4; machine = m }) (record { answer = answer.Done; machine = written i m }) .answer
@@ -280,7 +284,7 @@ module _ (z : Sizes) (ok : sizesOk z ≡ true) (end : List ℕ) (form : Form z e
     on-write i =
         let s = sized-now m h v in
         let n = formerLength z + length end in
-        let b = write-answer z i n m (laws .buffers m h (v .inv)) (s .cache ∙ s .nvm) in
+        let b = write-answer z i n m (laws .buffers m h (v .inv)) (laws .pairs m h (v .inv)) (s .cache ∙ s .nvm) in
         record {
           reply = ap (λ (s : Step). s .answer) b ∙ write-reply i n m;
           good = rw b (split (leb n i) (λ e. rw e v) (λ e. rw e (writes-any m h i v)));

@@ -16,6 +16,7 @@ use Rattle.image.specs.declared.Sizes.{Sizes}
 use Rattle.store.specs.Machine.{Machine, Step}
 use Rattle.store.specs.Calls.{drained, changed, appended, logged, committed}
 use Rattle.store.specs.Calls as calls
+use Rattle.store.specs.Locks.{locked, partLogged, partWritten}
 use Rattle.recovery.specs.Recovery.{allMade, recoveredBy, recoverReadRefusal, recoverReadStep}
 use Rattle.crash.specs.Events.{Call, Junk, format, writeBack, call, recover, fails, failsInDrain, failsAfterDrain, failsInRecovery}
 use Rattle.crash.specs.Events.{System, live, down, nvmOf, vandzulge, happens, laneOf, isTaken, isFormer, recoveryOf, cutShortOf, partlyDrained}
@@ -23,7 +24,8 @@ use Rattle.crash.specs.Events.{bare, afterStep, recoveredSystem, afterRe
 use Rattle.crash.specs.Theorem.{endOf, mayStore, TrailerTheorem}
 use Rattle.crash.proofs.lane.Ends.{length-end, end-drained, end-flagged, end-sizes}
 use Rattle.crash.proofs.recovery.Restart.{not-former, cut-taken, cut-end}
-use Rattle.crash.proofs.induction.Moves.{Known, Move, refusing, draining, logging, settling, redoing, validating, giving-up, marking, call-moves}
+use Rattle.crash.proofs.induction.Moves.{Known, Move, refusing, draining, logging, settling, redoing, validating, giving-up, marking}
+use Rattle.crash.proofs.induction.Moves.{locking, parting, writing, call-moves}
 use Rattle.crash.proofs.induction.Fed.{taken-known}
 
 -- cells with a trailer are at least of the former length
@@ -62,15 +64,18 @@ module _ (z : Sizes) (m : Machine) (its : endOf z (m .nvm) ≡ trailer z) (none 
       end-drained z L 4 (m .flags) (m .cache) (m .nvm) none (b .same-flags ∙ sym (b .same-nvm)) (sym (b .same-nvm)) ∙ its
 
   moves : {c : Call} {s : Step} → Move z m c s → endOf z (s .machine .nvm) ≡ trailer z
-  unfolding drained logged appended committed changed calls.released laneOf
+  unfolding drained logged appended committed changed calls.released locked partLogged partWritten laneOf
   moves (refusing n e p) = its
   moves {c} (draining k d) = drains (laneOf c) k
-  moves (logging q L w f k ok i p r) = drains L k
-  moves (settling q L k i r) = drains L k
+  moves (logging q L w f k ok i e p r) = drains L k
+  moves (settling q L k i e r) = drains L k
   moves (redoing L k r t) = drains L k
   moves (validating q L f k ok r t) = drains L k
   moves (giving-up q L f k ok r t) = drains L k
-  moves (marking L k r) = drains L k
+  moves (marking L k e r) = drains L k
+  moves (locking L f k ok i e d p r) = drains L k
+  moves (parting k known e t) = drains (k .lane) known
+  moves (writing k known e t) = drains (k .lane) known
 
   -- some words of one: each is one that the lane has flushed
   partly : (L : ℕ) (is nvm : List ℕ) → endOf z nvm ≡ trailer z → endOf z (partlyDrained L is (m .flags) (m .cache) nvm) ≡ trailer z

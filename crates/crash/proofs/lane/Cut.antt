@@ -8,7 +8,7 @@ use Prim.Native.Nat.{ℕ, zero, suc, _≤_, _<_}
 use native.Mathlib.Omega.{arith}
 use native.Mathlib.Nat.{le-refl}
 use lib.ListN.{length, set, length-set}
-use Rattle.laws.specs.inner.Lists.{All, All-map}
+use Rattle.laws.specs.inner.Lists.{All}
 use Rattle.image.specs.Image.{baseOf, logOf}
 use Rattle.image.specs.inner.ImageLaws.{InRange}
 use Rattle.image.specs.declared.Sizes.{Sizes}
@@ -29,8 +29,9 @@ use Rattle.crash.proofs.lane.Memory.{mix-log}
 use Rattle.crash.proofs.lane.View.{View, present, former, view}
 use Rattle.crash.proofs.lane.Shown.{Shown, Listed, shown-found, shown-there}
 use Rattle.crash.proofs.lane.Newest.{newestBy, newestOf, giving, closing-by, contribution-is}
-use Rattle.crash.proofs.lane.Written.{Falls, onto, falls-first, Written, Whole, foundAs}
-use Rattle.crash.proofs.lane.Written.{newestIn, newest-read, newest-whole, shown-nothing, shown-latest}
+use Rattle.crash.proofs.lane.Written.{Under, below, Falls, onto, falls-kind, Written, Whole, foundAs}
+use Rattle.crash.proofs.lane.Written as written
+use Rattle.crash.proofs.lane.Written.{newestIn, newest-whole, latest-unset, shown-nothing, shown-latest}
 use Rattle.crash.proofs.lane.Shape.{Shape}
 use Rattle.crash.proofs.lane.Log.{Track, LaneLog, floorSince}
 
@@ -45,6 +46,16 @@ pub data CutFound (N L : ℕ) (qs : List Complete) (priors gs : List Seq) (g : S
   logged : (s : ℕ) → s < g .stamp → contribution (latest qs) ≡ At s → In (foundAs N L (restamped s g)) qs → CutFound N L qs priors gs g
   unseen : gs ≡ g ∷ priors → CutFound N L qs priors gs g
 
+-- what lane L's log shows at a cut: the history h of the sequences gs, the present one or that of the last drain
+pub record CutShows (z : Sizes) (L : ℕ) (qs : List Complete) (t : Track) (h : List Past) (gs : List Seq) : Type 0 where
+  pub history : Hist z.words z.slots h gs
+  -- all that is found is of it
+  pub known : All (Listed z.slots gs) qs
+  -- each of its sequences is whole in it, or is of the present history and whole in it where it is whole there
+  pub whole : {g : Seq} → In g gs → (Whole z.slots h g) ⊎ ((In g (t .gs)) × (Whole z.slots (t .hist) g → Whole z.slots h g))
+  -- one that is whole in it is found, unless it is the newest
+  pub found : {f g : Seq} → In f gs → In g gs → f .end < g .end → Whole z.slots h f → In (foundAs z.slots L f) qs
+
 -- the newest sequence, g, at a cut, where it is no mark, and drained or committed: found with its timestamp or its logged one, which is what the lane gives
 pub record CutNewest (N L : ℕ) (qs : List Complete) (g : Seq) : Type 0 where
   pub stamp : ℕ
@@ -55,18 +66,24 @@ pub record CutNewest (N L : ℕ) (qs : List Complete) (g : Seq) : Type 0 where
 -- none of falling timestamps is above the first
 falls-top : {g : Seq} {gs : List Seq} (f : Seq) → Falls (g ∷ gs) → In f (g ∷ gs) → f .stamp ≤ g .stamp
 falls-top f (onto a h) here = le-refl (f .stamp)
-falls-top {g} f (onto a h) (there i) = let b : f .stamp < g .stamp = In-All a i in omega arith
+falls-top {g} f (onto a h) (there i) = go (In-All a i)
+  where
+    go : Under (length (g .entries)) (g .stamp) f → f .stamp ≤ g .stamp
+    go (below b) = omega arith
+    go (written.level e p q) = omega arith
 
 -- a found sequence as one of a history
 abbrev asSeq : Complete → ℕ → Seq
 asSeq q e = record { entries = q .entries; stamp = q .stamp; end = e }
 
--- the latest is that of the history's sequence that it reads as
-reads-as : (qs : List Complete) (r : Sequence) (q : Complete) (e : ℕ) (g : Seq) → latest qs ≡ Is r → sequenceOf q ≡ r → asSeq q e ≡ g
-    → newestOf (latest qs) ≡ newestBy (length (g .entries)) (g .stamp)
+-- the latest has the timestamp and kind of the sequence that it reads as
+reads-as : (qs : List Complete) (r : Sequence) (q : Complete) → latest qs ≡ Is r → sequenceOf q ≡ r
+    → newestOf (latest qs) ≡ newestBy (length (q .entries)) (q .stamp)
 unfolding newestOf sequenceOf
-reads-as qs r q e g l p s =
-    ap newestOf (l ∙ ap Is (sym p)) ∙ rw (ap (λ (x : Seq). x .entries) s, ap (λ (x : Seq). x .stamp) s)
+reads-as qs r q l p = ap newestOf (l ∙ ap Is (sym p))
+
+kind-of : {f g : Seq} → f ≡ g → newestBy (length (f .entries)) (f .stamp) ≡ newestBy (length (g .entries)) (g .stamp)
+kind-of e = ap (λ (x : Seq). newestBy (length (x .entries)) (x .stamp)) e
 
 -- of one sequence, that or nothing is found
 latest-one : (N : ℕ) (g : Seq) (qs : List Complete) → All (Listed N (g ∷ [])) qs
@@ -83,9 +100,9 @@ latest-one N g qs k = go (latest qs) refl
     go (Is r) e =
         let b = latest-greatest qs r e in
         let n = In-All k (b .found) in
-        inl (reads-as qs r (b .by) (n .end) g e (b .is) (fits (b .by) (n .end) (in-cases (n .among))))
+        inl (reads-as qs r (b .by) e (b .is) ∙ kind-of (fits (b .by) (n .end) (in-cases (n .among))))
 
--- where the second newest is found, that or the newest is the latest
+-- where the second newest is found, the latest has its timestamp and kind, or those of the newest
 latest-two : (N L : ℕ) (g f : Seq) (gs : List Seq) (qs : List Complete) → All (Listed N (g ∷ f ∷ gs)) qs → Falls (f ∷ gs) → In (foundAs N L f) qs
     → (newestOf (latest qs) ≡ newestBy (length (g .entries)) (g .stamp)) ⊎ (newestOf (latest qs) ≡ newestBy (length (f .entries)) (f .stamp))
 unfolding sequenceOf
@@ -93,8 +110,8 @@ latest-two N L g f gs qs k fl i = go (latest qs) refl
   where
     which : (r : Sequence) → latest qs ≡ Is r → (q : Complete) (e : ℕ) → sequenceOf q ≡ r → f .stamp ≤ q .stamp → (asSeq q e ≡ g) ⊎ In (asSeq q e) (f ∷ gs)
         → (newestOf (latest qs) ≡ newestBy (length (g .entries)) (g .stamp)) ⊎ (newestOf (latest qs) ≡ newestBy (length (f .entries)) (f .stamp))
-    which r l q e p h (inl s) = inl (reads-as qs r q e g l p s)
-    which r l q e p h (inr j) = inr (reads-as qs r q e f l p (falls-first (asSeq q e) fl j h))
+    which r l q e p h (inl s) = inl (reads-as qs r q l p ∙ kind-of s)
+    which r l q e p h (inr j) = inr (reads-as qs r q l p ∙ falls-kind (asSeq q e) fl j h)
 
     go : (l : Latest) → latest qs ≡ l
         → (newestOf (latest qs) ≡ newestBy (length (g .entries)) (g .stamp)) ⊎ (newestOf (latest qs) ≡ newestBy (length (f .entries)) (f .stamp))
@@ -112,12 +129,10 @@ module _ (z : Sizes) (r : InRange z) (log : List ℕ) (base L : ℕ) where
   -- ---- a history that is shown whole
   shown-newest : (h : List Past) {gs : List Seq} {u : ℕ} → Shown z log h gs u → Falls gs → All (λ g. base < g .stamp) gs → length h ≤ u
       → newestOf (latest qs) ≡ newestIn gs
-  unfolding latest newestOf newestIn
-  shown-newest h {gs = []} s f a l = ap (λ q. newestOf (latest q)) (shown-nothing z r log h base L s)
+  unfolding newestIn
+  shown-newest h {gs = []} s f a l = ap (λ q. newestOf (latest q)) (shown-nothing z r log h base L s) ∙ latest-unset
   shown-newest h {gs = g ∷ gs} s f a l =
-      let e = shown-latest z r log h base L s f (newest-whole z r (s .history))
-      (omega (arith, stands z.words z.slots (s .history) here .below)) (In-All a here) in
-      ap newestOf e ∙ newest-read z.slots (g ∷ gs)
+      shown-latest z r log h base L s f (newest-whole z r (s .history)) (omega (arith, stands z.words z.slots (s .history) here .below)) (In-All a here)
 
   -- where its newest is no mark, the lane gives its timestamp
   shown-gives : (h : List Past) {g : Seq} {gs : List Seq} {u : ℕ} → Shown z log h (g ∷ gs) u → Falls (g ∷ gs) → All (λ g. base < g .stamp) (g ∷ gs)
@@ -193,6 +208,23 @@ module _ (z : Sizes) (r : InRange z) (log : List ℕ) (base L : ℕ) where
     cut-found (sealed {h = h} f c up some) n b (before s) {g} (there i) w =
         itself (exact-there h s (b .above) (there i) (omega (arith, length-set h (f .end) (sta (length (f .entries)) c)))
         (stands z.words z.slots (b .history) (there i) .below))
+
+    -- a sequence that is not the newest was there at the last drain
+    cut-end : {prior hist : List Past} {priors gs : List Seq} → Since prior hist priors gs → Hist z.words z.slots hist gs → Hist z.words z.slots prior priors
+        → {f g : Seq} → In f gs → In g gs → f .end < g .end → f .end < length prior
+    cut-end level n b i j l = stands z.words z.slots n i .below
+    cut-end (grown {h = h} es t) n b here j l = absurd (omega (arith, stands z.words z.slots n j .below, length-new h es t))
+    cut-end (grown es t) n b (there i) j l = stands z.words z.slots b i .below
+    cut-end (sealed {h = h} f c up some) n b i j l =
+        omega (arith, stands z.words z.slots n i .below, length-set h (f .end) (sta (length (f .entries)) c))
+
+    -- what stood whole at the last drain
+    cut-whole : {prior hist : List Past} {priors gs : List Seq} → Since prior hist priors gs → Hist z.words z.slots prior priors
+        → {g : Seq} → In g priors → (Whole z.slots prior g) ⊎ ((In g gs) × (Whole z.slots hist g → Whole z.slots prior g))
+    cut-whole level b i = inr (i, λ w. w)
+    cut-whole (grown {h = h} es t) b i = inr (there i, λ w. omega (arith, length-new h es t))
+    cut-whole (sealed {h = h} f c up some) b here = inl (newest-whole z r b)
+    cut-whole (sealed {h = h} f c up some) b (there i) = inr (there i, λ w. omega (arith, length-set h (f .end) (sta (length (f .entries)) c)))
 
     cut-newest : {prior hist : List Past} {priors rest : List Seq} {g : Seq} → Since prior hist priors (g ∷ rest) → Written z base clock cached hist (g ∷ rest)
         → Written z base clock was prior priors → CutLog z log prior hist priors (g ∷ rest) → length priors ≡ suc (length rest) → 0 < length (g .entries)
@@ -291,18 +323,39 @@ module _ (z : Sizes) (L : ℕ) (m : Machine) (t : Track) (s : Shape z m) (l : La
       go (present v) = now (record { history = l .now .history; shows = v })
       go (former v) = before (record { history = l .before .history; shows = v })
 
-  -- all that is found is of the present history or of the former
-  pub lane-cut-known : All (λ q. Listed z.slots (t .gs) q ⊎ Listed z.slots (t .priors) q) (completeIn z (m .nvm) L)
+  -- all that is found is of the present history, or all of it is of the former
+  pub lane-cut-shows : (CutShows z L (completeIn z (m .nvm) L) t (t .hist) (t .gs)) ⊎ (CutShows z L (completeIn z (m .nvm) L) t (t .prior) (t .priors))
   unfolding completeIn
-  lane-cut-known = go lane-cut
+  lane-cut-shows = go lane-cut
     where
+      qs : List Complete
+      qs = completeBelow z.words z.slots (baseOf (m .nvm)) (logOf z L (m .nvm)) L z.slots
+
       go : CutLog z (logOf z L (m .nvm)) (t .prior) (t .hist) (t .priors) (t .gs)
-          → All (λ q. Listed z.slots (t .gs) q ⊎ Listed z.slots (t .priors) q) (completeBelow z.words z.slots (baseOf (m .nvm)) (logOf z L (m .nvm)) L z.slots)
-      go (now v) = All-map (λ q k. inl k) (shown-found z (s .sizes .words-high) (s .sizes .slots-low) v (baseOf (m .nvm)) L)
-      go (before v) = All-map (λ q k. inr k) (shown-found z (s .sizes .words-high) (s .sizes .slots-low) v (baseOf (m .nvm)) L)
+          → (CutShows z L qs t (t .hist) (t .gs)) ⊎ (CutShows z L qs t (t .prior) (t .priors))
+      go (now v) =
+          inl (record {
+            history = l .now .history;
+            known = shown-found z (r .words-high) (r .slots-low) v (baseOf (m .nvm)) L;
+            whole = λ i. inr (i, λ w. w);
+            found = λ {f} i j e w.
+                shown-there z (r .words-high) (r .slots-low) v (baseOf (m .nvm)) L f i w
+                (cut-end z r (logOf z L (m .nvm)) (baseOf (m .nvm)) L (m .state .clock) (logOf z L (m .cache)) (t .was)
+                (l .since) (l .now .history) (l .before .history) i j e)
+                (In-All (nvm-now .above) i);
+          })
+      go (before v) =
+          inr (record {
+            history = l .before .history;
+            known = shown-found z (r .words-high) (r .slots-low) v (baseOf (m .nvm)) L;
+            whole = cut-whole z r (logOf z L (m .nvm)) (baseOf (m .nvm)) L (m .state .clock) (logOf z L (m .cache)) (t .was) (l .since) (l .before .history);
+            found = λ {f} i j e w.
+                shown-there z (r .words-high) (r .slots-low) v (baseOf (m .nvm)) L f i w (stands z.words z.slots (l .before .history) i .below)
+                (In-All (nvm-before .above) i);
+          })
 
   -- its latest sequence
-  lane-cut-latest : (newestOf (latestIn z (m .nvm) L) ≡ newestIn (t .gs)) ⊎ (newestOf (latestIn z (m .nvm) L) ≡ newestIn (t .priors))
+  pub lane-cut-latest : (newestOf (latestIn z (m .nvm) L) ≡ newestIn (t .gs)) ⊎ (newestOf (latestIn z (m .nvm) L) ≡ newestIn (t .priors))
   unfolding latestIn completeIn
   lane-cut-latest =
       cut-latest z r (logOf z L (m .nvm)) (baseOf (m .nvm)) L (m .state .clock) (logOf z L (m .cache)) (t .was) (l .since) nvm-now nvm-before lane-cut

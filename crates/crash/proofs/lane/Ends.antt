@@ -176,7 +176,7 @@ form-buffers z cache image flags ok size (inr e) c f =
 
 -- ---- of a machine
 pub tail-nvm : (z : Sizes) (m : Machine) → Tailed z m → (nvm : List ℕ) → endOf z nvm ≡ endOf z (m .nvm)
-    → Tailed z (record { state = m .state; cache = m .cache; nvm = nvm; flags = m .flags })
+    → Tailed z (record { state = m .state; pairs = m .pairs; cache = m .cache; nvm = nvm; flags = m .flags })
 tail-nvm z m t nvm e = record { form = rw e (t .form); cache = rw e (t .cache); flags = rw e (t .flags) }
 
 pub tail-changed : (z : Sizes) (m : Machine) → Tailed z m → (L : ℕ) {xs : List Store} (r : Record) → All (λ x. x .at < formerLength z) xs

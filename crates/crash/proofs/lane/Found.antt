@@ -46,6 +46,7 @@ pub record Genuine (N : ℕ) (con : ℕ → Past) (n : ℕ) (q : Complete) : Typ
   pub count : ℕ
   pub below : end < n
   pub slot : end % N ≡ q .slot
+  pub wrap : wrapOf N end ≡ q .wrap
   pub stamp : con end ≡ sta count (q .stamp)
   pub entries : q .entries ≡ entriesBefore N con end count
 
@@ -116,13 +117,14 @@ module _ (W N : ℕ) (hw : W ≤ maxWords) (large : minSlots ≤ N) (con : ℕ �
           rw (← u, ← v) (genuine W N hw pos con n fits log holds b (past b g) lt k (omega arith) (omega arith) l′)
 
       one : Closing j k s p → length (entriesBack W N log j p k) ≡ k
-          → Genuine N con n (record { stamp = s; lane = L; slot = j; entries = entriesBack W N log j p k })
+          → Genuine N con n (record { stamp = s; lane = L; slot = j; wrap = p; entries = entriesBack W N log j p k })
       one c l =
           record {
             end = c .number;
             count = k;
             below = c .below;
             slot = c .slot;
+            wrap = c .wrap;
             stamp = c .content;
             entries = from (c .number) (c .slot) (c .wrap) (c .below) (c .room) (c .content) l;
           }

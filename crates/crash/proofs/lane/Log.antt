@@ -6,7 +6,7 @@ use Prim.Native.Nat.{ℕ, _+_, _-_, _*_, _%_, _≤_, _<_}
 use native.Mathlib.Omega.{arith}
 use native.Mathlib.Nat.{le-trans, mod-lt}
 use lib.ListN.{length, getD, set, length-set}
-use Rattle.laws.specs.inner.Lists.{All, none, more, All-map}
+use Rattle.laws.specs.inner.Lists.{All, more, All-map}
 use Rattle.txn.specs.Txn.{maxWrites}
 use Rattle.txn.specs.declared.Write.{Write}
 use Rattle.image.specs.Image.{formerLength, baseOf, logStart, logOf}
@@ -19,17 +19,18 @@ use Rattle.log.specs.Append.{advance, appendStores, circular, restampStore}
 use Rattle.log.specs.declared.Timestamp.{Timestamp}
 use Rattle.log.specs.declared.Timestamp.the-variants.{At}
 use Rattle.log.specs.declared.Cursor.{Cursor}
-use Rattle.record.specs.Record.{laneAt, cursorOf, loggedIn, drainedLane, appendedLane, idleLane, pairsOf, withLane, withClock, withLast}
+use Rattle.record.specs.Record.{laneAt, cursorOf, loggedIn, drainedLane, appendedLane, idleLane, withLane, withClock, withLast}
 use Rattle.record.specs.declared.Pair.{Pair}
 use Rattle.record.specs.declared.Logged.{Logged}
 use Rattle.record.specs.declared.Phase.{Phase}
 use Rattle.record.specs.declared.Phase.the-variants.{Idle, Holds}
+use Rattle.record.specs.declared.Record.{Record}
 use Rattle.store.specs.Machine.{Machine}
-use Rattle.store.specs.Calls.{drained, changed, appended, logged, pairStores, commitStores, committed, released}
+use Rattle.store.specs.Calls.{drained, changed, pairStores, commitStores, committed, released}
 use Rattle.crash.specs.History.{floorOr, floorOnDrain}
 use Rattle.laws.specs.inner.Members.{here}
 use Rattle.crash.proofs.recovery.Data.{oldsOf, length-olds}
-use Rattle.crash.proofs.history.Lanes.{LaneTo, lane-drained, lane-appended, lane-committed, lane-released, appended-floor}
+use Rattle.crash.proofs.history.Lanes.{LaneTo, lane-drained, lane-committed, lane-released, appended-floor}
 use Rattle.crash.proofs.lane.Absolute.{cursorAt, advance-cursor, circular-abs}
 use Rattle.crash.proofs.lane.Ghost.{Past, sta}
 use Rattle.crash.proofs.lane.Seqs.{Seq, Since, level, grown, sealed, next, restamped, pastOf, length-new, stands}
@@ -37,8 +38,8 @@ use Rattle.crash.proofs.lane.Newest.{newestOf, giving, floor-by, draine
 use Rattle.crash.proofs.lane.Memory.{Mem, drained-own, mem-drained-own, mem-stored-own}
 use Rattle.crash.proofs.lane.Regions.{stored-base, stored-log, inside-late, data-apart}
 use Rattle.crash.proofs.lane.Append.{append-inside}
-use Rattle.crash.proofs.lane.Written.{Written, written-later, below-new, written-append}
-use Rattle.crash.proofs.lane.Written.{written-commit, written-latest, newestIn, newestAs, newest-read}
+use Rattle.crash.proofs.lane.Written.{Written, written-later, below-new, Stamping, written-append}
+use Rattle.crash.proofs.lane.Written.{written-commit, written-latest, newestIn}
 use Rattle.crash.proofs.lane.Shape.{Shape, shape-drained, pairs-data, commit-past}
 
 -- the ghosts of a lane: its history with its sequences; those of its last drain, and its cached log at that time
@@ -122,13 +123,10 @@ floor-drained (sealed g c up some) = floor-by (length (g .entries)) c _
 
 -- ---- what is read of the cached log
 module _ (z : Sizes) (L : ℕ) (m : Machine) (t : Track) (s : Shape z m) (l : LaneLog z L m t) where
-  -- the lane's latest sequence is its newest
-  pub lane-latest-is : latestIn z (m .cache) L ≡ newestAs z.slots (t .gs)
-  unfolding latestIn completeIn
-  lane-latest-is = written-latest z (s .sizes) (baseOf (m .cache)) (m .state .clock) (logOf z L (m .cache)) L (l .now)
-
+  -- the lane's latest sequence has the timestamp and kind of its newest
   pub lane-latest : newestOf (latestIn z (m .cache) L) ≡ newestIn (t .gs)
-  lane-latest = ap newestOf lane-latest-is ∙ newest-read z.slots (t .gs)
+  unfolding latestIn completeIn
+  lane-latest = written-latest z (s .sizes) (baseOf (m .cache)) (m .state .clock) (logOf z L (m .cache)) L (l .now)
 
   pub next-slot : laneAt (m .state) L .next ≡ length (t .hist) % z.slots
   unfolding cursorOf cursorAt
@@ -187,40 +185,40 @@ module _ (z : Sizes) (L : ℕ) (lane : L < z.lanes) (m : Machine) (t : Track) (s
   inside : L < length (m .state .lanes)
   inside = le-trans lane (s .lanes)
 
-  -- one sequence more
-  module _ (ws : List Write) (few : length ws ≤ maxWrites) (low : All (λ w. w .word < z.words) ws) (phase : Phase) (redo : List Pair) where
+  -- one sequence more, stamped s, with the record r after it
+  module _ (ws : List Write) (few : length ws ≤ maxWrites) (low : All (λ w. w .word < z.words) ws) (phase : Phase) (redo : List Pair)
+      (c : ℕ) (r : Record) (stamp : Stamping (baseOf (m .cache)) (m .state .clock) (t .gs) (length (oldsOf ws)) c (r .clock))
+      (a : LaneTo (m .state) r L (appendedLane c (advance z.slots (length ws + 1) (cursorOf (laneAt (m .state) L))) phase redo (laneAt (m .state) L))) where
     abbrev xs : List Store
-    xs = appendStores (logStart z L) z.slots (m .state .clock + 2) (cursorOf (laneAt (m .state) L)) ws
+    xs = appendStores (logStart z L) z.slots c (cursorOf (laneAt (m .state) L)) ws
 
     appended-base : baseOf (stored xs (m .cache)) ≡ baseOf (m .cache)
     unfolding cursorOf
     appended-base =
         stored-base (m .cache)
         (All-map (λ x i. le-trans (let e : 1 ≤ 1 + z.words = omega arith in e) (inside-late z L (x .at) i))
-        (append-inside z L lane (omega (arith, s .sizes .slots-low)) (m .state .clock + 2)
+        (append-inside z L lane (omega (arith, s .sizes .slots-low)) c
         (cursorOf (laneAt (m .state) L)) ws (next-low z L m (levelled z L m t) s l)))
 
-    append-cursor : advance z.slots (length ws + 1) (cursorOf (laneAt (m .state) L))
-        ≡ cursorAt z.slots (length (t .hist ++ pastOf (oldsOf ws) (m .state .clock + 2)))
+    append-cursor : advance z.slots (length ws + 1) (cursorOf (laneAt (m .state) L)) ≡ cursorAt z.slots (length (t .hist ++ pastOf (oldsOf ws) c))
     append-cursor =
         ap (advance z.slots (length ws + 1)) (l .cursor) ∙ advance-cursor z.slots (omega (arith, s .sizes .slots-low)) (length ws + 1) (length (t .hist))
         ∙ ap (cursorAt z.slots)
-        (let e : length (t .hist) + (length ws + 1) ≡ length (t .hist ++ pastOf (oldsOf ws) (m .state .clock + 2)) =
-        omega (arith, length-new (t .hist) (oldsOf ws) (m .state .clock + 2), length-olds ws) in e)
+        (let e : length (t .hist) + (length ws + 1) ≡ length (t .hist ++ pastOf (oldsOf ws) c) =
+        omega (arith, length-new (t .hist) (oldsOf ws) c, length-olds ws) in e)
 
-    append-level : PhaseOf z.slots phase (next (t .hist) (oldsOf ws) (m .state .clock + 2) ∷ t .gs)
-        → LaneLog z L (appended z L ws phase redo m) (extended z L m ws (m .state .clock + 2) t)
-    unfolding appended changed withLane withClock appendedLane cursorOf floorSince
+    append-level : PhaseOf z.slots phase (next (t .hist) (oldsOf ws) c ∷ t .gs) → LaneLog z L (changed L xs r m) (extended z L m ws c t)
+    unfolding changed appendedLane cursorOf floorSince
     append-level held =
-        let a = lane-appended z L m inside ws phase redo in
         record {
           now = rw (appended-base, l .cursor)
-              (written-append z (s .sizes) L lane (baseOf (m .cache)) (m .state .clock) (s .low) (s .clock) (m .cache) (s .in-cache) ws few low (l .now));
-          before = rw appended-base (written-later z (baseOf (m .cache)) (m .state .clock) (m .state .clock + 2) (omega arith) (l .now));
-          since = grown (oldsOf ws) (m .state .clock + 2);
+              (written-append z (s .sizes) L lane (baseOf (m .cache)) (m .state .clock) (s .low) (s .clock) (m .cache) (s .in-cache) ws few low
+              c (r .clock) stamp (l .now));
+          before = rw appended-base (written-later z (baseOf (m .cache)) (m .state .clock) (r .clock) (stamp .later) (l .now));
+          since = grown (oldsOf ws) c;
           mem = mem-stored-own z L lane (logOf z L (m .cache)) (m .cache) (m .flags) (m .nvm) (s .in-cache) (s .in-flags) (s .in-nvm) xs same;
           cursor = rw (a .here) append-cursor;
-          floor = rw (a .here) (appended-floor (m .state .clock + 2) (laneAt (m .state) L .floor) ∙ ap (λ f. floorOr f (At (m .state .clock + 2))) floor);
+          floor = rw (a .here) (appended-floor c (laneAt (m .state) L .floor) ∙ ap (λ f. floorOr f (At c)) floor);
           holding = rw (a .here) held;
         }
 
@@ -294,31 +292,24 @@ module _ (z : Sizes) (L : ℕ) (lane : L < z.lanes) (m : Machine) (t : Track) (s
 
 -- ---- the calls of the lane itself: each drains first
 module _ (z : Sizes) (L : ℕ) (lane : L < z.lanes) (m : Machine) (t : Track) (s : Shape z m) (l : LaneLog z L m t) where
-  pub lane-appends : (ws : List Write) → length ws ≤ maxWrites → All (λ w. w .word < z.words) ws → (phase : Phase) (redo : List Pair)
-      → PhaseOf z.slots phase (next (t .hist) (oldsOf ws) (m .state .clock + 2) ∷ t .gs)
-      → LaneLog z L (appended z L ws phase redo (drained z L m)) (extended z L m ws (m .state .clock + 2) t)
+  -- a sequence stamped c, with the record r after it
+  pub lane-extends : (ws : List Write) → length ws ≤ maxWrites → All (λ w. w .word < z.words) ws → (phase : Phase) (redo : List Pair) (c : ℕ) (r : Record)
+      → Stamping (baseOf (m .cache)) (m .state .clock) (t .gs) (length (oldsOf ws)) c (r .clock)
+      → LaneTo (drained z L m .state) r L
+      (appendedLane c (advance z.slots (length ws + 1) (cursorOf (laneAt (drained z L m .state) L))) phase redo (laneAt (drained z L m .state) L))
+      → PhaseOf z.slots phase (next (t .hist) (oldsOf ws) c ∷ t .gs)
+      → LaneLog z L (changed L (appendStores (logStart z L) z.slots c (cursorOf (laneAt (drained z L m .state) L)) ws) r (drained z L m))
+      (extended z L m ws c t)
   unfolding drained withLane
-  lane-appends ws few low phase redo held =
+  lane-extends ws few low phase redo c r stamp a held =
       append-level z L lane (drained z L m) t (shape-drained z m s L lane)
-      (lane-drains z L m t s l lane) (drains-floor z L m t s l lane) (lane-same z L m t s l lane) ws few low phase redo held
+      (lane-drains z L m t s l lane) (drains-floor z L m t s l lane) (lane-same z L m t s l lane) ws few low phase redo c r stamp a held
 
-  -- Log
-  pub lane-logs : (ws : List Write) → 0 < length ws → length ws ≤ maxWrites → All (λ w. w .word < z.words) ws
-      → LaneLog z L (logged z L ws (drained z L m)) (extended z L m ws (m .state .clock + 2) t)
-  unfolding logged drained withLane
-  lane-logs ws one few low = lane-appends ws few low _ (pairsOf maxWrites ws) (holds first (sym (length-olds ws)) refl (omega (arith, length-olds ws)))
-    where
-      n : ℕ
-      n = length (oldsOf ws)
-
-      first : laneAt (drained z L m .state) L .next ≡ (length (t .hist) + n - n) % z.slots
-      first =
-          next-slot z L (drained z L m) (levelled z L m t) (shape-drained z m s L lane) (lane-drains z L m t s l lane)
-          ∙ ap (_% z.slots) (let e : length (t .hist) ≡ length (t .hist) + n - n = omega arith in e)
-
-  -- Mark
-  pub lane-marks : (redo : List Pair) → LaneLog z L (appended z L [] Idle redo (drained z L m)) (extended z L m [] (m .state .clock + 2) t)
-  lane-marks redo = lane-appends [] (omega arith) none Idle redo idle
+  -- where a sequence of n entries that is appended now will start
+  pub first-slot : (n : ℕ) → laneAt (drained z L m .state) L .next ≡ (length (t .hist) + n - n) % z.slots
+  first-slot n =
+      next-slot z L (drained z L m) (levelled z L m t) (shape-drained z m s L lane) (lane-drains z L m t s l lane)
+      ∙ ap (_% z.slots) (let e : length (t .hist) ≡ length (t .hist) + n - n = omega arith in e)
 
   -- Redo and Validate that commit
   pub lane-commits : (ps : List Pair) → All (λ p. p .word < z.words) ps → (x : Logged) → laneAt (m .state) L .phase ≡ Holds x

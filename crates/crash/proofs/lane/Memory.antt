@@ -92,7 +92,7 @@ module _ (z : Sizes) (L : ℕ) (lane : L < z.lanes) (was cache flags nvm : List 
   pub mem-drained-own : Mem z L was cache flags nvm → Mem z L (logOf z L cache) cache (drainedFlags L flags) (drainedNvm L flags cache nvm)
   mem-drained-own m = mem-same z L cache (drainedFlags L flags) (drainedNvm L flags cache nvm) (drained-own m)
 
-  -- another lane's stores, none of them in this log
+  -- stores that a lane flushes, none of them in this log
   pub mem-stored-other : (M : ℕ) (xs : List Store) → All (λ x. Apart z L (x .at)) xs → Mem z L was cache flags nvm
       → Mem z L was (stored xs cache) (flushAll M (places xs) flags) nvm
   mem-stored-other M xs off m = record { mix = λ j h. rw (same j h) (m .mix j h); cover = λ j h. rw (same j h) (keep j h (m .cover j h)) }

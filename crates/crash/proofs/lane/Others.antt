@@ -1,4 +1,4 @@
--- One lane's log through the calls of the other lanes and write-backs: its ghosts stay. Then all lanes together through each call. Assumes nothing.
+-- One lane's log through the calls of the other lanes, stores to data words and write-backs: its ghosts stay. Assumes nothing.
 use mathlib.Core.Path.{_≡_}
 use mathlib.Core.Logic.{_≢_}
 use mathlib.Core.List.{List}
@@ -17,13 +17,12 @@ use Rattle.log.specs.inner.SearchLaws.{circular-low}
 use Rattle.record.specs.Record.{laneAt, cursorOf, loggedIn, withLane, withClock, withLast}
 use Rattle.record.specs.declared.Pair.{Pair}
 use Rattle.record.specs.declared.Logged.{Logged}
-use Rattle.record.specs.declared.Phase.{Phase}
 use Rattle.record.specs.declared.Phase.the-variants.{Holds}
 use Rattle.record.specs.declared.Record.{Record}
 use Rattle.store.specs.Machine.{Machine}
-use Rattle.store.specs.Calls.{drained, changed, appended, commitStores, committed, released}
+use Rattle.store.specs.Calls.{drained, changed, commitStores, committed, released}
 use Rattle.laws.specs.inner.Members.{here}
-use Rattle.crash.proofs.history.Lanes.{lane-drained, lane-appended, lane-committed, lane-released}
+use Rattle.crash.proofs.history.Lanes.{lane-drained, lane-committed, lane-released}
 use Rattle.crash.proofs.lane.Seqs.{Seq, stands}
 use Rattle.crash.proofs.lane.Memory.{mem-writtenBack, mem-drained-other, mem-stored-other}
 use Rattle.crash.proofs.lane.Regions.{Inside, Apart, inside-apart, inside-late, data-apart, stored-base, stored-log}
@@ -73,6 +72,23 @@ module _ (z : Sizes) (L : ℕ) (lane : L < z.lanes) (m : Machine) (t : Track) (s
         holding = l .holding;
       }
 
+  -- stores of any lane that are apart from this log and past the base; the clock may go on
+  pub lane-changed : (M : ℕ) (xs : List Store) (r : Record) → All (λ x. Apart z L (x .at)) xs → All (λ x. 1 ≤ x .at) xs
+      → laneAt r L ≡ laneAt (m .state) L → m .state .clock ≤ r .clock → LaneLog z L (changed M xs r m) t
+  unfolding changed
+  lane-changed M xs r off past a up =
+      let b = stored-base (m .cache) past in
+      let k = stored-log z L (m .cache) off in
+      record {
+        now = rw (b, k) (written-later z (baseOf (m .cache)) (m .state .clock) (r .clock) up (l .now));
+        before = rw b (written-later z (baseOf (m .cache)) (m .state .clock) (r .clock) up (l .before));
+        since = l .since;
+        mem = mem-stored-other z L lane (t .was) (m .cache) (m .flags) (m .nvm) (s .in-cache) (s .in-flags) (s .in-nvm) M xs off (l .mem);
+        cursor = rw a (l .cursor);
+        floor = rw a (l .floor);
+        holding = rw a (l .holding);
+      }
+
   module _ (M : ℕ) (other : M < z.lanes) (apart : L ≢ M) where
     there : M < length (m .state .lanes)
     there = le-trans other (s .lanes)
@@ -91,38 +107,22 @@ module _ (z : Sizes) (L : ℕ) (lane : L < z.lanes) (m : Machine) (t : Track) (s
           holding = rw a (l .holding);
         }
 
-    -- stores apart from this log, past the base; the clock may go on
-    pub lane-changed-other : (xs : List Store) (r : Record) → All (λ x. Apart z L (x .at)) xs → All (λ x. 1 ≤ x .at) xs
-        → laneAt r L ≡ laneAt (m .state) L → m .state .clock ≤ r .clock → LaneLog z L (changed M xs r m) t
-    unfolding changed
-    lane-changed-other xs r off past a up =
-        let b = stored-base (m .cache) past in
-        let k = stored-log z L (m .cache) off in
-        record {
-          now = rw (b, k) (written-later z (baseOf (m .cache)) (m .state .clock) (r .clock) up (l .now));
-          before = rw b (written-later z (baseOf (m .cache)) (m .state .clock) (r .clock) up (l .before));
-          since = l .since;
-          mem = mem-stored-other z L lane (t .was) (m .cache) (m .flags) (m .nvm) (s .in-cache) (s .in-flags) (s .in-nvm) M xs off (l .mem);
-          cursor = rw a (l .cursor);
-          floor = rw a (l .floor);
-          holding = rw a (l .holding);
-        }
-
-    pub lane-appends-other : (ws : List Write) (phase : Phase) (redo : List Pair) → laneAt (m .state) M .next < z.slots
-        → LaneLog z L (appended z M ws phase redo m) t
-    unfolding appended changed withLane withClock cursorOf
-    lane-appends-other ws phase redo next =
-        let i = append-inside z M other (omega (arith, s .sizes .slots-low)) (m .state .clock + 2) (cursorOf (laneAt (m .state) M)) ws next in
-        lane-changed-other (appendStores (logStart z M) z.slots (m .state .clock + 2) (cursorOf (laneAt (m .state) M)) ws) _
+    -- a sequence stamped c, with the record r after it
+    pub lane-extends-other : (ws : List Write) (c : ℕ) (r : Record) → laneAt (m .state) M .next < z.slots
+        → laneAt r L ≡ laneAt (m .state) L → m .state .clock ≤ r .clock
+        → LaneLog z L (changed M (appendStores (logStart z M) z.slots c (cursorOf (laneAt (m .state) M)) ws) r m) t
+    unfolding cursorOf
+    lane-extends-other ws c r next a up =
+        let i = append-inside z M other (omega (arith, s .sizes .slots-low)) c (cursorOf (laneAt (m .state) M)) ws next in
+        lane-changed M (appendStores (logStart z M) z.slots c (cursorOf (laneAt (m .state) M)) ws) r
         (All-map (λ x h. inside-apart z L M (x .at) apart h) i)
-        (All-map (λ x h. le-trans (let e : 1 ≤ 1 + z.words = omega arith in e) (inside-late z M (x .at) h)) i)
-        (lane-appended z M m there ws phase redo .others L apart) (omega arith)
+        (All-map (λ x h. le-trans (let e : 1 ≤ 1 + z.words = omega arith in e) (inside-late z M (x .at) h)) i) a up
 
     pub lane-commits-other : (ps : List Pair) → All (λ p. p .word < z.words) ps → (x : Logged) → laneAt (m .state) M .phase ≡ Holds x
         → circular z.slots (x .first + x .count) < z.slots → LaneLog z L (committed z M ps m) t
     unfolding committed changed withLane withClock withLast
     lane-commits-other ps low x e h =
-        lane-changed-other (commitStores z M ps m) _ (commit-apart z M m s L apart ps low x e h) (commit-past z m s M other ps low)
+        lane-changed M (commitStores z M ps m) _ (commit-apart z M m s L apart ps low x e h) (commit-past z m s M other ps low)
         (lane-committed z M m there ps .others L apart) (omega arith)
 
     pub lane-releases-other : LaneLog z L (released M m) t

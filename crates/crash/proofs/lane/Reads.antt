@@ -27,7 +27,7 @@ use Rattle.crash.proofs.lane.Absolute.{wrapOf, circular-abs}
 use Rattle.crash.proofs.lane.Ghost.{Past, ent, contentOf, addressAt, valueAt, exact-reads}
 use Rattle.crash.proofs.lane.Window.{Window, at}
 use Rattle.crash.proofs.lane.Seqs.{Seq, Hist, add, pastOf, noOld, at-entry, length-new, hist-fits, stands, newest-end}
-use Rattle.crash.proofs.lane.Written.{Written, Whole, written-room}
+use Rattle.crash.proofs.lane.Written.{Written, Whole, RoomFor, written-room}
 use Rattle.crash.proofs.lane.Shape.{Shape}
 use Rattle.crash.proofs.lane.Log.{Track, PhaseOf, holds, LaneLog, next-slot}
 
@@ -99,10 +99,9 @@ module _ (z : Sizes) (L : ℕ) (m : Machine) (t : Track) (s : Shape z m) (l : La
       )))
 
   -- ---- refusal 9
-  -- a whole sequence at or above the lower bound stays whole
+  -- a whole sequence at or above the lower bound has room for n slots more, and stays whole while writes and their timestamp take them
   pub lane-room : (n b : ℕ) → wouldHit z L n m ≡ false → boundOf z (drained z L m .state) ≡ At b
-      → {g : Seq} → In g (t .gs) → Whole z.slots (t .hist) g → b ≤ g .stamp
-      → length (t .hist) + n + length (g .entries) ≤ g .end + z.slots
+      → {g : Seq} → In g (t .gs) → Whole z.slots (t .hist) g → b ≤ g .stamp → RoomFor z.slots n (t .hist) g
   unfolding wouldHit hits completeIn
   lane-room n b e f i w k =
       written-room z (s .sizes) (baseOf (m .cache)) (m .state .clock) (logOf z L (m .cache)) L (l .now) n b (rw (f, next-slot z L m t s l) at e) i w k

@@ -68,7 +68,7 @@ module _ (W N : ℕ) (pos : 0 < N) (con : ℕ → Past) (log : List ℕ) (b : �
   module _ (base L k s : ℕ) (small : k ≤ N) (reads : (c : ℕ) → b ≤ c + k → c ≤ b → slotAt W log (c % N) ≡ contentOf (wrapOf N c) (con c))
       (ends : con b ≡ sta k s) (whole : length (entriesBefore N con b k) ≡ k) (new : base < s) where
     abbrev mine : Complete
-    mine = record { stamp = s; lane = L; slot = b % N; entries = entriesBefore N con b k }
+    mine = record { stamp = s; lane = L; slot = b % N; wrap = wrapOf N b; entries = entriesBefore N con b k }
 
     closes-mine : In mine (closes W N base log L (b % N) (slotAt W log (b % N)))
     unfolding closes contentOf

@@ -3,7 +3,7 @@
 use mathlib.Core.Path.{_≡_, refl, sym, subst}
 use mathlib.Core.Logic.{_≢_}
 use mathlib.Core.Bool.{cond}
-use mathlib.Core.List.{List, []}
+use mathlib.Core.List.{List, [], _∷_}
 use Prim.Native.Nat.{ℕ, _+_, _*_, _%_, _≤_, _<_}
 use native.Mathlib.Omega.{arith}
 use native.Mathlib.Nat.{le-trans, le-refl, mod-self, div-self}
@@ -11,36 +11,66 @@ use native.Mathlib.Decide.{ℕ-discrete}
 use lib.Dec.{eqb}
 use lib.ListN.{length, replicate, length-replicate, getD-replicate}
 use borrow.Author.Tests.{eq-eqb, ne-eqb}
-use Rattle.laws.specs.inner.Lists.{All}
+use Rattle.laws.specs.inner.Lists.{All, none, All-map}
 use Rattle.txn.specs.Txn.{maxWrites}
 use Rattle.txn.specs.declared.Write.{Write}
-use Rattle.image.specs.Image.{maxLanes, formerLength, baseOf, logOf}
+use Rattle.image.specs.Image.{maxLanes, formerLength, baseOf, logStart, logOf}
 use Rattle.image.specs.inner.ImageLaws.{InRange}
 use Rattle.image.specs.Flush.{writtenBack}
+use Rattle.image.specs.Stores.{Store}
 use Rattle.image.specs.declared.Sizes.{Sizes}
-use Rattle.record.specs.Record.{startLane, startRecord, laneAt, cursorOf, drainedLane}
+use Rattle.log.specs.Append.{advance, appendStores}
+use Rattle.record.specs.Record.{startLane, startRecord, laneAt, cursorOf, drainedLane, appendedLane, pairsOf, withLane, withClock}
 use Rattle.record.specs.declared.Pair.{Pair}
 use Rattle.record.specs.declared.Logged.{Logged}
+use Rattle.record.specs.declared.Phase.{Phase}
 use Rattle.record.specs.declared.Phase.the-variants.{Idle, Holds}
+use Rattle.record.specs.declared.Record.{Record}
 use Rattle.store.specs.Machine.{Machine}
-use Rattle.store.specs.Calls.{started, drained, appended, logged, committed, released}
+use Rattle.store.specs.Calls.{started, drained, changed, appended, logged, committed, released}
 use Rattle.crash.specs.Theorem.{endOf}
+use Rattle.crash.proofs.recovery.Data.{oldsOf, length-olds}
 use Rattle.crash.proofs.lane.Ends.{Form, end-zeros}
-use Rattle.crash.proofs.history.Lanes.{lane-drained, lane-start}
+use Rattle.crash.proofs.history.Lanes.{LaneTo, lane-drained, lane-appended, lane-start}
 use Rattle.crash.proofs.lane.Absolute.{wrapOf, cursorAt}
 use Rattle.crash.proofs.lane.Ghost.{blank}
-use Rattle.crash.proofs.lane.Seqs.{level}
+use Rattle.crash.proofs.lane.Seqs.{next, level}
 use Rattle.crash.proofs.lane.Memory.{mem-same}
+use Rattle.crash.proofs.lane.Regions.{data-apart}
 use Rattle.crash.proofs.lane.Newest.{giving}
-use Rattle.crash.proofs.lane.Written.{newestIn, written-start}
-use Rattle.crash.proofs.lane.Shape.{Shape, withNvm, shape-drained, shape-appended, shape-committed, shape-released, shape-writtenBack}
-use Rattle.crash.proofs.lane.Log.{Track, idle, floorSince}
-use Rattle.crash.proofs.lane.Log.{LaneLog, levelled, extended, restampedBy, next-low, lane-drains, lane-logs, lane-marks, lane-commits, lane-releases}
-use Rattle.crash.proofs.lane.Others.{commit-low, lane-writtenBack, lane-drains-other, lane-appends-other, lane-commits-other, lane-releases-other}
+use Rattle.crash.proofs.lane.Written.{Stamping, stamping-next, newestIn, written-start}
+use Rattle.crash.proofs.lane.Shape.{Shape, withNvm, shape-drained, shape-changed, shape-extends, shape-committed, shape-released, shape-writtenBack}
+use Rattle.crash.proofs.lane.Log.{Track, PhaseOf, idle, holds, floorSince}
+use Rattle.crash.proofs.lane.Log.{LaneLog, levelled, extended, restampedBy, next-low, lane-drains, lane-extends, first-slot, lane-commits, lane-releases}
+use Rattle.crash.proofs.lane.Others.{commit-low, lane-writtenBack, lane-changed}
+use Rattle.crash.proofs.lane.Others.{lane-drains-other, lane-extends-other, lane-commits-other, lane-releases-other}
 
 pub record Running (z : Sizes) (m : Machine) (ts : ℕ → Track) : Type 0 where
   pub shape : Shape z m
   pub lanes : (L : ℕ) → L < z.lanes → LaneLog z L m (ts L)
+
+-- the pairs beside the record matter to none of it
+pub running-pairs : (z : Sizes) (m : Machine) (ts : ℕ → Track) → Running z m ts → (ps : List ℕ)
+    → Running z (record { state = m .state; pairs = ps; cache = m .cache; nvm = m .nvm; flags = m .flags }) ts
+running-pairs z m ts v ps =
+    let s = v .shape in
+    record {
+      shape = record {
+        sizes = s .sizes;
+        in-cache = s .in-cache;
+        in-nvm = s .in-nvm;
+        in-flags = s .in-flags;
+        tail = record { form = s .tail .form; cache = s .tail .cache; flags = s .tail .flags };
+        lanes = s .lanes;
+        clock = s .clock;
+        even = s .even;
+        low = s .low;
+        base = s .base;
+      };
+      lanes = λ L h.
+          let l = v .lanes L h in
+          record { now = l .now; before = l .before; since = l .since; mem = l .mem; cursor = l .cursor; floor = l .floor; holding = l .holding };
+    }
 
 -- the ghosts with those of lane M changed
 unfoldable pub updated : ℕ → Track → (ℕ → Track) → ℕ → Track
@@ -101,6 +131,10 @@ module _ (z : Sizes) (r : InRange z) (lag base : ℕ) (image : List ℕ) (even :
       }
 
 -- ---- the calls
+data-within : (z : Sizes) (i : ℕ) → i < 1 + z.words → i < formerLength z
+unfolding formerLength
+data-within z i h = omega arith
+
 module _ (z : Sizes) (m : Machine) (ts : ℕ → Track) (v : Running z m ts) where
   -- a machine in which lane M has new ghosts and the others have theirs
   each : (M : ℕ) (n : Machine) (t : Track) → Shape z n → LaneLog z M n t → ((L : ℕ) → L < z.lanes → L ≢ M → LaneLog z L n (ts L)) → Running z n (updated M t ts)
@@ -115,6 +149,17 @@ module _ (z : Sizes) (m : Machine) (ts : ℕ → Track) (v : Running z m ts) whe
 
   pub running-writtenBack : (i : ℕ) → Running z (withNvm m (writtenBack i (m .cache) (m .nvm))) ts
   running-writtenBack i = record { shape = shape-writtenBack z m (v .shape) i; lanes = λ L h. lane-writtenBack z L h m (ts L) (v .shape) (v .lanes L h) i }
+
+  -- stores to data words that lane M flushes; the clock may go on, and all lanes stay
+  pub running-changed : (M : ℕ) → M < z.lanes → (xs : List Store) (r : Record) → All (λ x. (1 ≤ x .at) × (x .at < 1 + z.words)) xs
+      → ((L : ℕ) → laneAt r L ≡ laneAt (m .state) L) → length (r .lanes) ≡ length (m .state .lanes) → m .state .clock ≤ r .clock → r .clock % 2 ≡ 0
+      → Running z (changed M xs r m) ts
+  running-changed M lane xs r words same many up even =
+      let past = All-map (λ (x : Store) h. h .0) words in
+      record {
+        shape = shape-changed z m (v .shape) M lane xs r past (All-map (λ x h. data-within z (x .at) (h .1)) words) (rw many (v .shape .lanes)) up even;
+        lanes = λ L h. lane-changed z L h m (ts L) (v .shape) (v .lanes L h) M xs r (All-map (λ x k. data-apart z L (x .at) (k .1)) words) past (same L) up;
+      }
 
   module _ (M : ℕ) (lane : M < z.lanes) where
     mine : LaneLog z M m (ts M)
@@ -135,22 +180,42 @@ module _ (z : Sizes) (m : Machine) (ts : ℕ → Track) (v : Running z m ts) whe
     pub running-drains : Running z (drained z M m) (updated M (levelled z M m (ts M)) ts)
     running-drains = each M (drained z M m) (levelled z M m (ts M)) drained-shape drained-mine drained-other
 
+    -- a sequence stamped c, with the record r after it
+    pub running-extends : (ws : List Write) → length ws ≤ maxWrites → All (λ w. w .word < z.words) ws → (phase : Phase) (redo : List Pair) (c : ℕ) (r : Record)
+        → Stamping (baseOf (m .cache)) (m .state .clock) (ts M .gs) (length (oldsOf ws)) c (r .clock) → r .clock % 2 ≡ 0
+        → LaneTo (drained z M m .state) r M
+        (appendedLane c (advance z.slots (length ws + 1) (cursorOf (laneAt (drained z M m .state) M))) phase redo (laneAt (drained z M m .state) M))
+        → PhaseOf z.slots phase (next (ts M .hist) (oldsOf ws) c ∷ ts M .gs)
+        → Running z (changed M (appendStores (logStart z M) z.slots c (cursorOf (laneAt (drained z M m .state) M)) ws) r (drained z M m))
+        (updated M (extended z M m ws c (ts M)) ts)
+    unfolding drained withLane
+    running-extends ws few low phase redo c r stamp even a held =
+        each M (changed M (appendStores (logStart z M) z.slots c (cursorOf (laneAt (drained z M m .state) M)) ws) r (drained z M m))
+        (extended z M m ws c (ts M))
+        (shape-extends z (drained z M m) drained-shape M lane ws c r next-there (rw (a .lanes) (drained-shape .lanes)) (stamp .later) even)
+        (lane-extends z M lane m (ts M) (v .shape) mine ws few low phase redo c r stamp a held)
+        (λ L h d. lane-extends-other z L h (drained z M m) (ts L) drained-shape (drained-other L h d) M lane d ws c r next-there (a .others L d) (stamp .later))
+
+    -- with the next timestamp
+    running-appends : (ws : List Write) → length ws ≤ maxWrites → All (λ w. w .word < z.words) ws → (phase : Phase) (redo : List Pair)
+        → PhaseOf z.slots phase (next (ts M .hist) (oldsOf ws) (m .state .clock + 2) ∷ ts M .gs)
+        → Running z (appended z M ws phase redo (drained z M m)) (updated M (extended z M m ws (m .state .clock + 2) (ts M)) ts)
+    unfolding appended withLane withClock drained changed
+    running-appends ws few low phase redo held =
+        running-extends ws few low phase redo (m .state .clock + 2) (appended z M ws phase redo (drained z M m) .state)
+        (stamping-next (baseOf (m .cache)) (m .state .clock) (length (oldsOf ws)) (v .shape .low) (v .shape .clock) (mine .now .upto))
+        (omega (arith, v .shape .clock)) (lane-appended z M (drained z M m) (le-trans lane (drained-shape .lanes)) ws phase redo) held
+
     pub running-logs : (ws : List Write) → 0 < length ws → length ws ≤ maxWrites → All (λ w. w .word < z.words) ws
         → Running z (logged z M ws (drained z M m)) (updated M (extended z M m ws (m .state .clock + 2) (ts M)) ts)
-    unfolding logged
+    unfolding logged drained withLane
     running-logs ws one few low =
-        each M (logged z M ws (drained z M m)) (extended z M m ws (m .state .clock + 2) (ts M))
-        (shape-appended z (drained z M m) drained-shape M lane ws _ _ next-there)
-        (lane-logs z M lane m (ts M) (v .shape) mine ws one few low)
-        (λ L h d. lane-appends-other z L h (drained z M m) (ts L) drained-shape (drained-other L h d) M lane d ws _ _ next-there)
+        running-appends ws few low _ (pairsOf maxWrites ws)
+        (holds (first-slot z M lane m (ts M) (v .shape) mine (length (oldsOf ws))) (sym (length-olds ws)) refl (omega (arith, length-olds ws)))
 
     pub running-marks : (redo : List Pair)
         → Running z (appended z M [] Idle redo (drained z M m)) (updated M (extended z M m [] (m .state .clock + 2) (ts M)) ts)
-    running-marks redo =
-        each M (appended z M [] Idle redo (drained z M m)) (extended z M m [] (m .state .clock + 2) (ts M))
-        (shape-appended z (drained z M m) drained-shape M lane [] Idle redo next-there)
-        (lane-marks z M lane m (ts M) (v .shape) mine redo)
-        (λ L h d. lane-appends-other z L h (drained z M m) (ts L) drained-shape (drained-other L h d) M lane d [] Idle redo next-there)
+    running-marks redo = running-appends [] (omega arith) none Idle redo idle
 
     pub running-commits : (ps : List Pair) → All (λ p. p .word < z.words) ps → (x : Logged) → laneAt (m .state) M .phase ≡ Holds x
         → Running z (committed z M ps (drained z M m)) (updated M (restampedBy z M m (m .state .clock + 2) (ts M)) ts)

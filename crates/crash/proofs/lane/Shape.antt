@@ -21,13 +21,12 @@ use Rattle.log.specs.Append.{appendStores, circular, restampStore}
 use Rattle.record.specs.Record.{laneAt, cursorOf, loggedIn, withLane, withClock, withLast}
 use Rattle.record.specs.declared.Pair.{Pair}
 use Rattle.record.specs.declared.Logged.{Logged}
-use Rattle.record.specs.declared.Phase.{Phase}
 use Rattle.record.specs.declared.Phase.the-variants.{Holds}
 use Rattle.record.specs.declared.Record.{Record}
 use Rattle.store.specs.Machine.{Machine}
-use Rattle.store.specs.Calls.{drained, changed, appended, pairStores, commitStores, committed, released}
+use Rattle.store.specs.Calls.{drained, changed, pairStores, commitStores, committed, released}
 use Rattle.crash.specs.Theorem.{endOf}
-use Rattle.crash.proofs.history.Lanes.{lane-drained, lane-appended, lane-committed, lane-released}
+use Rattle.crash.proofs.history.Lanes.{lane-drained, lane-committed, lane-released}
 use Rattle.crash.proofs.lane.Regions.{inside-late, stored-base}
 use Rattle.crash.proofs.lane.Append.{append-inside}
 use Rattle.crash.proofs.lane.Ends.{Tailed, tail-nvm, tail-drained, tail-changed, end-written}
@@ -47,7 +46,7 @@ pub record Shape (z : Sizes) (m : Machine) : Type 0 where
 
 -- the machine with another non-volatile memory
 abbrev pub withNvm : Machine → List ℕ → Machine
-withNvm m nvm = record { state = m .state; cache = m .cache; nvm = nvm; flags = m .flags }
+withNvm m nvm = record { state = m .state; pairs = m .pairs; cache = m .cache; nvm = nvm; flags = m .flags }
 
 -- ---- where the stores of a commit go
 pub pairs-data : (W : ℕ) {ps : List Pair} → All (λ p. p .word < W) ps → All (λ x. (1 ≤ x .at) × (x .at < 1 + W)) (pairStores ps)
@@ -136,15 +135,16 @@ module _ (z : Sizes) (m : Machine) (s : Shape z m) where
           base = s .base ∙ sym b;
         }
 
-    pub shape-appended : (ws : List Write) (phase : Phase) (redo : List Pair) → laneAt (m .state) L .next < z.slots → Shape z (appended z L ws phase redo m)
-    unfolding appended changed withLane withClock cursorOf
-    shape-appended ws phase redo next =
-        shape-changed (appendStores (logStart z L) z.slots (m .state .clock + 2) (cursorOf (laneAt (m .state) L)) ws) _
-        (All-map (λ x i. le-trans (let e : 1 ≤ 1 + z.words = omega arith in e) (inside-late z L (x .at) i))
-        (append-inside z L lane (omega arith) (m .state .clock + 2) (cursorOf (laneAt (m .state) L)) ws next))
-        (All-map (λ x i. le-trans (i .1) (log-fits z L lane))
-        (append-inside z L lane (omega arith) (m .state .clock + 2) (cursorOf (laneAt (m .state) L)) ws next))
-        (as-many (lane-appended z L m inside ws phase redo .lanes) (s .lanes)) (omega arith) (omega (arith, s .clock))
+    -- a sequence stamped c, with the record r after it
+    pub shape-extends : (ws : List Write) (c : ℕ) (r : Record) → laneAt (m .state) L .next < z.slots → z.lanes ≤ length (r .lanes)
+        → m .state .clock ≤ r .clock → r .clock % 2 ≡ 0
+        → Shape z (changed L (appendStores (logStart z L) z.slots c (cursorOf (laneAt (m .state) L)) ws) r m)
+    unfolding cursorOf
+    shape-extends ws c r next lanes up even =
+        let i = append-inside z L lane (omega arith) c (cursorOf (laneAt (m .state) L)) ws next in
+        shape-changed (appendStores (logStart z L) z.slots c (cursorOf (laneAt (m .state) L)) ws) r
+        (All-map (λ x j. le-trans (let e : 1 ≤ 1 + z.words = omega arith in e) (inside-late z L (x .at) j)) i)
+        (All-map (λ x j. le-trans (j .1) (log-fits z L lane)) i) lanes up even
 
     -- a commit's stores: data words, and the value word of a slot
     pub commit-past : (ps : List Pair) → All (λ p. p .word < z.words) ps → All (λ x. 1 ≤ x .at) (commitStores z L ps m)

@@ -38,6 +38,7 @@ pub record Listed (N : ℕ) (gs : List Seq) (q : Complete) : Type 0 where
   pub end : ℕ
   pub among : In (record { entries = q .entries; stamp = q .stamp; end = end }) gs
   pub slot : end % N ≡ q .slot
+  pub wrap : wrapOf N end ≡ q .wrap
 
 module _ (z : Sizes) (low : z.words ≤ maxWords) (large : minSlots ≤ z.slots)
     {log : List ℕ} {h : List Past} {gs : List Seq} {u : ℕ} (s : Shown z log h gs u) where
@@ -63,11 +64,13 @@ module _ (z : Sizes) (low : z.words ≤ maxWords) (large : minSlots ≤ z.slots)
               among = rw (g .entries)
                   (lookup z.words z.slots (s .history) (g .end) (g .count) (q .stamp) (count (g .end) (g .count) (q .stamp) (g .below) (g .stamp)) (g .stamp));
               slot = g .slot;
+              wrap = g .wrap;
             }
 
     -- whole in the window, and settled
     pub shown-there : (g : Seq) → In g gs → length h + length (g .entries) ≤ g .end + z.slots → g .end < u → base < g .stamp
-        → In (record { stamp = g .stamp; lane = L; slot = g .end % z.slots; entries = g .entries }) (completeBelow z.words z.slots base log L z.slots)
+        → In (record { stamp = g .stamp; lane = L; slot = g .end % z.slots; wrap = wrapOf z.slots (g .end); entries = g .entries })
+        (completeBelow z.words z.slots base log L z.slots)
     unfolding addressAt valueAt
     shown-there g i whole set new =
         let r = stands z.words z.slots (s .history) i in
@@ -76,7 +79,8 @@ module _ (z : Sizes) (low : z.words ≤ maxWords) (large : minSlots ≤ z.slots)
         = λ c lo hi. let x = s .shows .settled c (omega arith) (omega (arith, r .below)) (omega arith) in
         exact-reads z.words z.slots low (omega arith) (at h) (length h)
         (hist-fits z.words z.slots (s .history)) log c (omega (arith, r .below)) (x .address) (x .value) in
-        subst (λ es. In (record { stamp = g .stamp; lane = L; slot = g .end % z.slots; entries = es }) (completeBelow z.words z.slots base log L z.slots))
+        subst (λ es. In (record { stamp = g .stamp; lane = L; slot = g .end % z.slots; wrap = wrapOf z.slots (g .end); entries = es })
+        (completeBelow z.words z.slots base log L z.slots))
         (r .entries)
         (is-found z.words z.slots (omega arith) (at h) log (g .end) (omega (arith, r .late)) base L k
         (g .stamp) (omega (arith, r .ok .few)) reads (r .closes) (ap length (r .entries)) new

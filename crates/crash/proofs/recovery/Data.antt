@@ -14,13 +14,13 @@ use Rattle.laws.specs.inner.Lists.{All, none as nil, more, All-map, All-rest}
 use Rattle.txn.specs.Txn.{applied, run, after}
 use Rattle.txn.specs.inner.TxnLaws.{Chain, chain-nil, chain-cons, run-chain, length-applied}
 use Rattle.txn.specs.declared.Write.{Write}
-use Rattle.log.specs.Log.{Old, Complete}
+use Rattle.log.specs.Log.{Old, Complete, undoneBefore}
 use Rattle.log.specs.declared.Timestamp.{Timestamp}
 use Rattle.log.specs.declared.Timestamp.the-variants.{None, At}
 use Rattle.crash.specs.History.{Commit, isBelow, replay}
 use Rattle.laws.specs.inner.Members.{In, here, there, in-cases, In-All, All-In}
-use Rattle.recovery.specs.Recovery.{undoneBefore}
-use Rattle.recovery.specs.inner.OrderLaws.{Falling, lowest, above, Sorted, empty, first, is-before, not-self, Undoes}
+use Rattle.log.specs.inner.OrderLaws.{Falling, lowest, above, Sorted, empty, first, is-before, not-self}
+use Rattle.recovery.specs.inner.OrderLaws.{Undoes}
 use Rattle.recovery.specs.inner.UndoneLaws.{firstOld, writes, firstsOf, anyWrites, anyWrites-in, firstsOf-none, OldIn, Ends, done, ends, firstsOf-ends}
 
 -- ---- a run's writes
@@ -172,32 +172,33 @@ module _ (W w b : ℕ) (start : List ℕ) (cs : List Commit) (order : Rising cs)
 
   -- where a sequence of qs stands: in the rest of the list, or before all of it
   abbrev Where : List Complete → Type 0
-  Where rs = (r : Complete) → In r qs → b ≤ r .stamp → (In r rs) ⊎ (All (λ x. undoneBefore x r ≡ false) rs)
+  Where rs = (r : Complete) → In r qs → b ≤ r .stamp → (In r rs) ⊎ (All (λ x. undoneBefore qs x r ≡ false) rs)
 
-  where-rest : {q : Complete} {rs : List Complete} → All (λ r. undoneBefore r q ≡ false) rs → Where (q ∷ rs) → Where rs
+  where-rest : {q : Complete} {rs : List Complete} → All (λ r. undoneBefore qs r q ≡ false) rs → Where (q ∷ rs) → Where rs
   where-rest {q} {rs} a f r i l = go (f r i l)
     where
-      it : (r ≡ q) ⊎ In r rs → (In r rs) ⊎ (All (λ x. undoneBefore x r ≡ false) rs)
+      it : (r ≡ q) ⊎ In r rs → (In r rs) ⊎ (All (λ x. undoneBefore qs x r ≡ false) rs)
       it (inl e) = inr (rw e a)
       it (inr j) = inl j
 
-      go : (In r (q ∷ rs)) ⊎ (All (λ x. undoneBefore x r ≡ false) (q ∷ rs)) → (In r rs) ⊎ (All (λ x. undoneBefore x r ≡ false) rs)
+      go : (In r (q ∷ rs)) ⊎ (All (λ x. undoneBefore qs x r ≡ false) (q ∷ rs)) → (In r rs) ⊎ (All (λ x. undoneBefore qs x r ≡ false) rs)
       go (inl j) = it (in-cases j)
       go (inr h) = inr (All-rest h)
 
-  after-it : {q : Complete} {rs : List Complete} → Where (q ∷ rs) → anyWrites rs w ≡ false → (r : Complete) → In r qs → b ≤ r .stamp → undoneBefore q r ≡ true
+  after-it : {q : Complete} {rs : List Complete} → Where (q ∷ rs) → anyWrites rs w ≡ false → (r : Complete) → In r qs → b ≤ r .stamp
+      → undoneBefore qs q r ≡ true
       → writes (r .entries) w ≡ false
   after-it {q} {rs} f e r i l t = go (f r i l)
     where
       it : (r ≡ q) ⊎ In r rs → writes (r .entries) w ≡ false
-      it (inl d) = not-self q (is-before q q (rw d at t))
+      it (inl d) = not-self qs q (is-before qs q q (rw d at t))
       it (inr j) = none-in rs e j
 
-      go : (In r (q ∷ rs)) ⊎ (All (λ x. undoneBefore x r ≡ false) (q ∷ rs)) → writes (r .entries) w ≡ false
+      go : (In r (q ∷ rs)) ⊎ (All (λ x. undoneBefore qs x r ≡ false) (q ∷ rs)) → writes (r .entries) w ≡ false
       go (inl j) = it (in-cases j)
       go (inr h) = clash _ t (In-All h here)
 
-  each : (top : ℕ) {rs : List Complete} → All (λ r. r .stamp ≤ top) rs → All (λ r. b ≤ r .stamp) rs → Falling rs → Sorted rs → All Old-is rs → Where rs
+  each : (top : ℕ) {rs : List Complete} → All (λ r. r .stamp ≤ top) rs → All (λ r. b ≤ r .stamp) rs → Falling rs → Sorted qs rs → All Old-is rs → Where rs
       → ((s : ℕ) → s ≤ top → b ≤ s → All (λ q. q .stamp < s → writes (q .entries) w ≡ false) rs → Untouched W w b s start cs)
       → Ends w (valueBelow W w start cs b) rs
   unfolding valueBelow OldIn

@@ -113,7 +113,7 @@ finished-step z lag limit m e = rw (e, made-all z limit (m .nvm) e)
 
 pub cut-step : (z : Sizes) (lag limit : ℕ) (m : Machine) → allMade z limit (m .nvm) ≡ false
     → recoveredBy z lag limit 0 m
-    ≡ record { answer = Cut; machine = record { state = m .state; cache = m .cache; nvm = recoveredNvm z limit (m .nvm); flags = m .flags } }
+    ≡ record { answer = Cut; machine = record { state = m .state; pairs = m .pairs; cache = m .cache; nvm = recoveredNvm z limit (m .nvm); flags = m .flags } }
 unfolding recoveredBy
 cut-step z lag limit m e = rw e
 
@@ -161,7 +161,10 @@ pub data Restarts (z : Sizes) (lag limit : ℕ) (found : List ℕ) (m : Machine)
   unfit : Refused 16 ≡ recoveryAnswer z lag limit (m .nvm) → Restarts z lag limit found m (record { answer = Refused 16; machine = m })
   short : Cut ≡ recoveryAnswer z lag limit (m .nvm) → Leads z (recoveredNvm z limit (m .nvm)) found
       → Restarts z lag limit found m
-      (record { answer = Cut; machine = record { state = m .state; cache = m .cache; nvm = recoveredNvm z limit (m .nvm); flags = m .flags } })
+      (record {
+        answer = Cut;
+        machine = record { state = m .state; pairs = m .pairs; cache = m .cache; nvm = recoveredNvm z limit (m .nvm); flags = m .flags };
+      })
   finished : {a : Finished} → lagOk lag ≡ true → Recovered.Finished a ≡ recoveryAnswer z lag limit (m .nvm)
       → Restarts z lag limit found m (record { answer = Recovered.Finished a; machine = started lag (newBase z found) (recoveredImage z found) })
 

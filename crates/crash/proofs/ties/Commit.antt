@@ -11,7 +11,7 @@ use native.Mathlib.Nat.{le-trans, le-refl}
 use lib.ListN.{length, getD}
 use borrow.Author.Tests.{ne-eqb, le-ltb}
 use Rattle.laws.specs.inner.Tests.{eqb-same}
-use Rattle.laws.specs.inner.Lists.{All, none as nil, more, All-map, All-rest}
+use Rattle.laws.specs.inner.Lists.{All, none as nil, more, All-map}
 use Rattle.txn.specs.Txn.{maxWrites, former, txnBy, run}
 use Rattle.txn.specs.inner.TxnLaws.{run-low}
 use Rattle.txn.specs.declared.Write.{Write}
@@ -22,7 +22,7 @@ use Rattle.image.specs.inner.StoresLaws.{among, places-append, among-append}
 use Rattle.image.specs.declared.Sizes.{Sizes}
 use Rattle.log.specs.Append.{restampStore}
 use Rattle.log.specs.declared.Timestamp.the-variants.{At}
-use Rattle.record.specs.Record.{laneAt, idleLane, drainedLane, withLane, pairsOf}
+use Rattle.record.specs.Record.{laneAt, idleLane, drainedLane, isHeld, withLane, withClock, withLast, pairsOf}
 use Rattle.record.specs.declared.Logged.{Logged}
 use Rattle.record.specs.declared.Phase.the-variants.{Idle, Holds}
 use Rattle.record.specs.declared.Lane.{Lane}
@@ -35,14 +35,14 @@ use Rattle.recovery.specs.inner.UndoneLaws.{writes, firstOld}
 use Rattle.crash.proofs.recovery.Data.{oldsOf, txnWrites, run-first, replay-all, replay-snoc}
 use Rattle.crash.proofs.induction.Moves.{Known, Ready}
 use Rattle.crash.proofs.history.Lanes.{lane-drained, lane-committed, page-drained, page-stamped}
-use Rattle.crash.proofs.history.Agree.{Book, is-held}
+use Rattle.crash.proofs.history.Agree.{Book, is-held, not-locked}
 use Rattle.crash.proofs.history.Answers.{holds-it, matched}
-use Rattle.crash.proofs.history.Onward.{onward-drained, onward-commit}
-use Rattle.crash.proofs.history.Books.{book-drains, redo-now, redo-held, redo-pairs, not-held}
+use Rattle.crash.proofs.history.Onward.{earlier-clock, onward-drained, onward-commit}
+use Rattle.crash.proofs.history.Books.{words-free, book-drains, redo-now, redo-held, redo-pairs, not-held}
 use Rattle.crash.proofs.lane.Seqs.{Seq, Hist, restamped}
 use Rattle.crash.proofs.lane.Regions.{stored-base}
 use Rattle.crash.proofs.lane.Newest.{closing-by}
-use Rattle.crash.proofs.lane.Written.{Whole, newestIn, newest-whole}
+use Rattle.crash.proofs.lane.Written.{Whole, RoomFor, whole-room, newestIn, newest-whole}
 use Rattle.crash.proofs.lane.Shape.{commit-past}
 use Rattle.crash.proofs.lane.Log.{Track, sealGs, sealHist, length-sealGs, length-sealHist, levelled, restampedBy}
 use Rattle.crash.proofs.lane.Reads.{HeldSeq, lane-held}
@@ -50,8 +50,9 @@ use Rattle.crash.proofs.lane.Running.{Running, updated, updated-same, r
 use Rattle.crash.proofs.ties.Ties.{TrueOf, Backed, Ties}
 use Rattle.crash.proofs.ties.Logs.{ties-logs}
 use Rattle.crash.proofs.ties.Laws.{AtMost, floor-first, TrackTo, track-to, track-on, Cells, cells-changed, drained-mine}
-use Rattle.crash.proofs.ties.Laws.{changed-mine, changed-others, all-onward, logged-onward, given-now, Moving, TiesOf, ties-moved}
-use Rattle.crash.proofs.ties.Drain.{drained-ties}
+use Rattle.crash.proofs.ties.Laws.{changed-mine, changed-others, true-rest}
+use Rattle.crash.proofs.ties.Laws.{all-onward, logged-onward, given-now, Moving, TiesOf, ties-moved}
+use Rattle.crash.proofs.ties.Drain.{free-drained, drained-ties}
 
 -- ---- what a commit stores and flushes
 -- the pairs of some writes go to the words that the writes' entries name
@@ -105,7 +106,8 @@ seal-in c s g (there i) d e = there i
 
 -- ---- a commit of transaction f by a lane that has just drained: the sequence that it holds names what f writes now
 module _ (z : Sizes) (base : ℕ) (h : History) (m : Machine) (b : Book z base h m) (t : Ties z base m h) (L : ℕ) (lane : L < z.lanes)
-    (clear : (w : ℕ) → w < z.words → flushed L (getD (m .flags) (1 + w) 0) ≡ false) (x : Logged) (held : laneAt (m .state) L .phase ≡ Holds x)
+    (free : isHeld (m .state .lock) ≡ false) (clear : (w : ℕ) → w < z.words → flushed L (getD (m .flags) (1 + w) 0) ≡ false)
+    (x : Logged) (held : laneAt (m .state) L .phase ≡ Holds x)
     (f : List ℕ) (ok : txnBy former maxWrites z.words f ≡ true) (same : oldsOf (writesOn z f m) ≡ oldsOf (writesLogged z L h))
     (us : ℕ → Track) (to : TrackTo (t .ts) us L (restampedBy z L m (h .clock + 2) (t .ts L)))
     (runs : Running z (committed z L (pairsOf (length (writesOn z f m)) (writesOn z f m)) m) us) where
@@ -135,21 +137,26 @@ module _ (z : Sizes) (base : ℕ) (h : History) (m : Machine) (b : Book z base h
   low = run-low former maxWrites z.words f (dataOf z (m .cache)) ok
 
   words-at : wordsBelow z (At (h .clock + 2)) k ≡ dataOf z (m .cache)
-  words-at = commit-below z L f h (b .upto) ∙ sym (b .live .words)
+  words-at = commit-below z L f h (b .upto) ∙ sym (words-free z base L lane h m b free)
 
   -- the sequence is true at the commit's timestamp
-  true-now : TrueOf z.words k (restamped (h .clock + 2) g)
+  true-now : (gs : List Seq) → TrueOf z.words k gs (restamped (h .clock + 2) g)
   unfolding TrueOf wordsBelow writesOn txnWrites
-  true-now w l y e =
+  true-now gs w l y n e =
       ap (λ es. firstOld es w y) its
       ∙ run-first z.words w y f (dataOf z (m .cache)) (ap (λ es. writes es w) (sym its) ∙ e)
       ∙ ap (λ (ws : List ℕ). getD ws w 0) (sym words-at)
 
-  all-now : All (TrueOf z.words k) (sealGs (h .clock + 2) (t .ts L .gs))
+  hist-now : Hist z.words z.slots (t .ts L .hist) (g ∷ it .rest)
+  hist-now = subst (Hist z.words z.slots (t .ts L .hist)) (it .newest) (t .running .lanes L lane .now .history)
+
+  all-now : All (TrueOf z.words k (sealGs (h .clock + 2) (t .ts L .gs))) (sealGs (h .clock + 2) (t .ts L .gs))
   all-now =
-      subst (All (TrueOf z.words k)) (sym sealed)
-      (more true-now (all-onward z h k (onward-commit L f h)
-      (All-rest (rw (it .newest) at (given-now z base h m b t L lane))) (All-rest (rw (it .newest) at (t .now L lane)))))
+      subst (λ gs. All (TrueOf z.words k gs) gs) (sym sealed)
+      (more (true-now (restamped (h .clock + 2) g ∷ it .rest))
+      (true-rest z.words z.slots k (restamped (h .clock + 2) g) (it .rest) hist-now
+      (subst (λ gs. All (TrueOf z.words k gs) gs) (it .newest)
+      (all-onward z h k (onward-commit L f h) (given-now z base h m b t L lane) (t .now L lane)))))
 
   -- the words that the lane has flushed
   flushes : (w : ℕ) → w < z.words → flushed L (getD (n .flags) (1 + w) 0) ≡ true → writes (g .entries) w ≡ true
@@ -166,8 +173,7 @@ module _ (z : Sizes) (base : ℕ) (h : History) (m : Machine) (b : Book z base h
   -- the commit is backed
   whole : Whole z.slots (sealHist (h .clock + 2) (t .ts L .hist) (t .ts L .gs)) (restamped (h .clock + 2) g)
   whole =
-      let w : Whole z.slots (t .ts L .hist) g =
-      newest-whole z (t .running .shape .sizes) (subst (λ gs. Hist z.words z.slots (t .ts L .hist) gs) (it .newest) (t .running .lanes L lane .now .history)) in
+      let w : Whole z.slots (t .ts L .hist) g = newest-whole z (t .running .shape .sizes) hist-now in
       omega (arith, length-sealHist (h .clock + 2) (t .ts L .hist) (t .ts L .gs))
 
   backed : Backed z k us (record { stamp = h .clock + 2; txn = f })
@@ -184,11 +190,11 @@ module _ (z : Sizes) (base : ℕ) (h : History) (m : Machine) (b : Book z base h
 
   -- the newest is whole by its position, and the others stay
   kept : (s : Seq) → (s ≡ restamped (h .clock + 2) g) ⊎ In s (it .rest)
-      → ((In s (t .ts L .gs)) × (AtMost (leastFloorOf (h .pages)) (s .stamp) → Whole z.slots (t .ts L .hist) s
-      → Whole z.slots (sealHist (h .clock + 2) (t .ts L .hist) (t .ts L .gs)) s))
-      ⊎ (Whole z.slots (sealHist (h .clock + 2) (t .ts L .hist) (t .ts L .gs)) s)
-  kept s (inl e) = inr (rw e whole)
-  kept s (inr j) = inl (rw (it .newest) (there j), λ a w. rw (length-sealHist (h .clock + 2) (t .ts L .hist) (t .ts L .gs)) w)
+      → ((In s (t .ts L .gs)) × (AtMost (leastFloorOf (h .pages)) (s .stamp) → RoomFor z.slots (t .toCome L) (t .ts L .hist) s
+      → RoomFor z.slots 0 (sealHist (h .clock + 2) (t .ts L .hist) (t .ts L .gs)) s))
+      ⊎ (RoomFor z.slots 0 (sealHist (h .clock + 2) (t .ts L .hist) (t .ts L .gs)) s)
+  kept s (inl e) = inr (rw e (whole-room z.slots (sealHist (h .clock + 2) (t .ts L .hist) (t .ts L .gs)) (restamped (h .clock + 2) g) whole))
+  kept s (inr j) = inl (rw (it .newest) (there j), λ a w. omega (arith, length-sealHist (h .clock + 2) (t .ts L .hist) (t .ts L .gs)))
 
   fresh : (c : Commit) → In c (k .commits) → (In c (h .commits)) ⊎ Backed z k us c
   unfolding stamped
@@ -212,7 +218,11 @@ module _ (z : Sizes) (base : ℕ) (h : History) (m : Machine) (b : Book z base h
   unfolding committed
   flushes-other M d w l = changed-others z m (t .running .shape) L (commitStores z L (pairsOf (length ws) ws) m) _ M d w l
 
-  moving : Moving z L h k m n (t .ts) us
+  free-now : isHeld (n .state .lock) ≡ false
+  unfolding committed changed withLast withLane withClock
+  free-now = free
+
+  moving : Moving z L h k m n (t .ts) us (t .toCome) (λ M. 0)
   unfolding idleLane
   moving =
       let a = lane-committed z L m (le-trans lane (b .lanes)) (pairsOf (length ws) ws) in
@@ -221,7 +231,9 @@ module _ (z : Sizes) (base : ℕ) (h : History) (m : Machine) (b : Book z base h
         tracks = to;
         page = record { held = none; newest = closingAt (h .clock + 2); floor = floorOr (pageAt h L .floor) (At (h .clock + 2)) };
         pages = page-stamped L h (rw (b .pages) lane) closingAt none (f ∷ []);
+        given = h .clock;
         onward = onward-commit L f h;
+        earlier = earlier-clock z base h m b L;
         running = runs;
         at-base = base-same;
         phases = λ M d. ap (λ (l : Lane). l .phase) (a .others M d);
@@ -240,14 +252,17 @@ module _ (z : Sizes) (base : ℕ) (h : History) (m : Machine) (b : Book z base h
               named = flushes w l e;
             };
         others = flushes-other;
-        floor = λ y l e. floor-first (pageAt h L .floor) (h .clock + 2) y (omega arith) e;
+        floor = λ M i s j e.
+            floor-first (pageAt h L .floor) (h .clock + 2) (s .stamp) (omega (arith, In-All (given-now z base h m b t M i) j)) e;
+        coming = λ M d. omega arith;
         stays = stays;
         kept = λ s j. kept s (in-cases (subst (In s) sealed j));
         fresh = fresh;
+        lock = λ x e f q. not-locked (n .state .lock) x free-now e;
       }
 
-  pub committed-ties : TiesOf z base n k us
-  committed-ties = ties-moved z base L h k m n b t us moving
+  pub committed-ties : TiesOf z base n k us (λ M. 0)
+  committed-ties = ties-moved z base L h k m n b t us (λ M. 0) moving
 
 -- ---- a drain and then the commit
 -- the ghosts of both together, from those that the drain left
@@ -266,15 +281,16 @@ restamped-to z L m ts vs c e p q =
     both = track-on (track-to L (levelled z L m (ts L)) ts) (track-to L (restampedBy z L m c (ts L)) ts)
 
 module _ (z : Sizes) (base : ℕ) (m : Machine) (h : History) (L : ℕ) (b : Book z base h m) (t : Ties z base m h) (k : Known z m L) where
-  pub ties-commits : (x : Logged) → laneAt (m .state) L .phase ≡ Holds x → (f : List ℕ) → txnBy former maxWrites z.words f ≡ true
+  pub ties-commits : isHeld (m .state .lock) ≡ false → (x : Logged) → laneAt (m .state) L .phase ≡ Holds x → (f : List ℕ)
+      → txnBy former maxWrites z.words f ≡ true
       → oldsOf (writesOn z f m) ≡ oldsOf (writesLogged z L h)
       → Ties z base (committed z L (pairsOf (length (writesOn z f m)) (writesOn z f m)) (drained z L m)) (stamped L closingAt none (f ∷ []) (afterDrain L h))
   unfolding drained drainedLane writesOn afterDrain withLane
-  ties-commits x held f ok same =
+  ties-commits free x held f ok same =
       let d = drained-ties z base h m b t L (k .lane) in
       let p = page-drained L h (rw (b .pages) (k .lane)) .here in
       committed-ties z base (afterDrain L h) (drained z L m) (book-drains z base h m b (ties-logs z base m h b t) L k) (d .ties) L (k .lane)
-      (λ w l. drained-mine z m (t .running .shape) L (1 + w)) x
+      (free-drained z L m free) (λ w l. drained-mine z m (t .running .shape) L (1 + w)) x
       (ap (λ (l : Lane). l .phase) (lane-drained z L m (le-trans (k .lane) (b .lanes)) .here) ∙ held) f ok
       (same ∙ ap oldsOf (sym (logged-onward z h (afterDrain L h) (onward-drained L h) base m L x
       (b .holding L x (k .lane) held) (ap (λ (p : Page). p .held) p) (ap (λ (p : Page). p .newest) p))))
@@ -291,12 +307,13 @@ ties-redoes z base m h L b t k y e =
     let l = ties-logs z base m h b t in
     let v = holds-it z base h m b l L (k .lane) (y .held) in
     rw (redo-pairs z base h m b l L k y e, redo-held z base h m b l L k y)
-    (ties-commits z base m h L b t k _ (is-held (laneAt (m .state) L .phase) (y .held)) (v .txn) (v .ok) (ap oldsOf (sym (redo-now z base h m b l L k y e))))
+    (ties-commits z base m h L b t k (y .free) _ (is-held (laneAt (m .state) L .phase) (y .held)) (v .txn) (v .ok)
+    (ap oldsOf (sym (redo-now z base h m b l L k y e))))
 
 pub ties-validates : (z : Sizes) (base : ℕ) (m : Machine) (h : History) (L : ℕ) (f : List ℕ)
     → Book z base h m → Ties z base m h → Known z m L → txnBy former maxWrites z.words f ≡ true
     → Ready m L → matches z L (writesOn z f m) m ≡ true
     → Ties z base (committed z L (pairsOf (length (writesOn z f m)) (writesOn z f m)) (drained z L m)) (stamped L closingAt none (f ∷ []) (afterDrain L h))
 ties-validates z base m h L f b t k ok y e =
-    ties-commits z base m h L b t k _ (is-held (laneAt (m .state) L .phase) (y .held)) f ok
+    ties-commits z base m h L b t k (y .free) _ (is-held (laneAt (m .state) L .phase) (y .held)) f ok
     (matched z base h m b (ties-logs z base m h b t) L (k .lane) (y .held) (writesOn z f m) e)

@@ -4,6 +4,7 @@ use mathlib.Core.Path.{_≡_, refl, ap, _∙_, sym, subst}
 use mathlib.Core.Logic.{_≢_, _⊎_, inl, inr}
 use mathlib.Core.Bool.{Bool, true, false, cond, _||_}
 use mathlib.Core.List.{List, [], _∷_}
+use mathlib.Core.Option.{some}
 use Prim.Native.Nat.{ℕ, zero, suc, _+_, _≤_, _<_, min}
 use native.Mathlib.Omega.{arith}
 use native.Mathlib.Nat.{le-of-suc-le-suc, zero-lt-suc}
@@ -24,23 +25,28 @@ use Rattle.image.specs.declared.Sizes.{Sizes}
 use Rattle.log.specs.declared.Timestamp.{Timestamp}
 use Rattle.log.specs.declared.Timestamp.the-variants.{None, At}
 use Rattle.record.specs.Record.{laneAt, lesser}
+use Rattle.record.specs.declared.Locked.{Locked}
+use Rattle.record.specs.declared.Lock.the-variants.{Held}
 use Rattle.record.specs.declared.Logged.{Logged}
 use Rattle.record.specs.declared.Phase.the-variants.{Holds}
 use Rattle.record.specs.declared.Record.{Record}
 use Rattle.store.specs.Machine.{Machine}
 use Rattle.store.specs.Calls.{drained, changed}
-use Rattle.crash.specs.History.{Commit, Page, History, blankPage, pageAt, wordsBelow, floorOr, leastFloorOf, writesLogged}
-use Rattle.laws.specs.inner.Members.{In, In-All}
+use Rattle.crash.specs.History.{newestStamp, Commit, Page, History, blankPage, pageAt, wordsBelow, floorOr, leastFloorOf, writesLogged}
+use Rattle.laws.specs.inner.Members.{In, here, there, In-All, All-In}
 use Rattle.crash.proofs.recovery.Data.{oldsOf, txnWrites}
 use Rattle.crash.proofs.history.Lanes.{PageTo, lane-cases}
-use Rattle.crash.proofs.history.Agree.{Holding, Book}
-use Rattle.crash.proofs.history.Onward.{Onward, words-onward, writes-held}
-use Rattle.crash.proofs.lane.Seqs.{Seq}
-use Rattle.crash.proofs.lane.Written.{Whole, newestIn}
+use Rattle.crash.proofs.history.Agree.{Holding, Book, allWrites, holderOf}
+use Rattle.crash.proofs.history.Onward.{Onward, Earlier, words-onward, writes-held}
+use Rattle.recovery.specs.inner.UndoneLaws.{writes}
+use Rattle.crash.proofs.lane.Ghost.{Past}
+use Rattle.crash.proofs.lane.Seqs.{Seq, Hist, stands, newest-end}
+use Rattle.crash.proofs.lane.Newest.{newestBy}
+use Rattle.crash.proofs.lane.Written.{RoomFor, newestIn}
 use Rattle.crash.proofs.lane.Shape.{Shape, withNvm}
 use Rattle.crash.proofs.lane.Log.{Track}
 use Rattle.crash.proofs.lane.Running.{Running, updated, updated-same, updated-other}
-use Rattle.crash.proofs.ties.Ties.{TrueOf, Names, Flushes, Backed, Ties}
+use Rattle.crash.proofs.ties.Ties.{TrueOf, Names, Flushes, Backed, LockTies, Ties}
 
 -- ---- floors
 -- a timestamp that is one, and not above x
@@ -208,16 +214,41 @@ module _ (z : Sizes) (m : Machine) (s : Shape z m) (L : ℕ) where
   unfolding changed
   changed-others xs r M d w h = flushAll-other M L (places xs) (m .flags) (1 + w) d (word-in z w _ h (s .in-flags))
 
--- ---- the history goes on
-module _ (z : Sizes) (h k : History) (o : Onward h k) where
-  -- a sequence that was true stays so
-  pub true-onward : (g : Seq) → g .stamp ≤ h .clock → TrueOf z.words h g → TrueOf z.words k g
-  unfolding TrueOf wordsBelow
-  true-onward g l f w i x e = f w i x e ∙ ap (λ (ws : List ℕ). getD ws w 0) (sym (words-onward z h k o (g .stamp) l))
+-- ---- a lane's sequences
+-- what is true stays so among more
+pub true-more : (W : ℕ) (h : History) (f : Seq) (gs : List Seq) (g : Seq) → TrueOf W h gs g → TrueOf W h (f ∷ gs) g
+unfolding TrueOf
+true-more W h f gs g t w l x n e = t w l x (λ d i. n d (there i)) e
 
-  pub all-onward : {gs : List Seq} → All (λ g. g .stamp ≤ h .clock) gs → All (TrueOf z.words h) gs → All (TrueOf z.words k) gs
-  all-onward nil nil = nil
-  all-onward (more {x = g} l ls) (more f fs) = more (true-onward g l f) (all-onward ls fs)
+first-last : (W : ℕ) (h : History) (f g : Seq) (gs : List Seq) → (f .end < g .end → ⊥) → TrueOf W h (f ∷ gs) g → TrueOf W h gs g
+unfolding TrueOf
+first-last W h f g gs d t w l x n e = t w l x none e
+  where
+    none : (d′ : Seq) → In d′ (f ∷ gs) → d′ .stamp ≡ g .stamp → d′ .end < g .end → writes (d′ .entries) w ≡ false
+    none d′ here p q = absurd (d q)
+    none d′ (there i) p q = n d′ i p q
+
+-- and where the newest, which is no earlier one, becomes another
+pub true-rest : (W N : ℕ) (h : History) {l : List Past} {f : Seq} (c : Seq) (gs : List Seq) → Hist W N l (f ∷ gs)
+    → All (TrueOf W h (f ∷ gs)) (f ∷ gs) → All (TrueOf W h (c ∷ gs)) gs
+true-rest W N h {l} {f} c gs H a = All-In gs (λ g i. true-more W h c gs g (one g i (In-All a (there i))))
+  where
+    one : (g : Seq) → In g gs → TrueOf W h (f ∷ gs) g → TrueOf W h gs g
+    one g i t = first-last W h f g gs (λ d. omega (arith, newest-end W N H, stands W N H (there {y = f} i) .below)) t
+
+-- ---- the history goes on
+module _ (z : Sizes) (h k : History) {given : ℕ} (o : Onward given h k) where
+  -- a sequence that was true stays so
+  true-onward : (fs : List Seq) (g : Seq) → g .stamp ≤ h .clock → TrueOf z.words h fs g → TrueOf z.words k fs g
+  unfolding TrueOf wordsBelow
+  true-onward fs g l f w i x n e = f w i x n e ∙ ap (λ (ws : List ℕ). getD ws w 0) (sym (words-onward z h k o (g .stamp) l))
+
+  pub all-onward : {gs : List Seq} → All (λ g. g .stamp ≤ h .clock) gs → All (TrueOf z.words h gs) gs → All (TrueOf z.words k gs) gs
+  all-onward {gs} l t = each gs l t
+    where
+      each : (fs : List Seq) {gs : List Seq} → All (λ g. g .stamp ≤ h .clock) gs → All (TrueOf z.words h fs) gs → All (TrueOf z.words k fs) gs
+      each fs nil nil = nil
+      each fs (more {x = g} l ls) (more t ts) = more (true-onward fs g l t) (each fs ls ts)
 
   -- what a lane has logged stays so
   pub logged-onward : (base : ℕ) (m : Machine) (M : ℕ) (x : Logged) → Holding z base h m M x → pageAt k M .held ≡ pageAt h M .held
@@ -229,8 +260,8 @@ module _ (z : Sizes) (h k : History) (o : Onward h k) where
       ∙ sym (writes-held z h M (v .txn) (x .stamp) (v .held) (v .newest))
 
   -- no commit comes to a timestamp that was given
-  pub apart-onward : (s : ℕ) → s ≤ h .clock → All (λ c. c .stamp ≢ s) (h .commits) → All (λ c. c .stamp ≢ s) (k .commits)
-  apart-onward s l a = rw (o .commits) (All-append a (All-map (λ c i e. omega arith) (o .fresh)))
+  pub apart-onward : (s : ℕ) → s ≤ given → All (λ c. c .stamp ≢ s) (h .commits) → All (λ c. c .stamp ≢ s) (k .commits)
+  apart-onward s l a = rw (o .commits) (All-append a (All-map (λ c i e. omega arith) (o .over)))
 
   -- a commit that was backed stays so while its sequences stay
   pub backed-onward : (ts us : ℕ → Track) (c : Commit) → c .stamp ≤ h .clock → ((M : ℕ) (g : Seq) → In g (ts M .gs) → g .stamp ≡ c .stamp → In g (us M .gs))
@@ -240,34 +271,52 @@ module _ (z : Sizes) (h k : History) (o : Onward h k) where
       let n = v w j (ap (txnWrites z.words w (c .txn)) (sym (words-onward z h k o (c .stamp) l)) ∙ e) in
       record { lane = n .lane; low = n .low; by = n .by; among = stays (n .lane) (n .by) (n .among) (n .stamp); stamp = n .stamp; named = n .named }
 
+-- the newest timestamp is that of the first
+stamp-by : (n s : ℕ) → newestStamp (newestBy n s) ≡ At s
+unfolding newestStamp newestBy
+stamp-by zero s = refl
+stamp-by (suc n) s = refl
+
+pub stamp-first : (g : Seq) {gs : List Seq} (rest : List Seq) → gs ≡ g ∷ rest → newestStamp (newestIn gs) ≡ At (g .stamp)
+unfolding newestIn
+stamp-first g rest e = rw e (stamp-by (length (g .entries)) (g .stamp))
+
 -- ---- a call of one lane
 -- lane L takes machine m and history h to n and k, and the ghosts from ts to us: what it has to show, the other lanes' part is the same for every call
-pub record Moving (z : Sizes) (L : ℕ) (h k : History) (m n : Machine) (ts us : ℕ → Track) : Type 0 where
+-- and `due` and `left` are the slots to come before and after it
+pub record Moving (z : Sizes) (L : ℕ) (h k : History) (m n : Machine) (ts us : ℕ → Track) (due left : ℕ → ℕ) : Type 0 where
   pub track : Track
   pub tracks : TrackTo ts us L track
   pub page : Page
   pub pages : PageTo h k L page
-  pub onward : Onward h k
+  pub given : ℕ
+  pub onward : Onward given h k
+  pub earlier : Earlier z L h given
   pub running : Running z n us
   pub at-base : baseOf (n .cache) ≡ baseOf (m .cache)
   pub phases : (M : ℕ) → M ≢ L → laneAt (n .state) M .phase ≡ laneAt (m .state) M .phase
   pub newest : page .newest ≡ newestIn (track .gs)
   pub entries : (x : Logged) → laneAt (n .state) L .phase ≡ Holds x → (g : Seq) (gs : List Seq) → track .gs ≡ g ∷ gs → g .entries ≡ oldsOf (writesLogged z L k)
-  pub now : All (TrueOf z.words k) (track .gs)
-  pub before : All (TrueOf z.words k) (track .priors)
+  pub now : All (TrueOf z.words k (track .gs)) (track .gs)
+  pub before : All (TrueOf z.words k (track .priors)) (track .priors)
   pub open′ : (g : Seq) → track .gs ≡ g ∷ track .priors → All (λ c. c .stamp ≢ g .stamp) (k .commits)
   pub cells : Cells z n
   -- the data words that it has flushed, and that it flushes for no other
   pub own : (w : ℕ) → w < z.words → flushed L (getD (n .flags) (1 + w) 0) ≡ true → Names track w
   pub others : (M : ℕ) → M ≢ L → (w : ℕ) → w < z.words → flushed M (getD (n .flags) (1 + w) 0) ≡ flushed M (getD (m .flags) (1 + w) 0)
-  -- its floor does not fall, and one that is set is above the clock
-  pub floor : (x : ℕ) → x ≤ h .clock → AtMost (page .floor) x → AtMost (pageAt h L .floor) x
-  -- the sequences of its commits stay; each sequence that was there and whole stays whole, and a new one is; its new commits are backed
+  -- its floor comes down to no sequence that was there
+  pub floor : (M : ℕ) → M < z.lanes → (g : Seq) → In g (ts M .gs) → AtMost (page .floor) (g .stamp) → AtMost (pageAt h L .floor) (g .stamp)
+  -- no other lane has more to come
+  pub coming : (M : ℕ) → M ≢ L → left M ≤ due M
+  -- the sequences of its commits stay; each sequence that was there keeps room for what is to come, and a new one has it; its new commits are backed
   pub stays : (c : Commit) → In c (h .commits) → (g : Seq) → In g (ts L .gs) → g .stamp ≡ c .stamp → In g (track .gs)
   pub kept : (g : Seq) → In g (track .gs)
-      → ((In g (ts L .gs)) × (AtMost (leastFloorOf (h .pages)) (g .stamp) → Whole z.slots (ts L .hist) g → Whole z.slots (track .hist) g))
-      ⊎ (Whole z.slots (track .hist) g)
+      → ((In g (ts L .gs)) × (AtMost (leastFloorOf (h .pages)) (g .stamp) → RoomFor z.slots (due L) (ts L .hist) g
+      → RoomFor z.slots (left L) (track .hist) g))
+      ⊎ (RoomFor z.slots (left L) (track .hist) g)
   pub fresh : (c : Commit) → In c (k .commits) → (In c (h .commits)) ⊎ Backed z k us c
+  pub lock : (x : Locked) → n .state .lock ≡ Held x → (f : List ℕ) → k .lock ≡ some (holderOf x f)
+      → LockTies z.slots (us (x .lane)) (left (x .lane)) x (allWrites z f k)
 
 -- the timestamps of a lane's sequences were given
 module _ (z : Sizes) (base : ℕ) (h : History) (m : Machine) (b : Book z base h m) (t : Ties z base m h) (M : ℕ) (i : M < z.lanes) where
@@ -277,25 +326,25 @@ module _ (z : Sizes) (base : ℕ) (h : History) (m : Machine) (b : Book z base h
   pub given-before : All (λ g. g .stamp ≤ h .clock) (t .ts M .priors)
   given-before = subst (λ (c : ℕ). All (λ g. g .stamp ≤ c) (t .ts M .priors)) (b .live .clock) (t .running .lanes M i .before .upto)
 
--- ties with these ghosts
-pub record TiesOf (z : Sizes) (base : ℕ) (m : Machine) (h : History) (us : ℕ → Track) : Type 0 where
+-- ties with these ghosts and these slots to come
+pub record TiesOf (z : Sizes) (base : ℕ) (m : Machine) (h : History) (us : ℕ → Track) (left : ℕ → ℕ) : Type 0 where
   pub ties : Ties z base m h
   pub tracks : ties .ts ≡ us
+  pub coming : ties .toCome ≡ left
 
 module _ (z : Sizes) (base L : ℕ) (h k : History) (m n : Machine) (b : Book z base h m)
-    (t : Ties z base m h) (us : ℕ → Track) (v : Moving z L h k m n (t .ts) us) where
-  open-other : (M : ℕ) → M < z.lanes → (g : Seq) → t .ts M .gs ≡ g ∷ t .ts M .priors → All (λ c. c .stamp ≢ g .stamp) (k .commits)
-  open-other M i g e = apart-onward z h k (v .onward) (g .stamp) (head (rw e at (given-now z base h m b t M i))) (t .open′ M i g e)
-    where
-      head : {g : Seq} {gs : List Seq} → All (λ g. g .stamp ≤ h .clock) (g ∷ gs) → g .stamp ≤ h .clock
-      head (more p a) = p
+    (t : Ties z base m h) (us : ℕ → Track) (left : ℕ → ℕ) (v : Moving z L h k m n (t .ts) us (t .toCome) left) where
+  open-other : (M : ℕ) → M < z.lanes → M ≢ L → (g : Seq) → t .ts M .gs ≡ g ∷ t .ts M .priors → All (λ c. c .stamp ≢ g .stamp) (k .commits)
+  open-other M i d g e =
+      apart-onward z h k (v .onward) (g .stamp)
+      (v .earlier .others M (g .stamp) i d (ap newestStamp (t .newest M i) ∙ stamp-first g _ e)) (t .open′ M i g e)
 
-  floors : (x : ℕ) → x ≤ h .clock → AtMost (leastFloorOf (k .pages)) x → AtMost (leastFloorOf (h .pages)) x
-  floors x l =
-      least-rises h k x (v .pages .pages)
-      (lane-cases (λ M. AtMost (pageAt k M .floor) x → AtMost (pageAt h M .floor) x) L
-      (λ a. v .floor x l (rw (v .pages .here) at a))
-      (λ M d a. rw (v .pages .others M d) at a))
+  floors : (M : ℕ) → M < z.lanes → (g : Seq) → In g (t .ts M .gs) → AtMost (leastFloorOf (k .pages)) (g .stamp) → AtMost (leastFloorOf (h .pages)) (g .stamp)
+  floors M i g j =
+      least-rises h k (g .stamp) (v .pages .pages)
+      (lane-cases (λ N. AtMost (pageAt k N .floor) (g .stamp) → AtMost (pageAt h N .floor) (g .stamp)) L
+      (λ a. v .floor M i g j (rw (v .pages .here) at a))
+      (λ N d a. rw (v .pages .others N d) at a))
 
   backed-new : (c : Commit) → In c (k .commits) → Backed z k us c
   backed-new c i = go (v .fresh c i)
@@ -309,23 +358,32 @@ module _ (z : Sizes) (base L : ℕ) (h k : History) (m n : Machine) (b : Book z 
           (t .backed c j)
       go (inr w) = w
 
-  whole-old : (M : ℕ) → M < z.lanes → (g : Seq) → In g (t .ts M .gs) → AtMost (leastFloorOf (k .pages)) (g .stamp)
-      → (AtMost (leastFloorOf (h .pages)) (g .stamp)) × Whole z.slots (t .ts M .hist) g
-  whole-old M i g j a =
-      let c = floors (g .stamp) (In-All (given-now z base h m b t M i) j) a in
-      (c, t .whole M i (c .stamp) (c .is) g j (c .low))
+  room-old : (M : ℕ) → M < z.lanes → (g : Seq) → In g (t .ts M .gs) → AtMost (leastFloorOf (k .pages)) (g .stamp)
+      → (AtMost (leastFloorOf (h .pages)) (g .stamp)) × RoomFor z.slots (t .toCome M) (t .ts M .hist) g
+  room-old M i g j a =
+      let c = floors M i g j a in
+      (c, t .room M i (c .stamp) (c .is) g j (c .low))
 
-  whole-new : (M : ℕ) → M < z.lanes → (f : ℕ) → leastFloorOf (k .pages) ≡ At f → (g : Seq) → In g (us M .gs) → f ≤ g .stamp → Whole z.slots (us M .hist) g
-  whole-new =
-      lane-cases (λ M. M < z.lanes → (f : ℕ) → leastFloorOf (k .pages) ≡ At f → (g : Seq) → In g (us M .gs) → f ≤ g .stamp → Whole z.slots (us M .hist) g) L
+  abbrev Rooms : ℕ → Type 0
+  Rooms M = M < z.lanes → (f : ℕ) → leastFloorOf (k .pages) ≡ At f → (g : Seq) → In g (us M .gs) → f ≤ g .stamp → RoomFor z.slots (left M) (us M .hist) g
+
+  room-new : (M : ℕ) → Rooms M
+  room-new =
+      lane-cases Rooms L
       (λ i f e g j l. rw (v .tracks .here) (own i (record { stamp = f; is = e; low = l }) (v .kept g (rw (v .tracks .here) at j))))
-      (λ M d i f e g j l. rw (v .tracks .others M d) (whole-old M i g (rw (v .tracks .others M d) at j) (record { stamp = f; is = e; low = l }) .1))
+      (λ M d i f e g j l.
+      rw (v .tracks .others M d)
+      (less M g (v .coming M d) (room-old M i g (rw (v .tracks .others M d) at j) (record { stamp = f; is = e; low = l }) .1)))
     where
+      less : (M : ℕ) (g : Seq) → left M ≤ t .toCome M → RoomFor z.slots (t .toCome M) (t .ts M .hist) g → RoomFor z.slots (left M) (t .ts M .hist) g
+      less M g l r = omega arith
+
       own : L < z.lanes → {g : Seq} → AtMost (leastFloorOf (k .pages)) (g .stamp)
-          → ((In g (t .ts L .gs)) × (AtMost (leastFloorOf (h .pages)) (g .stamp) → Whole z.slots (t .ts L .hist) g → Whole z.slots (v .track .hist) g))
-          ⊎ (Whole z.slots (v .track .hist) g)
-          → Whole z.slots (v .track .hist) g
-      own i {g} a (inl (j, f)) = let o = whole-old L i g j a in f (o .0) (o .1)
+          → ((In g (t .ts L .gs)) × (AtMost (leastFloorOf (h .pages)) (g .stamp) → RoomFor z.slots (t .toCome L) (t .ts L .hist) g
+          → RoomFor z.slots (left L) (v .track .hist) g))
+          ⊎ (RoomFor z.slots (left L) (v .track .hist) g)
+          → RoomFor z.slots (left L) (v .track .hist) g
+      own i {g} a (inl (j, f)) = let o = room-old L i g j a in f (o .0) (o .1)
       own i a (inr w) = w
 
   ties-new : Ties z base n k
@@ -347,23 +405,25 @@ module _ (z : Sizes) (base L : ℕ) (h k : History) (m n : Machine) (b : Book z 
             t .entries M i x q g gs (ap (λ (t : Track). t .gs) (sym (v .tracks .others M d)) ∙ e)
             ∙ ap oldsOf
             (sym (logged-onward z h k (v .onward) base m M x (b .holding M x i q) (ap (λ (p : Page). p .held) r) (ap (λ (p : Page). p .newest) r))));
-        now = lane-cases (λ M. M < z.lanes → All (TrueOf z.words k) (us M .gs)) L
+        now = lane-cases (λ M. M < z.lanes → All (TrueOf z.words k (us M .gs)) (us M .gs)) L
             (λ i. rw (v .tracks .here) (v .now))
             (λ M d i. rw (v .tracks .others M d) (all-onward z h k (v .onward) (given-now z base h m b t M i) (t .now M i)));
-        before = lane-cases (λ M. M < z.lanes → All (TrueOf z.words k) (us M .priors)) L
+        before = lane-cases (λ M. M < z.lanes → All (TrueOf z.words k (us M .priors)) (us M .priors)) L
             (λ i. rw (v .tracks .here) (v .before))
             (λ M d i. rw (v .tracks .others M d) (all-onward z h k (v .onward) (given-before z base h m b t M i) (t .before M i)));
         open′ = lane-cases (λ M. M < z.lanes → (g : Seq) → us M .gs ≡ g ∷ us M .priors → All (λ c. c .stamp ≢ g .stamp) (k .commits)) L
             (λ i g e. v .open′ g (rw (v .tracks .here) at e))
-            (λ M d i g e. open-other M i g (rw (v .tracks .others M d) at e));
+            (λ M d i g e. open-other M i d g (rw (v .tracks .others M d) at e));
         cells = v .cells;
         flags = lane-cases (λ M. M < z.lanes → (w : ℕ) → w < z.words → flushed M (getD (n .flags) (1 + w) 0) ≡ true → Names (us M) w) L
             (λ i w l e. rw (v .tracks .here) (v .own w l e))
             (λ M d i w l e. rw (v .tracks .others M d) (t .flags M i w l (sym (v .others M d w l) ∙ e)));
         backed = backed-new;
-        whole = whole-new;
+        toCome = left;
+        room = room-new;
+        lock = v .lock;
       }
 
-  pub ties-moved : TiesOf z base n k us
+  pub ties-moved : TiesOf z base n k us left
   unfolding ties-new
-  ties-moved = record { ties = ties-new; tracks = refl }
+  ties-moved = record { ties = ties-new; tracks = refl; coming = refl }

@@ -13,6 +13,9 @@ use Rattle.image.specs.inner.ImageLaws.{sizes-in}
 use Rattle.image.specs.Flush.{flushed, writtenBack}
 use Rattle.image.specs.inner.FlushLaws.{flushed-zero}
 use Rattle.image.specs.declared.Sizes.{Sizes}
+use Rattle.record.specs.Record.{startRecord}
+use Rattle.record.specs.declared.Locked.{Locked}
+use Rattle.record.specs.declared.Lock.the-variants.{Held}
 use Rattle.store.specs.Machine.{Machine}
 use Rattle.store.specs.Calls.{started}
 use Rattle.crash.specs.History.{Commit, Page, History, blankPage, pageAt, opened}
@@ -44,6 +47,10 @@ module _ (z : Sizes) (ok : sizesOk z ≡ true) (lag base : ℕ) (image words : L
   no-more : {A : Type 0} {g : Seq} {gs : List Seq} → _≡_ {A = List Seq} [] (g ∷ gs) → A
   no-more e = absurd (omega (arith, ap length e))
 
+  no-lock : {A : Type 0} (k : Locked) → started lag base image .state .lock ≡ Held k → A
+  unfolding started startRecord
+  no-lock k e = absurd (let z : _≡_ {A = ℕ} 0 1 = cc in omega arith)
+
   pub ties-starts : Ties z base (started lag base image) (opened z lag words base)
   unfolding started opened
   ties-starts =
@@ -59,12 +66,14 @@ module _ (z : Sizes) (ok : sizesOk z ≡ true) (lag base : ℕ) (image words : L
         cells = λ w i. inl refl;
         flags = λ L i w j e. clash _ e (unflushed L w j);
         backed = λ c i. none-in i;
-        whole = λ L i b e g j l. elim j [ ];
+        toCome = λ L. 0;
+        room = λ L i b e g j l. elim j [ ];
+        lock = λ k e f q. no-lock k e;
       }
 
 -- ---- a write-back
 pub ties-writes : (z : Sizes) (base : ℕ) (m : Machine) (h : History) (i : ℕ) → Book z base h m → Ties z base m h
-    → Ties z base (record { state = m .state; cache = m .cache; nvm = writtenBack i (m .cache) (m .nvm); flags = m .flags }) h
+    → Ties z base (record { state = m .state; pairs = m .pairs; cache = m .cache; nvm = writtenBack i (m .cache) (m .nvm); flags = m .flags }) h
 ties-writes z base m h i b t =
     record {
       ts = t .ts;
@@ -78,5 +87,7 @@ ties-writes z base m h i b t =
       cells = cells-writtenBack z m (t .running .shape) (t .cells) i;
       flags = t .flags;
       backed = t .backed;
-      whole = t .whole;
+      toCome = t .toCome;
+      room = t .room;
+      lock = t .lock;
     }

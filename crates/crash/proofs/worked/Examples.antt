@@ -12,17 +12,18 @@ use Rattle.store.specs.Machine.{Machine}
 use Rattle.store.specs.Calls.{started, startImage}
 use Rattle.record.specs.Record.{maxLag, noLane, laneAt}
 use Rattle.record.specs.declared.Lane.{Lane}
-use Rattle.store.specs.declared.Answer.the-variants.{Refused, Done, NoWrites, Logged, Settled, Committed, Stale, Changed, Marked}
+use Rattle.store.specs.declared.Answer.the-variants.{Refused, Done, NoWrites, Logged, Settled, Committed, Stale, Changed, Marked, Locked}
 use Rattle.recovery.specs.Recovery.{Restarted, recoverStep, recoverReadStep}
 use Rattle.recovery.specs.declared.Recovered.{Recovered}
 use Rattle.recovery.specs.declared.Recovered.the-variants as recovereds
 use Rattle.recovery.specs.declared.Recovered.the-variants.{Cut, Finished}
-use Rattle.crash.specs.Events.{logBy, log, redo, validateBy, validate, mark, drain}
+use Rattle.crash.specs.Events.{logBy, log, redo, validateBy, validate, mark, drain, lock, proceed}
 use Rattle.crash.specs.Events.{Event, format, call, writeBack, recover, fails, failsInDrain, failsAfterDrain}
 use Rattle.crash.specs.Events.{failsInRecovery, System, live, down, Reply, answered, recovered, failed, vandzulge, happens}
 use Rattle.crash.specs.Theorem.{endOf}
 use Rattle.crash.proofs.worked.Everything.{everything}
-use Rattle.crash.proofs.worked.Worked.{small, junk, set0, set1, copy, poke, pokePassed, writeBacks, twoLanes}
+use Rattle.crash.proofs.worked.Worked.{small, junk, set0, set1, copy, sets, poke, pokePassed, writeBacks, marks, proceeds, twoLanes}
+use Rattle.crash.proofs.worked.Worked.{tight, rising, overWrap}
 
 -- ---- running a list of events
 unfoldable replies : Sizes → System → List Event → List Reply
@@ -236,11 +237,7 @@ unfolding everything afterAll laneIn
 second-after-first = refl
 
 -- 34 marks fill lane 0's log; lane 1's floor, 2, keeps the first of them from being overwritten
-unfoldable marks : ℕ → List Event
-marks zero = []
-marks (suc n) = call (mark 0) ∷ marks n
-
-full-log : replies small (afterAll small begun (call (mark 1) ∷ marks 34)) (call (mark 0) ∷ []) ≡ answered (Refused 9) ∷ []
+full-log : replies small (afterAll small begun (call (mark 1) ∷ marks 0 34)) (call (mark 0) ∷ []) ≡ answered (Refused 9) ∷ []
 unfolding everything replies afterAll marks
 full-log = refl
 
@@ -306,7 +303,7 @@ unfolding everything afterAll wordsIn
 marked-above-words = refl
 
 -- lane 0's full log again: once lane 1's mark is drained, nothing keeps the first mark from being overwritten
-freed-log : replies small (afterAll small begun (call (mark 1) ∷ call (drain 1) ∷ marks 34)) (call (mark 0) ∷ [])
+freed-log : replies small (afterAll small begun (call (mark 1) ∷ call (drain 1) ∷ marks 0 34)) (call (mark 0) ∷ [])
     ≡ answered (Marked (record { stamp = 72; dropped = false })) ∷ []
 unfolding everything replies afterAll marks
 freed-log = refl
@@ -556,6 +553,186 @@ settled-not : replies small begun
     ∷ []
 unfolding everything replies
 settled-not = refl
+
+-- ---- long transactions
+-- two data words and one lane of 60 slots: an image of 123 words, and the four of its trailer. 40 instructions count 43 slots, as many as leave room for a
+-- sequence of sixteen
+abbrev wide : Sizes
+wide = record { words = 2; lanes = 1; slots = 60 }
+
+-- words 0 and 1 are 9 and 8; 40 marks have moved the lane to slot 40 and the clock to 80
+abbrev moved : System
+moved = afterAll wide (live (started maxLag 0 (startImage wide (9 ∷ 8 ∷ [])))) (marks 0 40)
+
+-- Lock at 82, and six Continues. The three parts stand at slots 40 to 56, 57 to 13 over the wrap, and 14 to 22
+abbrev longList : (n : ℕ) → List Event
+longList n = call (lock 0 (sets 1 40)) ∷ proceeds 0 n
+
+long-replies : replies wide moved (longList 6)
+    ≡ answered (Locked (record { left = 40; stamp = 82 }))
+    ∷ answered (Locked (record { left = 40; stamp = 82 }))
+    ∷ answered (Locked (record { left = 24; stamp = 82 }))
+    ∷ answered (Locked (record { left = 24; stamp = 82 }))
+    ∷ answered (Locked (record { left = 8; stamp = 82 }))
+    ∷ answered (Locked (record { left = 8; stamp = 82 }))
+    ∷ answered (Locked (record { left = 0; stamp = 82 }))
+    ∷ []
+unfolding everything replies afterAll marks proceeds sets
+long-replies = refl
+
+-- of each of the first n + 1 numbers
+unfoldable each : (ℕ → List ℕ) → (n : ℕ) → List (List ℕ)
+each f zero = f 0 ∷ []
+each f (suc n) = each f n ++ (f (suc n) ∷ [])
+
+-- the words that a caller sees, after Lock and after each Continue
+long-seen : each (λ n. cachedIn wide (afterAll wide moved (longList n))) 6
+    ≡ (9 ∷ 8 ∷ []) ∷ (9 ∷ 8 ∷ []) ∷ (16 ∷ 15 ∷ []) ∷ (16 ∷ 15 ∷ []) ∷ (32 ∷ 31 ∷ []) ∷ (32 ∷ 31 ∷ []) ∷ (40 ∷ 39 ∷ []) ∷ []
+unfolding everything afterAll cachedIn marks proceeds sets each
+long-seen = refl
+
+-- power fails after Lock, or after one of the Continues: with all words written back, and with none. Recovery leaves nothing of the transaction
+abbrev none7 : List (List ℕ)
+none7 = (9 ∷ 8 ∷ []) ∷ (9 ∷ 8 ∷ []) ∷ (9 ∷ 8 ∷ []) ∷ (9 ∷ 8 ∷ []) ∷ (9 ∷ 8 ∷ []) ∷ (9 ∷ 8 ∷ []) ∷ (9 ∷ 8 ∷ []) ∷ []
+
+long-cut-back : each (λ n. wordsIn wide (afterAll wide moved (longList n ++ (writeBacks 0 123 ++ (fails junk ∷ recover maxLag 1000 junk ∷ []))))) 6 ≡ none7
+unfolding everything afterAll wordsIn marks proceeds sets each writeBacks
+long-cut-back = refl
+
+long-cut : each (λ n. wordsIn wide (afterAll wide moved (longList n ++ (fails junk ∷ recover maxLag 1000 junk ∷ [])))) 6 ≡ none7
+unfolding everything afterAll wordsIn marks proceeds sets each
+long-cut = refl
+
+-- and inside the drain of the next step: after both data words alone, and after the whole of it
+long-cut-in : each (λ n. wordsIn wide (afterAll wide moved (longList n ++ (failsInDrain (proceed 0) (1 ∷ 2 ∷ []) junk ∷ recover maxLag 1000 junk ∷ [])))) 6
+    ≡ none7
+unfolding everything afterAll wordsIn marks proceeds sets each
+long-cut-in = refl
+
+long-cut-after : each (λ n. wordsIn wide (afterAll wide moved (longList n ++ (failsAfterDrain (proceed 0) junk ∷ recover maxLag 1000 junk ∷ [])))) 6
+    ≡ none7
+unfolding everything afterAll wordsIn marks proceeds sets each
+long-cut-after = refl
+
+-- what recovery answers after the last Continue, all written back: all forty entries are undone
+long-undone : replies wide (afterAll wide moved (longList 6 ++ (writeBacks 0 123 ++ (fails junk ∷ [])))) (recover maxLag 1000 junk ∷ [])
+    ≡ recovered (Finished (record { boundary = At 82; undone = 40; torn = 0 })) ∷ []
+unfolding everything replies afterAll marks proceeds sets writeBacks
+long-undone = refl
+
+-- the lane is marked and drained after it: all of it stays
+long-kept : wordsIn wide (afterAll wide moved (longList 6 ++ (call (mark 0) ∷ call (drain 0) ∷ fails junk ∷ recover maxLag 1000 junk ∷ [])))
+    ≡ 40 ∷ 39 ∷ []
+unfolding everything afterAll wordsIn marks proceeds sets
+long-kept = refl
+
+-- ---- the smallest log with two parts, 36 slots, of which 17 instructions count 19. 19 marks move the lane to slot 19: the first part ends in slot 35,
+-- before the wrap, the second stands in slots 0 and 1. That one is undone first, though its slot is lower
+over-wrap : wordsIn tight (afterAll tight (live (started maxLag 0 (startImage tight (9 ∷ [])))) (overWrap ++ (call (drain 0) ∷ fails junk ∷ [])))
+    ≡ 17 ∷ []
+unfolding everything afterAll wordsIn marks proceeds rising
+over-wrap = refl
+
+over-wrap-undone : wordsIn tight
+    (afterAll tight (live (started maxLag 0 (startImage tight (9 ∷ [])))) (overWrap ++ (call (drain 0) ∷ fails junk ∷ recover maxLag 1000 junk ∷ [])))
+    ≡ 9 ∷ []
+unfolding everything afterAll wordsIn marks proceeds rising
+over-wrap-undone = refl
+
+-- ---- while the lock is held
+-- lane 1 has logged at 2; lane 0 takes the lock at 4 for one write. Steps are refused with 11, but for what comes before it; drains are not
+abbrev whileHeld : List Event
+whileHeld =
+    call (log 1 (set1 9))
+    ∷ call (lock 0 (set0 2))
+    ∷ call (log 0 (set0 3))
+    ∷ call (log 0 [])
+    ∷ call (log 1 (set1 3))
+    ∷ call (redo 1)
+    ∷ call (redo 0)
+    ∷ call (validate 1 (set1 9))
+    ∷ call (mark 1)
+    ∷ call (lock 0 (set0 3))
+    ∷ call (proceed 1)
+    ∷ call (proceed 2)
+    ∷ call (drain 1)
+    ∷ call (proceed 0)
+    ∷ call (mark 0)
+    ∷ call (proceed 0)
+    ∷ call (proceed 0)
+    ∷ call (redo 1)
+    ∷ []
+
+while-held : replies small begun whileHeld
+    ≡ answered (Logged (record { count = 1; stamp = 2 }))
+    ∷ answered (Locked (record { left = 1; stamp = 4 }))
+    ∷ answered (Refused 11)
+    ∷ answered (Refused 11)
+    ∷ answered (Refused 6)
+    ∷ answered (Refused 11)
+    ∷ answered (Refused 7)
+    ∷ answered (Refused 11)
+    ∷ answered (Refused 11)
+    ∷ answered (Refused 11)
+    ∷ answered (Refused 11)
+    ∷ answered (Refused 3)
+    ∷ answered Done
+    ∷ answered (Locked (record { left = 1; stamp = 4 }))
+    ∷ answered (Refused 11)
+    ∷ answered (Locked (record { left = 0; stamp = 4 }))
+    ∷ answered (Refused 7)
+    ∷ answered Stale
+    ∷ []
+unfolding everything replies
+while-held = refl
+
+-- sixteen writes are one part, with no empty one behind it; 17 instructions count 19 slots, which leaves no room for sixteen more in 34; 65 are too many;
+-- and a Lock that writes nothing, word 1 being 0, takes nothing
+whole-part : replies small begun
+    (call (lock 0 (sets 1 17)) ∷ call (lock 0 (sets 1 65)) ∷ call (lock 0 []) ∷ call (lock 0 (5 ∷ 0 ∷ 1 ∷ 1 ∷ set0 3)) ∷ call (proceed 0)
+    ∷ call (lock 0 (sets 1 16)) ∷ proceeds 0 3)
+    ≡ answered (Refused 12)
+    ∷ answered (Refused 5)
+    ∷ answered (Refused 5)
+    ∷ answered NoWrites
+    ∷ answered (Refused 7)
+    ∷ answered (Locked (record { left = 16; stamp = 2 }))
+    ∷ answered (Locked (record { left = 16; stamp = 2 }))
+    ∷ answered (Locked (record { left = 0; stamp = 2 }))
+    ∷ answered (Refused 7)
+    ∷ []
+unfolding everything replies sets proceeds
+whole-part = refl
+
+-- the lag limit binds Lock: lane 0 would lock at 8, with lane 1's floor at 2 and a limit of 2
+lock-lags : replies small (begunLag 2) (call (log 1 (set1 9)) ∷ call (log 0 (set0 2)) ∷ call (redo 0) ∷ call (lock 0 (set0 3)) ∷ [])
+    ≡ answered (Logged (record { count = 1; stamp = 2 }))
+    ∷ answered (Logged (record { count = 1; stamp = 4 }))
+    ∷ answered (Committed 6)
+    ∷ answered (Refused 15)
+    ∷ []
+unfolding everything replies
+lock-lags = refl
+
+-- the timestamp that Lock answers has not been appended, so a drain does not settle the lane with it: the commit at 4 is the boundary, and lost. A
+-- Continue's has
+lock-unsettled : wordsIn small
+    (afterAll small begun (call (log 0 (set0 2)) ∷ call (redo 0) ∷ call (lock 0 (set1 9)) ∷ call (drain 0) ∷ fails junk ∷ recover maxLag 1000 junk ∷ []))
+    ≡ 0 ∷ 0 ∷ []
+unfolding everything afterAll wordsIn
+lock-unsettled = refl
+
+continue-settled : wordsIn small
+    (afterAll small begun
+    (call (log 0 (set0 2)) ∷ call (redo 0) ∷ call (lock 0 (set1 9)) ∷ call (proceed 0) ∷ call (drain 0) ∷ fails junk ∷ recover maxLag 1000 junk ∷ []))
+    ≡ 2 ∷ 0 ∷ []
+unfolding everything afterAll wordsIn
+continue-settled = refl
+
+-- no lane has a floor when the lock is taken at 2, and still the commit at 2 that comes of it can be lost
+lock-unsafe : wordsIn small (afterAll small begun (call (lock 0 (set0 2)) ∷ proceeds 0 2 ++ (fails junk ∷ recover maxLag 1000 junk ∷ []))) ≡ 0 ∷ 0 ∷ []
+unfolding everything afterAll wordsIn proceeds
+lock-unsafe = refl
 
 -- ---- the trailer
 -- the last words of cells and cache after a commit, a cut and a recovery without sizes, and the flags of these words: as Format left them

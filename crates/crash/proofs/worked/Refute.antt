@@ -4,11 +4,11 @@ use Prim.Native.Nat.{ℕ, _+_}
 use mathlib.Core.Path.{_≡_, refl, ap, sym, _∙_}
 use mathlib.Core.Bool.{Bool, true, false, not, _&&_}
 use mathlib.Core.List.{List, [], _∷_, _++_}
-use lib.Dec.{leb, ltb, eqb}
+use lib.Dec.{ltb, eqb}
 use lib.ListN.{length, replicate}
-use borrow.Author.Tests.{leb-true, ltb-true, eq-eqb, eqb-true, not-true}
+use borrow.Author.Tests.{ltb-true, eq-eqb, eqb-true, not-true}
 use Rattle.laws.specs.inner.Tests.{clash, and-left, and-right}
-use Rattle.txn.specs.Txn.{Rule, after}
+use Rattle.txn.specs.Txn.{after}
 use Rattle.image.specs.Image.{trailer, imageLength, dataOf}
 use Rattle.image.specs.declared.Sizes.{Sizes}
 use Rattle.log.specs.declared.Timestamp.{Timestamp}
@@ -20,14 +20,14 @@ use Rattle.store.specs.declared.Answer.{Answer}
 use Rattle.recovery.specs.Recovery.{boundary, allMade, recoverRefusal, told}
 use Rattle.recovery.specs.declared.Recovered.{Recovered}
 use Rattle.recovery.specs.declared.Recovered.the-variants.{Refused, Cut, Finished}
-use Rattle.crash.specs.Events.{Call, logBy, drain, laneOf, Junk, Event, format, call, recover, System, live, down, nvmOf}
+use Rattle.crash.specs.Events.{Call, drain, laneOf, Junk, Event, format, call, recover, System, live, down, nvmOf}
 use Rattle.crash.specs.Events.{Reply, answered, recovered, failed, ignored, Design, happens}
-use Rattle.crash.specs.History.{Commit, History, opened, isBelow, replay, present, wordsBelow, leastFloorOf}
+use Rattle.crash.specs.History.{Commit, History, opened, isBelow, replay, present, visible, wordsBelow, leastFloorOf}
 use Rattle.crash.specs.Theorem.{endOf, InStep, answerBy, formatAnswer, recoveryAnswer, Finishes, Replied, Agrees, CrashTheorem, FormerTheorem}
 use Rattle.crash.specs.Theorem.{mayStore, TrailerTheorem}
-use Rattle.crash.specs.Corollaries.{World, nextWorld, worldAfter, KeptBy, Kept, goesOn, SafeTheorem}
-use Rattle.crash.specs.Corollaries.{isDone, staysIdle, othersFloor, isMark, IdleTheorem, stampsIn, cutCells, LagTheorem}
-use Rattle.crash.specs.Corollaries.{areBelow, getsDrained, SettledTheorem}
+use Rattle.crash.specs.Corollaries.{World, nextWorld, worldAfter, KeptBy, Kept, goesOn, nextCommit, SafeTheorem}
+use Rattle.crash.specs.Corollaries.{isDone, staysIdle, othersFloor, isMark, IdleTheorem, stampsIn, cutCells, isBound, LagTheorem}
+use Rattle.crash.specs.Corollaries.{areBelow, getsDrained, isLock, SettledTheorem}
 use Rattle.crash.proofs.induction.Lists.{holds-after}
 use Rattle.crash.proofs.worked.Everything.{everything}
 
@@ -75,7 +75,7 @@ differ-not s has due t e =
 -- ---- the claims, each as two sides
 -- the cached data words, and the record's clock, after an event
 unfoldable pub wordsSides : Sizes → History → System → Sides
-wordsSides z h (live m) = record { has = dataOf z (m .cache); due = present z h }
+wordsSides z h (live m) = record { has = dataOf z (m .cache); due = visible z h }
 wordsSides z h (down nvm j found) = noSides
 
 unfoldable pub clockSides : History → System → Sides
@@ -87,9 +87,9 @@ unfoldable pub lagSides : History → System → Sides
 lagSides h (live m) = record { has = m .state .lag ∷ []; due = h .lag ∷ [] }
 lagSides h (down nvm j found) = noSides
 
--- an answer's number, and its timestamp where it has one
+-- an answer's number, its timestamp where it has one, and how many writes of a locked transaction are not yet made
 unfoldable pub numbersIn : Answer → List ℕ
-numbersIn a = said a .number ∷ said a .stamp
+numbersIn a = said a .number ∷ (said a .stamp ++ said a .left)
 
 unfoldable pub answerSides : Sizes → History → Call → System → Reply → Sides
 answerSides z h c (live m) (answered a) = record { has = numbersIn a; due = numbersIn (answerBy z c h m) }
@@ -203,7 +203,7 @@ end-due z h (down nvm j found) v = v .ends
 unfoldable pub blank : Sizes → Machine
 blank z =
     let n = imageLength z in
-    record { state = blankRecord; cache = replicate n 0; nvm = replicate n 0; flags = replicate n 0 }
+    record { state = blankRecord; pairs = []; cache = replicate n 0; nvm = replicate n 0; flags = replicate n 0 }
 
 -- the history before Format, which does not matter, and the store with it
 abbrev before : Sizes → History
@@ -362,26 +362,31 @@ module _ (d : Design) (z : Sizes) (lag : ℕ) (start : List ℕ) (es fs : List E
   unfoldable pub atLast : World
   atLast = worldAfter d z (was d z lag start es) fs
 
-  -- Format is taken, s was given, the floors are above it, nothing starts anew, every commit is one of those up to s, and the two sides differ
+  -- Format is taken, every commit to come is above s, the floors are above it, nothing starts anew, every commit is one of those up to s, and the two
+  -- sides differ
   unfoldable pub safeDiffers : (has due : List ℕ) → Bool
   safeDiffers has due =
       eqb (formatRefusal z lag start (blank z)) 0
-      && (leb s (was d z lag start es .history .clock)
+      && (ltb s (nextCommit (was d z lag start es .history .lock) (was d z lag start es .history .clock))
       && (isBelow (leastFloorOf (was d z lag start es .history .pages)) s
       && (goesOn d z (was d z lag start es) fs && (areBelow (At (s + 1)) (atLast .history .commits) && differ (lastSides d z atLast lag₁ limit j) has due))))
+
+  -- the least timestamp of a commit to come
+  abbrev nextAt : ℕ
+  nextAt = nextCommit (was d z lag start es .history .lock) (was d z lag start es .history .clock)
 
   pub wrong-safe : (has due : List ℕ) → safeDiffers has due ≡ true → SafeTheorem d → ⊥
   unfolding safeDiffers lastSides SafeTheorem was atLast
   wrong-safe has due t c =
       let t₁ = and-right (eqb (formatRefusal z lag start (blank z)) 0) _ t in
-      let t₂ = and-right (leb s (was d z lag start es .history .clock)) _ t₁ in
+      let t₂ = and-right (ltb s nextAt) _ t₁ in
       let t₃ = and-right (isBelow (leastFloorOf (was d z lag start es .history .pages)) s) _ t₂ in
       let t₄ = and-right (goesOn d z (was d z lag start es) fs) _ t₃ in
       let x = happens d z (atLast .system) (recover lag₁ limit j) in
       differ-not (lastSides d z atLast lag₁ limit j) has due (and-right (areBelow (At (s + 1)) (atLast .history .commits)) _ t₄)
       (kept-due z (atLast .history) (At (s + 1)) (and-left _ _ t₄) (x .system) (x .reply)
       (c z lag start (blank z) (before z) (eqb-true (formatRefusal z lag start (blank z)) 0 (and-left _ _ t)) es fs s
-      (leb-true s (was d z lag start es .history .clock) (and-left _ _ t₁)) (and-left _ _ t₂) (and-left _ _ t₃) lag₁ limit j))
+      (ltb-true s nextAt (and-left _ _ t₁)) (and-left _ _ t₂) (and-left _ _ t₃) lag₁ limit j))
 
 -- a timestamp as a list of one, or of none
 unfoldable pub stampsOf : Timestamp → List ℕ
@@ -422,41 +427,43 @@ module _ (d : Design) (z : Sizes) (lag : ℕ) (start : List ℕ) (x : Call) (es 
       (c z lag start (blank z) (before z) (eqb-true (formatRefusal z lag start (blank z)) 0 (and-left _ _ t)) x es fs gs
       (and-left _ _ t₁) (and-left _ _ t₂) (and-left _ _ t₃) (and-left _ _ t₄) (and-left _ _ t₅) lag₁ limit j))
 
--- a limit on lost work: after the events es transaction f is logged on lane L with timestamp s; after fs the boundary of the cut is b
-module _ (d : Design) (z : Sizes) (lag : ℕ) (start : List ℕ) (es : List Event) (q : Rule) (L : ℕ) (f : List ℕ) (fs : List Event) where
+-- a limit on lost work: after the events es call x, which the limit binds, answers timestamp s; after fs the boundary of the cut is b
+module _ (d : Design) (z : Sizes) (lag : ℕ) (start : List ℕ) (es : List Event) (x : Call) (fs : List Event) where
   unfoldable pub atBoundary : World
-  atBoundary = worldAfter d z (nextWorld d z (was d z lag start es) (call (logBy q L f))) fs
+  atBoundary = worldAfter d z (nextWorld d z (was d z lag start es) (call x)) fs
 
-  -- Format is taken, Log answers s, nothing starts anew, the boundary is b, and it is further below s than the lag limit
+  -- Format is taken, x is bound and answers s, nothing starts anew, the boundary is b, and it is further below s than the lag limit
   unfoldable pub lossDiffers : (s b : ℕ) → Bool
   lossDiffers s b =
       eqb (formatRefusal z lag start (blank z)) 0
-      && (same (stampsIn (happens d z (was d z lag start es .system) (call (logBy q L f)) .reply)) (s ∷ [])
-      && (goesOn d z (nextWorld d z (was d z lag start es) (call (logBy q L f))) fs
+      && (isBound x
+      && (same (stampsIn (happens d z (was d z lag start es .system) (call x) .reply)) (s ∷ [])
+      && (goesOn d z (nextWorld d z (was d z lag start es) (call x)) fs
       && (same (stampsOf (boundary z (cutCells (atBoundary .system)))) (b ∷ [])
-      && lagPassed (was d z lag start es .history .lag) s (boundary z (cutCells (atBoundary .system))))))
+      && lagPassed (was d z lag start es .history .lag) s (boundary z (cutCells (atBoundary .system)))))))
 
   pub wrong-loss : (s b : ℕ) → lossDiffers s b ≡ true → LagTheorem d → ⊥
   unfolding lossDiffers LagTheorem was atBoundary
   wrong-loss s b t c =
       let t₁ = and-right (eqb (formatRefusal z lag start (blank z)) 0) _ t in
-      let t₂ = and-right (same (stampsIn (happens d z (was d z lag start es .system) (call (logBy q L f)) .reply)) (s ∷ [])) _ t₁ in
-      let t₃ = and-right (goesOn d z (nextWorld d z (was d z lag start es) (call (logBy q L f))) fs) _ t₂ in
-      let t₄ = and-right (same (stampsOf (boundary z (cutCells (atBoundary .system)))) (b ∷ [])) _ t₃ in
-      clash (lagPassed (was d z lag start es .history .lag) s (boundary z (cutCells (atBoundary .system)))) t₄
-      (c z lag start (blank z) (before z) (eqb-true (formatRefusal z lag start (blank z)) 0 (and-left _ _ t)) es fs q L f s
-      (same-true _ _ (and-left _ _ t₁)) (and-left _ _ t₂) .0)
+      let t₂ = and-right (isBound x) _ t₁ in
+      let t₃ = and-right (same (stampsIn (happens d z (was d z lag start es .system) (call x) .reply)) (s ∷ [])) _ t₂ in
+      let t₄ = and-right (goesOn d z (nextWorld d z (was d z lag start es) (call x)) fs) _ t₃ in
+      let t₅ = and-right (same (stampsOf (boundary z (cutCells (atBoundary .system)))) (b ∷ [])) _ t₄ in
+      clash (lagPassed (was d z lag start es .history .lag) s (boundary z (cutCells (atBoundary .system)))) t₅
+      (c z lag start (blank z) (before z) (eqb-true (formatRefusal z lag start (blank z)) 0 (and-left _ _ t)) es fs x s
+      (and-left _ _ t₁) (same-true _ _ (and-left _ _ t₂)) (and-left _ _ t₃) .0)
 
 -- a lane that is settled: call x answers timestamp s after the events es, and recovery comes after fs
 module _ (d : Design) (z : Sizes) (lag : ℕ) (start : List ℕ) (es : List Event) (x : Call) (fs : List Event) (lag₁ limit : ℕ) (j : Junk) where
   unfoldable pub atEnd : World
   atEnd = worldAfter d z (nextWorld d z (was d z lag start es) (call x)) fs
 
-  -- Format is taken, x answers s, nothing starts anew, the lane is drained, k is below s and the floors of the others are above it, every commit is one of
-  -- those up to k, and the two sides differ
+  -- Format is taken, x is not Lock and answers s, nothing starts anew, the lane is drained, k is below s and the floors of the others are above it, every
+  -- commit is one of those up to k, and the two sides differ
   unfoldable pub settledDiffers : (s k : ℕ) (has due : List ℕ) → Bool
   settledDiffers s k has due =
-      eqb (formatRefusal z lag start (blank z)) 0
+      (eqb (formatRefusal z lag start (blank z)) 0 && not (isLock x))
       && (same (stampsIn (happens d z (was d z lag start es .system) (call x) .reply)) (s ∷ [])
       && (goesOn d z (nextWorld d z (was d z lag start es) (call x)) fs
       && (getsDrained d z (laneOf x) (nextWorld d z (was d z lag start es) (call x)) fs
@@ -467,7 +474,8 @@ module _ (d : Design) (z : Sizes) (lag : ℕ) (start : List ℕ) (es : List Even
   pub wrong-settled : (s k : ℕ) (has due : List ℕ) → settledDiffers s k has due ≡ true → SettledTheorem d → ⊥
   unfolding settledDiffers lastSides SettledTheorem was atEnd
   wrong-settled s k has due t c =
-      let t₁ = and-right (eqb (formatRefusal z lag start (blank z)) 0) _ t in
+      let t₀ = and-left (eqb (formatRefusal z lag start (blank z)) 0 && not (isLock x)) _ t in
+      let t₁ = and-right (eqb (formatRefusal z lag start (blank z)) 0 && not (isLock x)) _ t in
       let t₂ = and-right (same (stampsIn (happens d z (was d z lag start es .system) (call x) .reply)) (s ∷ [])) _ t₁ in
       let t₃ = and-right (goesOn d z (nextWorld d z (was d z lag start es) (call x)) fs) _ t₂ in
       let t₄ = and-right (getsDrained d z (laneOf x) (nextWorld d z (was d z lag start es) (call x)) fs) _ t₃ in
@@ -476,8 +484,9 @@ module _ (d : Design) (z : Sizes) (lag : ℕ) (start : List ℕ) (es : List Even
       let y = happens d z (atEnd .system) (recover lag₁ limit j) in
       differ-not (lastSides d z atEnd lag₁ limit j) has due (and-right (areBelow (At (k + 1)) (atEnd .history .commits)) _ t₆)
       (kept-due z (atEnd .history) (At (k + 1)) (and-left _ _ t₆) (y .system) (y .reply)
-      (c z lag start (blank z) (before z) (eqb-true (formatRefusal z lag start (blank z)) 0 (and-left _ _ t)) es fs x s
-      (same-true _ _ (and-left _ _ t₁)) .1 (and-left _ _ t₂) (and-left _ _ t₃) k (ltb-true k s (and-left _ _ t₄)) (and-left _ _ t₅) .1 lag₁ limit j))
+      (c z lag start (blank z) (before z) (eqb-true (formatRefusal z lag start (blank z)) 0 (and-left _ _ t₀)) es fs x s
+      (same-true _ _ (and-left _ _ t₁)) .1 (not-true (isLock x) (and-right (eqb (formatRefusal z lag start (blank z)) 0) _ t₀)) (and-left _ _ t₂)
+      (and-left _ _ t₃) k (ltb-true k s (and-left _ _ t₄)) (and-left _ _ t₅) .1 lag₁ limit j))
 
 -- one name that opens all of this, for the lists that the checker computes
 unfoldable pub refuting : ℕ

@@ -1,6 +1,6 @@
 -- Wrong stores, and for each events after which the crash theorem, or one of the theorems beside it, is false of it: the traps of this design, and
 -- stores that do too little or too much. Assumes nothing.
-use Prim.Native.Nat.{ℕ, zero, suc, _+_, _-_, _*_}
+use Prim.Native.Nat.{ℕ, zero, suc, _+_, _-_, _*_, _/_}
 use mathlib.Core.Path.{refl}
 use mathlib.Core.Bool.{Bool, false, cond, not, _&&_, _||_}
 use mathlib.Core.List.{List, [], _∷_, _++_}
@@ -11,37 +11,43 @@ use Rattle.image.specs.Image.{formerLength, allAre, formatOk, sizesAtEnd, trail
 use Rattle.image.specs.Flush.{flushAll}
 use Rattle.image.specs.Stores.{Store, stored}
 use Rattle.image.specs.declared.Sizes.{Sizes}
-use Rattle.log.specs.Log.{Old, Complete, completeIn, latestIn, given, contribution}
+use Rattle.log.specs.Log.{Old, Complete, completeIn, ordered, latestIn, given, contribution}
 use Rattle.log.specs.Append.{circular}
 use Rattle.log.specs.declared.Latest.{Latest}
 use Rattle.log.specs.declared.Latest.the-variants.{Nothing, Is}
 use Rattle.log.specs.declared.Timestamp.{Timestamp}
 use Rattle.log.specs.declared.Timestamp.the-variants.{None, At}
-use Rattle.record.specs.Record.{maxLag, lagOk, blankRecord, noPair, laneAt, isLogged, loggedIn, lesser, boundOf, lagPassed, withLane, withClock}
+use Rattle.record.specs.Record.{maxLag, lagOk, blankRecord, noPair, noPairs, laneAt, isLogged, loggedIn, lesser, boundOf, lagPassed, withLane, withClock}
+use Rattle.record.specs.Record.{isHeld, lockedIn, withLast, withLock}
 use Rattle.record.specs.declared.Lane.{Lane}
+use Rattle.record.specs.declared.Locked.{Locked}
+use Rattle.record.specs.declared.Lock.{Lock}
+use Rattle.record.specs.declared.Lock.the-variants.{Free, Held}
 use Rattle.store.specs.Machine.{Machine, Step, firstCause, unless, said}
 use Rattle.store.specs.Calls.{badLag, startImage, started, drained, wouldLag, wouldHit, writesOn, appended, marked, logged}
 use Rattle.store.specs.Calls.{formatStep, writeBackStep, drainStep, logTxnStepBy, settleRefusal, settleStep, logRefusalBy}
 use Rattle.store.specs.Calls.{logStepBy, redoStep, validateStepBy, markStep}
+use Rattle.store.specs.Locks.{lockRefusal, locked, lockStep, proceedRefusal, nextStep, proceedStep}
 use Rattle.record.specs.declared.Phase.the-variants.{Idle}
-use Rattle.store.specs.declared.Answer.the-variants.{Refused, NoWrites, Logged, Settled, Stale}
-use Rattle.recovery.specs.Recovery.{boundary, completeOf, ordered, undoneFrom, undone, undoSequences, undoStores, newBase, tornIn, zeros, recoveredNvm}
+use Rattle.store.specs.declared.Answer.the-variants.{Refused, NoWrites, Logged, Settled, Stale, Locked as LockedAnswer}
+use Rattle.recovery.specs.Recovery.{boundary, completeOf, undoneFrom, undone, undoSequences, undoStores, newBase, tornIn, zeros, recoveredNvm}
 use Rattle.recovery.specs.Recovery.{Restarted, recoveredBy, oddBase, recoverRefusal, recoverStep, recoverReadRefusal, recoverReadStep}
 use Rattle.recovery.specs.declared.Finished.{Finished}
 use Rattle.recovery.specs.declared.Recovered.{Recovered}
 use Rattle.recovery.specs.declared.Recovered.the-variants as recovereds
-use Rattle.crash.specs.Events.{Call, logBy, log, redo, validateBy, validate, mark, drain, Event, format, writeBack, call, recover, fails, failsInDrain}
+use Rattle.crash.specs.Events.{Call, logBy, log, redo, validateBy, validate, mark, drain, lock, proceed}
+use Rattle.crash.specs.Events.{Event, format, writeBack, call, recover, fails, failsInDrain}
 use Rattle.crash.specs.Events.{Design, callStep}
 use Rattle.crash.specs.Theorem.{CrashTheorem, FormerTheorem, TrailerTheorem}
 use Rattle.crash.specs.Corollaries.{SafeTheorem, IdleTheorem, LagTheorem, SettledTheorem}
-use Rattle.crash.proofs.worked.Worked.{small, junk, set0, set1, copy, poke, pokePassed, writeBacks, twoLanes}
+use Rattle.crash.proofs.worked.Worked.{small, junk, set0, set1, copy, poke, pokePassed, writeBacks, marks, proceeds, twoLanes, tight, rising, overWrap}
 use Rattle.crash.proofs.worked.Refute.{wrong-words, wrong-end, wrong-clock, wrong-lag, wrong-format, wrong-answer, wrong-count, wrong-recovery}
 use Rattle.crash.proofs.worked.Refute.{wrong-former, wrong-trailer, wrong-safe, wrong-idle, wrong-loss, wrong-settled, refuting}
 
 -- A refutation names the store, the sizes, the lag limit, the start words, the events, then the last event, and two lists: the numbers that the store has at
 -- its end, and those that the theorem gives. `wrong-recovery` looks at the data words after a recovery, `wrong-count` at how many entries it says to have
 -- undone and how many torn slots to have found, `wrong-words` at the cached data words, `wrong-end` at the trailer in cells and cache and at its flags,
--- `wrong-clock` at the clock, `wrong-lag` at the lag limit, `wrong-answer` and `wrong-format` at the number and the timestamp of an answer. `wrong-former`,
+-- `wrong-clock` at the clock, `wrong-lag` at the lag limit, `wrong-answer` and `wrong-format` at the numbers of an answer. `wrong-former`,
 -- `wrong-trailer`, `wrong-safe`, `wrong-idle`, `wrong-loss` and `wrong-settled` are of the theorems about images of the former length, who stores to the
 -- trailer, commits that can no longer be lost, an idle lane, lost work, and a lane that is settled. `refl` computes the list and sees that they differ.
 
@@ -62,6 +68,8 @@ logging f rest z (redo L) m = rest z (redo L) m
 logging f rest z (validateBy r L g) m = rest z (validateBy r L g) m
 logging f rest z (mark L) m = rest z (mark L) m
 logging f rest z (drain L) m = rest z (drain L) m
+logging f rest z (lock L g) m = rest z (lock L g) m
+logging f rest z (proceed L) m = rest z (proceed L) m
 
 -- Log of no words
 unfoldable settling : (Sizes → ℕ → Machine → Step) → Calls → Calls
@@ -71,6 +79,8 @@ settling f rest z (redo L) m = rest z (redo L) m
 settling f rest z (validateBy r L g) m = rest z (validateBy r L g) m
 settling f rest z (mark L) m = rest z (mark L) m
 settling f rest z (drain L) m = rest z (drain L) m
+settling f rest z (lock L g) m = rest z (lock L g) m
+settling f rest z (proceed L) m = rest z (proceed L) m
 
 unfoldable redoing : (Sizes → ℕ → Machine → Step) → Calls → Calls
 redoing f rest z (logBy r L g) m = rest z (logBy r L g) m
@@ -78,6 +88,8 @@ redoing f rest z (redo L) m = f z L m
 redoing f rest z (validateBy r L g) m = rest z (validateBy r L g) m
 redoing f rest z (mark L) m = rest z (mark L) m
 redoing f rest z (drain L) m = rest z (drain L) m
+redoing f rest z (lock L g) m = rest z (lock L g) m
+redoing f rest z (proceed L) m = rest z (proceed L) m
 
 unfoldable validating : (Rule → Sizes → ℕ → List ℕ → Machine → Step) → Calls → Calls
 validating f rest z (logBy r L g) m = rest z (logBy r L g) m
@@ -85,6 +97,8 @@ validating f rest z (redo L) m = rest z (redo L) m
 validating f rest z (validateBy r L g) m = f r z L g m
 validating f rest z (mark L) m = rest z (mark L) m
 validating f rest z (drain L) m = rest z (drain L) m
+validating f rest z (lock L g) m = rest z (lock L g) m
+validating f rest z (proceed L) m = rest z (proceed L) m
 
 unfoldable marking : (Sizes → ℕ → Machine → Step) → Calls → Calls
 marking f rest z (logBy r L g) m = rest z (logBy r L g) m
@@ -92,6 +106,8 @@ marking f rest z (redo L) m = rest z (redo L) m
 marking f rest z (validateBy r L g) m = rest z (validateBy r L g) m
 marking f rest z (mark L) m = f z L m
 marking f rest z (drain L) m = rest z (drain L) m
+marking f rest z (lock L g) m = rest z (lock L g) m
+marking f rest z (proceed L) m = rest z (proceed L) m
 
 unfoldable draining : (Sizes → ℕ → Machine → Step) → Calls → Calls
 draining f rest z (logBy r L g) m = rest z (logBy r L g) m
@@ -99,6 +115,27 @@ draining f rest z (redo L) m = rest z (redo L) m
 draining f rest z (validateBy r L g) m = rest z (validateBy r L g) m
 draining f rest z (mark L) m = rest z (mark L) m
 draining f rest z (drain L) m = f z L m
+draining f rest z (lock L g) m = rest z (lock L g) m
+draining f rest z (proceed L) m = rest z (proceed L) m
+
+-- Lock and Continue
+unfoldable locking : (Sizes → ℕ → List ℕ → Machine → Step) → Calls → Calls
+locking f rest z (logBy r L g) m = rest z (logBy r L g) m
+locking f rest z (redo L) m = rest z (redo L) m
+locking f rest z (validateBy r L g) m = rest z (validateBy r L g) m
+locking f rest z (mark L) m = rest z (mark L) m
+locking f rest z (drain L) m = rest z (drain L) m
+locking f rest z (lock L g) m = f z L g m
+locking f rest z (proceed L) m = rest z (proceed L) m
+
+unfoldable proceeding : (Sizes → ℕ → Machine → Step) → Calls → Calls
+proceeding f rest z (logBy r L g) m = rest z (logBy r L g) m
+proceeding f rest z (redo L) m = rest z (redo L) m
+proceeding f rest z (validateBy r L g) m = rest z (validateBy r L g) m
+proceeding f rest z (mark L) m = rest z (mark L) m
+proceeding f rest z (drain L) m = rest z (drain L) m
+proceeding f rest z (lock L g) m = rest z (lock L g) m
+proceeding f rest z (proceed L) m = f z L m
 
 -- in what its Format leaves, by the machine that it was handed and the one that ours leaves
 unfoldable formatting : (Sizes → (found left : Machine) → Machine) → Design
@@ -119,7 +156,7 @@ recoverBy stores z lag limit number m =
     cond (eqb number 0)
     (cond (leb (length (stores z (m .nvm))) limit)
     (record { answer = recoveredBy z lag limit 0 m .answer; machine = started lag (baseOf nvm) nvm })
-    (record { answer = recovereds.Cut; machine = record { state = m .state; cache = m .cache; nvm = nvm; flags = m .flags } }))
+    (record { answer = recovereds.Cut; machine = record { state = m .state; pairs = m .pairs; cache = m .cache; nvm = nvm; flags = m .flags } }))
     (record { answer = recovereds.Refused number; machine = m })
 
 unfoldable storing : (Sizes → List ℕ → List Store) → Design
@@ -166,14 +203,13 @@ clearing z = zeros (1 + z.words) (2 * z.lanes * z.slots)
 -- the same step, but for the cached image; and but for the state of lane L
 unfoldable withCache : List ℕ → Step → Step
 withCache cache s =
-    record { answer = s .answer; machine = record { state = s .machine .state; cache = cache; nvm = s .machine .nvm; flags = s .machine .flags } }
+    let m = s .machine in
+    record { answer = s .answer; machine = record { state = m .state; pairs = m .pairs; cache = cache; nvm = m .nvm; flags = m .flags } }
 
 unfoldable withLaneOf : ℕ → Lane → Step → Step
 withLaneOf L l s =
-    record {
-      answer = s .answer;
-      machine = record { state = withLane (s .machine .state) L l; cache = s .machine .cache; nvm = s .machine .nvm; flags = s .machine .flags };
-    }
+    let m = s .machine in
+    record { answer = s .answer; machine = record { state = withLane (m .state) L l; pairs = m .pairs; cache = m .cache; nvm = m .nvm; flags = m .flags } }
 
 unfoldable laneIn : ℕ → Step → Lane
 laneIn L s = laneAt (s .machine .state) L
@@ -195,8 +231,8 @@ allBackAndCut = writeBacks 0 139 ++ (fails junk ∷ [])
 
 -- one name that opens all of this
 unfoldable made : ℕ
-unfolding refuting writeBacks calling logging settling redoing validating marking draining formatting recoverBy storing finishedAs told-as telling withTorn
-    base clearing withCache withLaneOf laneIn unfloored joined
+unfolding refuting writeBacks calling logging settling redoing validating marking draining locking proceeding formatting recoverBy storing
+    finishedAs told-as telling withTorn base clearing withCache withLaneOf laneIn unfloored joined
 made = 0
 
 -- ---- the traps
@@ -334,7 +370,7 @@ no-first-floor =
 -- ---- too little, or too much
 -- 8. Recovery undoes every transaction: a commit that was drained and marked is lost
 unfoldable undoesEvery : Design
-undoesEvery = storing (λ z image. undoSequences (ordered (completeOf z image z.lanes)) ++ (base z image ++ clearing z))
+undoesEvery = storing (λ z image. undoSequences (let qs = completeOf z image z.lanes in ordered qs qs) ++ (base z image ++ clearing z))
 
 undoes-every : CrashTheorem undoesEvery → ⊥
 unfolding made undoesEvery
@@ -443,7 +479,9 @@ unaltering = wrong-clock unaltered small maxLag (0 ∷ 0 ∷ []) [] (call (log 0
 -- 18. A Format that leaves the logs as they were: a sequence of before it is undone over the new start words
 unfoldable keepsLogs : Design
 keepsLogs =
-    formatting (λ z m s. record { state = s .state; cache = joined z (s .cache) (m .cache); nvm = joined z (s .nvm) (m .nvm); flags = s .flags })
+    formatting
+    (λ z m s.
+    record { state = s .state; pairs = s .pairs; cache = joined z (s .cache) (m .cache); nvm = joined z (s .nvm) (m .nvm); flags = s .flags })
 
 keeps-logs : CrashTheorem keepsLogs → ⊥
 unfolding made keepsLogs
@@ -524,7 +562,9 @@ redo-refuses = wrong-answer redoRefuses small maxLag (3 ∷ 0 ∷ []) (call (log
 unfoldable trailerCached : Design
 trailerCached =
     formatting
-    (λ z m s. record { state = s .state; cache = s .cache; nvm = take (formerLength z) (s .nvm) ++ drop (formerLength z) (m .nvm); flags = s .flags })
+    (λ z m s.
+    let nvm = take (formerLength z) (s .nvm) ++ drop (formerLength z) (m .nvm) in
+    record { state = s .state; pairs = s .pairs; cache = s .cache; nvm = nvm; flags = s .flags })
 
 trailer-cached : CrashTheorem trailerCached → ⊥
 unfolding made trailerCached
@@ -534,7 +574,9 @@ trailer-cached = wrong-end trailerCached small maxLag (0 ∷ 0 ∷ []) [] (fails
 unfoldable trailerStored : Design
 trailerStored =
     formatting
-    (λ z m s. record { state = s .state; cache = take (formerLength z) (s .cache) ++ drop (formerLength z) (m .cache); nvm = s .nvm; flags = s .flags })
+    (λ z m s.
+    let cache = take (formerLength z) (s .cache) ++ drop (formerLength z) (m .cache) in
+    record { state = s .state; pairs = s .pairs; cache = cache; nvm = s .nvm; flags = s .flags })
 
 trailer-stored : CrashTheorem trailerStored → ⊥
 unfolding made trailerStored
@@ -560,8 +602,9 @@ trailerFlushed =
     let s = markStep z L m in
     let n = formerLength z in
     let flags = flushAll L (n ∷ (n + 1) ∷ (n + 2) ∷ (n + 3) ∷ []) (s .machine .flags) in
+    let n = s .machine in
     cond (said (s .answer) .refused) s
-    (record { answer = s .answer; machine = record { state = s .machine .state; cache = s .machine .cache; nvm = s .machine .nvm; flags = flags } }))
+    (record { answer = s .answer; machine = record { state = n .state; pairs = n .pairs; cache = n .cache; nvm = n .nvm; flags = flags } }))
     callStep)
 
 trailer-flushed : CrashTheorem trailerFlushed → ⊥
@@ -613,7 +656,7 @@ takes-sized : FormerTheorem takesSized → ⊥
 unfolding made takesSized
 takes-sized =
     wrong-former takesSized small maxLag 1000
-    (record { state = blankRecord; cache = replicate 139 0; nvm = replicate 139 0; flags = replicate 139 0 }) [] (0 ∷ 0 ∷ []) refl
+    (record { state = blankRecord; pairs = noPairs; cache = replicate 139 0; nvm = replicate 139 0; flags = replicate 139 0 }) [] (0 ∷ 0 ∷ []) refl
 
 -- 30. A call that writes the trailer back with its drain: that shows where the cache holds something else there
 unfoldable trailerDrained : Design
@@ -622,14 +665,15 @@ trailerDrained =
     (λ z c m.
     let s = callStep z c m in
     let nvm = take (formerLength z) (s .machine .nvm) ++ drop (formerLength z) (s .machine .cache) in
+    let n = s .machine in
     cond (said (s .answer) .refused) s
-    (record { answer = s .answer; machine = record { state = s .machine .state; cache = s .machine .cache; nvm = nvm; flags = s .machine .flags } }))
+    (record { answer = s .answer; machine = record { state = n .state; pairs = n .pairs; cache = n .cache; nvm = nvm; flags = n .flags } }))
 
 trailer-drained : TrailerTheorem trailerDrained → ⊥
 unfolding made trailerDrained
 trailer-drained =
     wrong-trailer trailerDrained small
-    (record { state = blankRecord; cache = replicate 143 0; nvm = startImage small (0 ∷ 0 ∷ []); flags = replicate 143 0 })
+    (record { state = blankRecord; pairs = noPairs; cache = replicate 143 0; nvm = startImage small (0 ∷ 0 ∷ []); flags = replicate 143 0 })
     (call (drain 0)) (0 ∷ 0 ∷ 0 ∷ 0 ∷ []) (2 ∷ 2 ∷ 34 ∷ 139 ∷ []) refl
 
 -- ---- marked lanes
@@ -735,7 +779,8 @@ by-oldest =
 unfoldable withLag : ℕ → Machine → Machine
 withLag lag m =
     record {
-      state = record { clock = m .state .clock; last = m .state .last; lanes = m .state .lanes; lag = lag };
+      state = record { clock = m .state .clock; last = m .state .last; lanes = m .state .lanes; lag = lag; lock = m .state .lock };
+      pairs = m .pairs;
       cache = m .cache;
       nvm = m .nvm;
       flags = m .flags;
@@ -766,7 +811,7 @@ neverLags = lagging (λ z L f m. false)
 
 never-lags : LagTheorem neverLags → ⊥
 unfolding made neverLags lagging withLag
-never-lags = wrong-loss neverLags small 2 (0 ∷ 0 ∷ []) lane0Ahead current 0 (set0 3) (fails junk ∷ []) 8 2 refl
+never-lags = wrong-loss neverLags small 2 (0 ∷ 0 ∷ []) lane0Ahead (log 0 (set0 3)) (fails junk ∷ []) 8 2 refl
 
 -- 38. A timestamp at the limit is refused: 4, with a floor of 2 and a limit of 2
 unfoldable reaches : (lag s : ℕ) → Timestamp → Bool
@@ -827,13 +872,9 @@ fullFirst =
     (λ r z L f m. cond (eqb (logRefusalBy r z L f (withLag maxLag m)) 9) (record { answer = Refused 9; machine = m }) (logStepBy r z L f m))
     callStep)
 
-unfoldable marksOf : (L n : ℕ) → List Event
-marksOf L zero = []
-marksOf L (suc n) = call (mark L) ∷ marksOf L n
-
 full-first : CrashTheorem fullFirst → ⊥
-unfolding made fullFirst withLag marksOf
-full-first = wrong-answer fullFirst small 2 (0 ∷ 0 ∷ []) (call (mark 1) ∷ marksOf 0 34) (log 0 (set0 2)) (9 ∷ []) (15 ∷ []) refl
+unfolding made fullFirst withLag marks
+full-first = wrong-answer fullFirst small 2 (0 ∷ 0 ∷ []) (call (mark 1) ∷ marks 0 34) (log 0 (set0 2)) (9 ∷ []) (15 ∷ []) refl
 
 -- 44. Recovery makes a record with a limit of its own, not with the one that it is given
 unfoldable forgetsLag : Design
@@ -905,7 +946,7 @@ appendsNothing =
     let d = drained z L m in
     let s = m .state .clock + 2 in
     unless (settleRefusal z L m) m
-    (record { answer = Settled s; machine = record { state = withClock (d .state) s; cache = d .cache; nvm = d .nvm; flags = d .flags } }))
+    (record { answer = Settled s; machine = record { state = withClock (d .state) s; pairs = d .pairs; cache = d .cache; nvm = d .nvm; flags = d .flags } }))
     callStep)
 
 appends-nothing : SettledTheorem appendsNothing → ⊥
@@ -952,28 +993,28 @@ drops-logged = wrong-answer (despite 6) small maxLag (0 ∷ 0 ∷ []) (call (log
 -- 52. The lag limit does not bind it. Lane 0 is settled at 8 with a limit of 2, and the boundary is 2
 settles-late : LagTheorem (despite 15) → ⊥
 unfolding made despite
-settles-late = wrong-loss (despite 15) small 2 (0 ∷ 0 ∷ []) lane0Ahead current 0 [] (fails junk ∷ []) 8 2 refl
+settles-late = wrong-loss (despite 15) small 2 (0 ∷ 0 ∷ []) lane0Ahead (log 0 []) (fails junk ∷ []) 8 2 refl
 
 -- 53. It is never refused with 9. Lane 1 is marked at 2 and keeps that floor; 34 marks have filled lane 0's log
 settles-over : CrashTheorem (despite 9) → ⊥
-unfolding made despite marksOf
-settles-over = wrong-answer (despite 9) small maxLag (0 ∷ 0 ∷ []) (call (mark 1) ∷ marksOf 0 34) (log 0 []) (0 ∷ 72 ∷ []) (9 ∷ []) refl
+unfolding made despite marks
+settles-over = wrong-answer (despite 9) small maxLag (0 ∷ 0 ∷ []) (call (mark 1) ∷ marks 0 34) (log 0 []) (0 ∷ 72 ∷ []) (9 ∷ []) refl
 
 -- 54. Two slots are counted for it. One is free
 unfoldable twoSlots : Design
 twoSlots = calling (settling (λ z L m. cond (wouldHit z L 2 m) (record { answer = Refused 9; machine = m }) (settleStep z L m)) callStep)
 
 two-slots : CrashTheorem twoSlots → ⊥
-unfolding made twoSlots marksOf
-two-slots = wrong-answer twoSlots small maxLag (0 ∷ 0 ∷ []) (call (mark 1) ∷ marksOf 0 33) (log 0 []) (9 ∷ []) (0 ∷ 70 ∷ []) refl
+unfolding made twoSlots marks
+two-slots = wrong-answer twoSlots small maxLag (0 ∷ 0 ∷ []) (call (mark 1) ∷ marks 0 33) (log 0 []) (9 ∷ []) (0 ∷ 70 ∷ []) refl
 
 -- 55. 15 comes before 6. Lane 1 has logged at 2; two marks of lane 0 take the clock past the limit
 unfoldable lagBeforeHeld : Design
 lagBeforeHeld = calling (settling (λ z L m. cond (wouldLag z L m) (record { answer = Refused 15; machine = m }) (settleStep z L m)) callStep)
 
 lag-before-held : CrashTheorem lagBeforeHeld → ⊥
-unfolding made lagBeforeHeld marksOf
-lag-before-held = wrong-answer lagBeforeHeld small 2 (0 ∷ 0 ∷ []) (call (log 1 (set1 9)) ∷ marksOf 0 2) (log 1 []) (15 ∷ []) (6 ∷ []) refl
+unfolding made lagBeforeHeld marks
+lag-before-held = wrong-answer lagBeforeHeld small 2 (0 ∷ 0 ∷ []) (call (log 1 (set1 9)) ∷ marks 0 2) (log 1 []) (15 ∷ []) (6 ∷ []) refl
 
 -- 56. It is checked as any transaction is, and refused with 5
 unfoldable refusesEmpty : Design
@@ -998,3 +1039,231 @@ validatesEmpty = calling (validating (λ r z L f m. cond (eqb (length f) 0) (set
 validates-empty : CrashTheorem validatesEmpty → ⊥
 unfolding made validatesEmpty
 validates-empty = wrong-answer validatesEmpty small maxLag (0 ∷ 0 ∷ []) [] (validate 0 []) (0 ∷ 2 ∷ []) (5 ∷ []) refl
+
+-- ---- long transactions
+-- a lock that is taken after all where it would be refused by this number
+unfoldable lockTaken : Sizes → ℕ → List ℕ → Machine → Step
+lockTaken z L f m =
+    let ws = writesOn z f m in
+    record { answer = LockedAnswer (record { left = length ws; stamp = m .state .clock + 2 }); machine = locked L ws (drained z L m) }
+
+unfoldable locksDespite : ℕ → Design
+locksDespite n = calling (locking (λ z L f m. cond (eqb (lockRefusal z L f m) n) (lockTaken z L f m) (lockStep z L f m)) callStep)
+
+-- a step with another lock in the record
+unfoldable withLockOf : Lock → Machine → Machine
+withLockOf k m = record { state = withLock (m .state) k; pairs = m .pairs; cache = m .cache; nvm = m .nvm; flags = m .flags }
+
+-- one that goes on as if the lock were free, and leaves it as it is
+unfoldable unlocked : (Machine → Step) → Machine → Step
+unlocked f m = let s = f (withLockOf Free m) in record { answer = s .answer; machine = withLockOf (m .state .lock) (s .machine) }
+
+-- the transaction that holds the lock
+unfoldable holder : Machine → Locked
+holder m = lockedIn (m .state .lock)
+
+unfoldable isLogging : Machine → Bool
+isLogging m = eqb (holder m .logged) (holder m .written)
+
+unfoldable long : ℕ
+unfolding made lockTaken locksDespite withLockOf unlocked holder isLogging rising marks proceeds additions
+long = 0
+
+-- 59. Of one lane's sequences of one timestamp that of the higher slot is undone first. The two parts stand on both sides of the wrap: the first is undone
+-- first, and the old value of the second is left
+unfoldable slotBefore : Complete → Complete → Bool
+slotBefore q r = ltb r.stamp q.stamp || (eqb r.stamp q.stamp && (ltb r.lane q.lane || (eqb r.lane q.lane && ltb r.slot q.slot)))
+
+unfoldable insertBySlot : Complete → List Complete → List Complete
+insertBySlot q [] = q ∷ []
+insertBySlot q (r ∷ rs) = cond (slotBefore q r) (q ∷ r ∷ rs) (r ∷ insertBySlot q rs)
+
+unfoldable orderedBySlot : List Complete → List Complete
+orderedBySlot [] = []
+orderedBySlot (q ∷ qs) = insertBySlot q (orderedBySlot qs)
+
+unfoldable bySlot : Design
+bySlot = storing (λ z image. undoSequences (orderedBySlot (undone z image)) ++ (base z image ++ clearing z))
+
+by-slot : CrashTheorem bySlot → ⊥
+unfolding long bySlot orderedBySlot insertBySlot slotBefore
+by-slot =
+    wrong-recovery bySlot tight maxLag (9 ∷ []) (overWrap ++ (call (drain 0) ∷ fails junk ∷ [])) maxLag 1000 junk (16 ∷ []) (9 ∷ []) refl
+
+-- 60. Slots are counted for the first part alone. What lane 1 logged at 2 is the boundary; lane 0 commits sixteen additions, in slots 0 to 16, and is
+-- marked, in slot 17. The second part, in slots 35 and 0, is logged over the first addition's entry, so they are not undone
+unfoldable firstPart : Design
+firstPart =
+    calling
+    (locking (λ z L f m. cond (eqb (lockRefusal z L f m) 9 && not (wouldHit z L 17 m)) (lockTaken z L f m) (lockStep z L f m)) callStep)
+
+first-part : CrashTheorem firstPart → ⊥
+unfolding long firstPart
+first-part =
+    wrong-recovery firstPart (record { words = 2; lanes = 2; slots = 36 }) maxLag (0 ∷ 0 ∷ [])
+    (call (log 1 copy) ∷ call (log 0 (additions 16)) ∷ call (redo 0) ∷ call (mark 0) ∷ call (lock 0 (rising 1 17)) ∷ proceeds 0 4
+    ++ (writeBacks 0 147 ++ (fails junk ∷ [])))
+    maxLag 1000 junk (16 ∷ 0 ∷ []) (0 ∷ 0 ∷ []) refl
+
+-- 61. Slots are counted by writes, not by instructions: one write, since word 1 is 0, of three instructions. Lane 1 is marked at 2 and keeps that floor; 31
+-- marks leave three slots of lane 0
+unfoldable countsWrites : Design
+countsWrites =
+    calling
+    (locking
+    (λ z L f m.
+    let n = length (writesOn z f m) in
+    cond (eqb (lockRefusal z L f m) 9 && not (wouldHit z L (n + (n + 15) / 16) m)) (lockTaken z L f m) (lockStep z L f m)) callStep)
+
+counts-writes : CrashTheorem countsWrites → ⊥
+unfolding long countsWrites
+counts-writes =
+    wrong-answer countsWrites small maxLag (0 ∷ 0 ∷ []) (call (mark 1) ∷ marks 0 31) (lock 0 (5 ∷ 0 ∷ 1 ∷ 1 ∷ set0 3 ++ set0 4)) (0 ∷ 66 ∷ 1 ∷ []) (9 ∷ []) refl
+
+-- 62. 12 is not asked for
+unasked-12 : CrashTheorem (locksDespite 12) → ⊥
+unfolding long
+unasked-12 = wrong-answer (locksDespite 12) small maxLag (0 ∷ 0 ∷ []) [] (lock 0 (rising 1 17)) (0 ∷ 2 ∷ 17 ∷ []) (12 ∷ []) refl
+
+-- 63. The lag limit does not bind Lock. Lane 0 locks at 8 with a limit of 2, and the boundary is 2
+locks-late : LagTheorem (locksDespite 15) → ⊥
+unfolding long
+locks-late = wrong-loss (locksDespite 15) small 2 (0 ∷ 0 ∷ []) lane0Ahead (lock 0 (set0 3)) (fails junk ∷ []) 8 2 refl
+
+-- 64. The last part does not set the last commit. Lane 1 has logged a COPY of word 0 before Lock, and commits it after the last part: it is not stale
+unfoldable lastUnset : Design
+lastUnset =
+    calling
+    (proceeding
+    (λ z L m.
+    let s = proceedStep z L m in
+    let n = s .machine in
+    record {
+      answer = s .answer;
+      machine = record { state = withLast (n .state) (m .state .last); pairs = n .pairs; cache = n .cache; nvm = n .nvm; flags = n .flags };
+    })
+    callStep)
+
+last-unset : CrashTheorem lastUnset → ⊥
+unfolding long lastUnset
+last-unset =
+    wrong-answer lastUnset small maxLag (0 ∷ 0 ∷ []) (call (log 1 copy) ∷ call (lock 0 (set0 2)) ∷ proceeds 0 2) (redo 1) (0 ∷ 6 ∷ []) (0 ∷ []) refl
+
+-- 65. The lock is free once the last part is logged
+unfoldable freedAtLog : Design
+freedAtLog =
+    calling
+    (proceeding
+    (λ z L m.
+    let s = proceedStep z L m in
+    let k = lockedIn (s .machine .state .lock) in
+    cond (eqb (k .logged) (k .count)) (record { answer = s .answer; machine = withLockOf Free (s .machine) }) s)
+    callStep)
+
+freed-at-log : CrashTheorem freedAtLog → ⊥
+unfolding long freedAtLog
+freed-at-log =
+    wrong-answer freedAtLog small maxLag (0 ∷ 0 ∷ []) (call (lock 0 (set0 2)) ∷ call (proceed 0) ∷ []) (mark 1) (0 ∷ 4 ∷ []) (11 ∷ []) refl
+
+-- 66. A part is written without its drain. With the first of two parts written, its word is written back when power fails, but nothing of the log is:
+-- nothing undoes it
+unfoldable writtenUndrained : Design
+writtenUndrained =
+    calling
+    (proceeding (λ z L m. cond (isLogging m) (proceedStep z L m) (unless (proceedRefusal z L m) m (nextStep z (holder m) m))) callStep)
+
+written-undrained : CrashTheorem writtenUndrained → ⊥
+unfolding long writtenUndrained
+written-undrained =
+    wrong-recovery writtenUndrained tight maxLag (9 ∷ []) (call (lock 0 (rising 1 17)) ∷ proceeds 0 2 ++ (writeBack 1 ∷ fails junk ∷ []))
+    maxLag 1000 junk (16 ∷ []) (9 ∷ []) refl
+
+-- 67. Each part is logged with a timestamp of its own. The second is the boundary, so the first, which is below it, is not undone
+unfoldable ownStamp : Design
+ownStamp =
+    calling
+    (proceeding
+    (λ z L m.
+    let k = holder m in
+    let s = m .state .clock + 2 in
+    let d = drained z L m in
+    let later : Machine = record { state = withClock (d .state) s; pairs = d .pairs; cache = d .cache; nvm = d .nvm; flags = d .flags } in
+    let held : Locked = record { lane = k .lane; stamp = s; count = k .count; logged = k .logged; written = k .written } in
+    cond (isLogging m) (unless (proceedRefusal z L m) m (nextStep z held later)) (proceedStep z L m))
+    callStep)
+
+own-stamp : CrashTheorem ownStamp → ⊥
+unfolding long ownStamp
+own-stamp =
+    wrong-recovery ownStamp tight maxLag (9 ∷ []) (call (lock 0 (rising 1 17)) ∷ proceeds 0 3 ++ (call (drain 0) ∷ fails junk ∷ []))
+    maxLag 1000 junk (16 ∷ []) (9 ∷ []) refl
+
+-- 68. Where the count is a multiple of sixteen, the lock is kept for another part, of no writes: the record is out of range then
+unfoldable emptyPart : Design
+emptyPart =
+    calling
+    (proceeding
+    (λ z L m.
+    let k = holder m in
+    let s = proceedStep z L m in
+    let held : Locked = record { lane = k .lane; stamp = k .stamp; count = k .count; logged = k .logged; written = k .count } in
+    cond (not (isLogging m) && eqb (k .written + 16) (k .count)) (record { answer = s .answer; machine = withLockOf (Held held) (s .machine) }) s)
+    callStep)
+
+empty-part : CrashTheorem emptyPart → ⊥
+unfolding long emptyPart
+empty-part =
+    wrong-answer emptyPart small maxLag (0 ∷ 0 ∷ []) (call (lock 0 (rising 1 16)) ∷ proceeds 0 2) (proceed 0) (2 ∷ []) (7 ∷ []) refl
+
+-- 69. A Mark is taken while the lock is held. With the first of two parts written, the lane's newest sequence is the mark, which gives no boundary: half of
+-- the transaction stays
+unfoldable marksHeld : Design
+marksHeld = calling (marking (λ z L m. unlocked (markStep z L) m) callStep)
+
+marks-held : CrashTheorem marksHeld → ⊥
+unfolding long marksHeld
+marks-held =
+    wrong-recovery marksHeld tight maxLag (9 ∷ [])
+    (call (lock 0 (rising 1 17)) ∷ proceeds 0 2 ++ (call (mark 0) ∷ call (drain 0) ∷ fails junk ∷ []))
+    maxLag 1000 junk (16 ∷ []) (9 ∷ []) refl
+
+-- 70. A Redo is taken while the lock is held
+unfoldable redoesHeld : Design
+redoesHeld = calling (redoing (λ z L m. unlocked (redoStep z L) m) callStep)
+
+redoes-held : CrashTheorem redoesHeld → ⊥
+unfolding long redoesHeld
+redoes-held =
+    wrong-answer redoesHeld small maxLag (0 ∷ 0 ∷ []) (call (log 1 (set1 9)) ∷ call (lock 0 (set0 2)) ∷ []) (redo 1) (0 ∷ 6 ∷ []) (11 ∷ []) refl
+
+-- 71. A Drain is refused while the lock is held
+unfoldable drainsNot : Design
+drainsNot = calling (draining (λ z L m. cond (isHeld (m .state .lock)) (record { answer = Refused 11; machine = m }) (drainStep z L m)) callStep)
+
+drains-not : CrashTheorem drainsNot → ⊥
+unfolding long drainsNot
+drains-not = wrong-answer drainsNot small maxLag (0 ∷ 0 ∷ []) (call (lock 0 (set0 2)) ∷ []) (drain 1) (11 ∷ []) (0 ∷ []) refl
+
+-- 72. Continue goes on for any lane
+unfoldable anyLane : Design
+anyLane = calling (proceeding (λ z L m. cond (isHeld (m .state .lock)) (proceedStep z (holder m .lane) m) (proceedStep z L m)) callStep)
+
+any-lane : CrashTheorem anyLane → ⊥
+unfolding long anyLane
+any-lane = wrong-answer anyLane small maxLag (0 ∷ 0 ∷ []) (call (lock 0 (set0 2)) ∷ []) (proceed 1) (0 ∷ 2 ∷ 1 ∷ []) (11 ∷ []) refl
+
+-- 73. Continue answers how many writes are not yet logged
+unfoldable countsLogged : Design
+countsLogged =
+    calling
+    (proceeding
+    (λ z L m.
+    let s = proceedStep z L m in
+    let k = holder (s .machine) in
+    let answer = LockedAnswer (record { left = k .count - k .logged; stamp = k .stamp }) in
+    cond (isLogging m) (record { answer = answer; machine = s .machine }) s)
+    callStep)
+
+counts-logged : CrashTheorem countsLogged → ⊥
+unfolding long countsLogged
+counts-logged = wrong-answer countsLogged small maxLag (0 ∷ 0 ∷ []) (call (lock 0 (set0 2)) ∷ []) (proceed 0) (0 ∷ 2 ∷ 0 ∷ []) (0 ∷ 2 ∷ 1 ∷ []) refl

@@ -1,7 +1,7 @@
 -- Inner: how the code goes, need not be believed. Laws of a lane's log: entries back from a timestamp, what a slot closes, what a sequence gives,
--- the latest of two lists, hits; nothing found depends on the lane. Assumes nothing.
+-- hits; nothing found depends on the lane. Assumes nothing.
 use Prim.Native.Nat.{ℕ, zero, suc, _+_, _-_, _*_, _≤_, _<_}
-use mathlib.Core.Path.{_≡_, refl, sym, ap, _∙_}
+use mathlib.Core.Path.{_≡_, refl, sym, ap, ap₂, _∙_}
 use mathlib.Core.Bool.{Bool, true, false, cond, _&&_, _||_, or-assoc, or-true}
 use mathlib.Core.List.{List, [], _∷_, _++_, map, map-append}
 use native.Mathlib.Omega.{arith}
@@ -11,7 +11,7 @@ use lib.Dec.{leb, ltb, eqb}
 use lib.ListN.{length, getD, length-append}
 use borrow.Author.Tests.{leb-true, leb-false, ltb-true, ltb-false, eqb-true, eq-eqb, ne-eqb, lt-ltb, le-ltb, le-leb, lt-leb}
 use Rattle.laws.specs.inner.Tests.{split, clash}
-use Rattle.laws.specs.inner.Lists.{All, none, more, All-append, All-cond}
+use Rattle.laws.specs.inner.Lists.{All, none, more, All-append, All-cond, All-map}
 use Rattle.slot.specs.inner.SlotLaws.{StampFrom, EntryFrom, stamp-only, entry-only}
 use Rattle.slot.specs.declared.Content.{Content}
 use Rattle.slot.specs.declared.Content.the-variants.{Empty, Torn, Entry, Stamp}
@@ -19,11 +19,10 @@ use Rattle.image.specs.Image.{baseOf, logOf}
 use Rattle.image.specs.declared.Sizes.{Sizes}
 use Rattle.log.specs.declared.Timestamp.{Timestamp}
 use Rattle.log.specs.declared.Timestamp.the-variants.{None, At}
-use Rattle.log.specs.declared.Sequence.{Sequence}
-use Rattle.log.specs.declared.Latest.{Latest}
-use Rattle.log.specs.declared.Latest.the-variants.{Nothing, Is}
 use Rattle.log.specs.Log.{slotAt, Old, Complete, back, backWrap, entryIn, entriesBack, closes, completeBelow, completeIn}
-use Rattle.log.specs.Log.{sequenceOf, later, latest, latestIn, given, ahead, overlaps, hitsFrom, hits}
+use Rattle.log.specs.Log.{topWrap, afterWrap, greaterOr, undoneBefore, insert, ordered}
+use Rattle.log.specs.Log.{sequenceOf, firstOf, latest, latestIn, given, ahead, overlaps, hitsFrom, hits}
+use Rattle.log.specs.inner.OrderLaws.{greater-tied, All-ordered, below-at}
 use Rattle.log.specs.inner.Search.{isEntry, entryBack}
 
 -- ---- timestamps, and what a sequence gives
@@ -162,36 +161,9 @@ module _ (W N base : ℕ) (log : List ℕ) (L j : ℕ) {c : Content} {n s p : �
       rw e (split (ltb base s) (λ t. rw (t, d)) (λ t. rw t))
 
   pub closes-all : base < s → length (entriesBack W N log j p n) ≡ n
-      → closes W N base log L j c ≡ record { stamp = s; lane = L; slot = j; entries = entriesBack W N log j p n } ∷ []
+      → closes W N base log L j c ≡ record { stamp = s; lane = L; slot = j; wrap = p; entries = entriesBack W N log j p n } ∷ []
   unfolding closes
   closes-all h g = rw (e, lt-ltb base s h, eq-eqb (length (entriesBack W N log j p n)) n g)
-
--- ---- the latest of two lists
--- the later of two, where the second's slots are higher
-unfoldable pub newer : Latest → Latest → Latest
-newer Nothing y = y
-newer (Is q) y = later q y
-
-newer-later : (q : Sequence) (x y : Latest) → later q (newer x y) ≡ newer (later q x) y
-unfolding newer later
-newer-later q Nothing y = refl
-newer-later q (Is r) Nothing = split (ltb (r .stamp) (q .stamp)) (λ e. rw e) (λ e. rw e)
-newer-later q (Is r) (Is t) =
-    by (ltb (t .stamp) (r .stamp)) refl (ltb (r .stamp) (q .stamp)) refl (ltb (t .stamp) (q .stamp)) refl
-  where
-    by : (a : Bool) → ltb (t .stamp) (r .stamp) ≡ a → (b : Bool) → ltb (r .stamp) (q .stamp) ≡ b → (c : Bool) → ltb (t .stamp) (q .stamp) ≡ c
-        → later q (cond a (Is r) (Is t)) ≡ newer (cond b (Is q) (Is r)) (Is t)
-    by true h true g true k = rw (g, k)
-    by true h true g false k = absurd (omega (arith, ltb-true, ltb-false))
-    by true h false g c k = rw (g, h)
-    by false h true g c k = refl
-    by false h false g true k = absurd (omega (arith, ltb-true, ltb-false))
-    by false h false g false k = rw (h, k)
-
-pub latest-append : (a b : List Complete) → latest (a ++ b) ≡ newer (latest a) (latest b)
-unfolding latest newer
-latest-append [] b = refl
-latest-append (q ∷ a) b = ap (later (sequenceOf q)) (latest-append a b) ∙ newer-later (sequenceOf q) (latest a) (latest b)
 
 -- ---- hits
 pub hits-append : (N k m b : ℕ) (xs ys : List Complete) → hitsFrom N k m b (xs ++ ys) ≡ (hitsFrom N k m b xs || hitsFrom N k m b ys)
@@ -234,7 +206,7 @@ overlaps-ahead N k m j (suc n) h g l =
 
 -- ---- nothing found depends on the lane, but its name
 unfoldable pub inLane : ℕ → Complete → Complete
-inLane L q = record { stamp = q .stamp; lane = L; slot = q .slot; entries = q .entries }
+inLane L q = record { stamp = q .stamp; lane = L; slot = q .slot; wrap = q .wrap; entries = q .entries }
 
 pub closes-lane : (W N base : ℕ) (log : List ℕ) (L M j : ℕ) (c : Content) → closes W N base log L j c ≡ map (inLane L) (closes W N base log M j c)
 unfolding closes inLane
@@ -243,10 +215,51 @@ closes-lane W N base log L M j Torn = refl
 closes-lane W N base log L M j (Entry i v p) = refl
 closes-lane W N base log L M j (Stamp n s p) = split (ltb base s && eqb (length (entriesBack W N log j p n)) n) (λ e. rw e) (λ e. rw e)
 
-latest-map : (L : ℕ) (qs : List Complete) → latest (map (inLane L) qs) ≡ latest qs
-unfolding latest sequenceOf inLane
-latest-map L [] = refl
-latest-map L (q ∷ qs) = ap (later (sequenceOf q)) (latest-map L qs)
+-- among sequences of one lane, the order does not see which lane it is
+module _ (L M : ℕ) where
+  top-map : (s p : ℕ) {qs : List Complete} → All (λ q. q .lane ≡ M) qs → topWrap L s p (map (inLane L) qs) ≡ topWrap M s p qs
+  unfolding topWrap inLane
+  top-map s p none = refl
+  top-map s p (more {x = q} {l = l} e h) =
+      ap (λ b. topWrap L s (cond (b && eqb (q .stamp) s) (q .wrap) p) (map (inLane L) l)) (eq-eqb L L refl ∙ sym (eq-eqb (q .lane) M e))
+      ∙ top-map s (cond (eqb (q .lane) M && eqb (q .stamp) s) (q .wrap) p) h
+
+  after-map : (q : Complete) → q .lane ≡ M → {qs : List Complete} → All (λ q. q .lane ≡ M) qs
+      → afterWrap (map (inLane L) qs) (inLane L q) ≡ afterWrap qs q
+  unfolding afterWrap inLane
+  after-map q e h = rw (e, top-map (q .stamp) (q .wrap) h)
+
+  before-map : {qs : List Complete} → All (λ q. q .lane ≡ M) qs → (q r : Complete) → q .lane ≡ M → r .lane ≡ M
+      → undoneBefore (map (inLane L) qs) (inLane L q) (inLane L r) ≡ undoneBefore qs q r
+  unfolding undoneBefore inLane
+  before-map h q r e f =
+      ap (greaterOr (q .stamp) (r .stamp))
+      (greater-tied L L _ refl ∙ ap₂ (λ a b. greaterOr a b (ltb (r .slot) (q .slot))) (after-map q e h) (after-map r f h)
+      ∙ sym (greater-tied (q .lane) (r .lane) _ (f ∙ sym e)))
+
+  insert-map : {qs : List Complete} → All (λ q. q .lane ≡ M) qs → (q : Complete) → q .lane ≡ M → {rs : List Complete} → All (λ q. q .lane ≡ M) rs
+      → insert (map (inLane L) qs) (inLane L q) (map (inLane L) rs) ≡ map (inLane L) (insert qs q rs)
+  unfolding insert
+  insert-map h q e none = refl
+  insert-map {qs} h q e (more {x = r} f g) =
+      split (undoneBefore qs q r)
+      (λ t. rw (before-map h q r e f, t))
+      (λ t. rw (before-map h q r e f, t) (ap (λ l. inLane L r ∷ l) (insert-map h q e g)))
+
+  ordered-map : {qs : List Complete} → All (λ q. q .lane ≡ M) qs → {rs : List Complete} → All (λ q. q .lane ≡ M) rs
+      → ordered (map (inLane L) qs) (map (inLane L) rs) ≡ map (inLane L) (ordered qs rs)
+  unfolding ordered
+  ordered-map h none = refl
+  ordered-map {qs} h (more {x = q} e g) = ap (insert (map (inLane L) qs) (inLane L q)) (ordered-map h g) ∙ insert-map h q e (All-ordered qs g)
+
+first-map : (L : ℕ) (qs : List Complete) → firstOf (map (inLane L) qs) ≡ firstOf qs
+unfolding firstOf sequenceOf inLane
+first-map L [] = refl
+first-map L (q ∷ qs) = refl
+
+latest-map : (L M : ℕ) {qs : List Complete} → All (λ q. q .lane ≡ M) qs → latest (map (inLane L) qs) ≡ latest qs
+unfolding latest
+latest-map L M {qs} h = ap firstOf (ordered-map L M h h) ∙ first-map L (ordered qs qs)
 
 pub complete-lane : (W N base : ℕ) (log : List ℕ) (L M k : ℕ) → completeBelow W N base log L k ≡ map (inLane L) (completeBelow W N base log M k)
 unfolding completeBelow
@@ -262,7 +275,8 @@ hits-map N k m b L [] = refl
 hits-map N k m b L (q ∷ qs) = ap (λ (t : Bool). (leb b (q .stamp) && overlaps N k m (q .slot) (length (q .entries))) || t) (hits-map N k m b L qs)
 
 pub latest-lane : (W N base : ℕ) (log : List ℕ) (L M k : ℕ) → latest (completeBelow W N base log L k) ≡ latest (completeBelow W N base log M k)
-latest-lane W N base log L M k = ap latest (complete-lane W N base log L M k) ∙ latest-map L (completeBelow W N base log M k)
+latest-lane W N base log L M k =
+    ap latest (complete-lane W N base log L M k) ∙ latest-map L M (All-map (λ q h. h .0) (below-at W N base log M k))
 
 pub hits-lane : (W N base : ℕ) (log : List ℕ) (L M n k m : ℕ) (bound : Timestamp)
     → hits N k m bound (completeBelow W N base log L n) ≡ hits N k m bound (completeBelow W N base log M n)

@@ -1,7 +1,7 @@
 -- Inner: how the code goes, need not be believed. Laws of the record: what the range check says, a lane after an update, the lower bound, the redo log.
 -- Assumes nothing.
 use mathlib.Core.Path.{_≡_, refl, sym, ap, _∙_}
-use mathlib.Core.Bool.{true, false, _&&_}
+use mathlib.Core.Bool.{true, false, not, _&&_}
 use mathlib.Core.List.{List, [], _∷_}
 use Prim.Native.Nat.{ℕ, zero, suc, _+_, _-_, _%_, _^_, _≤_, _<_, min}
 use native.Mathlib.Nat.{le-of-suc-le-suc}
@@ -10,8 +10,8 @@ use lib.Dec.{leb, ltb, eqb}
 use lib.ListN.{length, getD, take}
 use lib.Seq.{set-set}
 use borrow.Author.Tests.{eqb-true, leb-true, leb-false, ltb-true, ltb-false, lt-ltb, le-ltb}
-use Rattle.laws.specs.inner.Tests.{split, and-left, and-right}
-use Rattle.txn.specs.Txn.{maxWrites}
+use Rattle.laws.specs.inner.Tests.{split, clash, and-left, and-right}
+use Rattle.txn.specs.Txn.{maxWrites, maxLong}
 use Rattle.txn.specs.declared.Write.{Write}
 use Rattle.image.specs.declared.Sizes.{Sizes}
 use Rattle.log.specs.declared.Timestamp.{Timestamp}
@@ -21,8 +21,12 @@ use Rattle.record.specs.declared.Logged.{Logged}
 use Rattle.record.specs.declared.Phase.{Phase}
 use Rattle.record.specs.declared.Phase.the-variants.{Idle, Holds}
 use Rattle.record.specs.declared.Lane.{Lane}
+use Rattle.record.specs.declared.Locked.{Locked}
+use Rattle.record.specs.declared.Lock.{Lock}
+use Rattle.record.specs.declared.Lock.the-variants.{Free, Held}
 use Rattle.record.specs.declared.Record.{Record}
-use Rattle.record.specs.Record.{noPair, noLane, laneAt, isLogged, loggedIn, stampOk, floorOk, pairsOk, phaseOk, laneOk, lanesOk, lagOk, recordOk, spent}
+use Rattle.record.specs.Record.{noPair, noLane, laneAt, isLogged, loggedIn, stampOk, floorOk, pairsOk, phaseOk, laneOk, lanesOk, lagOk, lockOk}
+use Rattle.record.specs.Record.{pairsFrom, isHeld, lockedIn, partLength, heldOk, recordOk, spent}
 use Rattle.record.specs.Record.{lesser, lagPassed, withLane, withClock, pairsOf}
 use Rattle.record.specs.inner.Every.{every, every-at}
 
@@ -108,28 +112,72 @@ lane-in z clock l h =
       phase = and-right c p h₂;
     }
 
-pub record RecordIn (z : Sizes) (r : Record) : Type 0 where
+pub record RecordIn (z : Sizes) (r : Record) (ps : List ℕ) : Type 0 where
   pub clock : r .clock % 2 ≡ 0
   pub last : StampIn (r .clock) (r .last)
   pub lag : lagOk (r .lag) ≡ true
   pub lanes : (L : ℕ) → L < z .lanes → L < length (r .lanes) → laneOk z (r .clock) (laneAt r L) ≡ true
+  pub lock : lockOk z r ps (r .lock) ≡ true
 
-pub record-in : (z : Sizes) (r : Record) → recordOk z r ≡ true → RecordIn z r
+pub record-in : (z : Sizes) (r : Record) (ps : List ℕ) → recordOk z r ps ≡ true → RecordIn z r ps
 unfolding recordOk laneAt
-record-in z r h =
+record-in z r ps h =
     let a = eqb (r .clock % 2) 0 in
     let b = stampOk (r .clock) (r .last) in
     let c = lagOk (r .lag) in
     let d = lanesOk z (r .clock) (take (z .lanes) (r .lanes)) in
-    let h₁ = and-right a (b && (c && d)) h in
-    let h₂ = and-right b (c && d) h₁ in
+    let e = lockOk z r ps (r .lock) in
+    let h₁ = and-right a (b && (c && (d && e))) h in
+    let h₂ = and-right b (c && (d && e)) h₁ in
+    let h₃ = and-right c (d && e) h₂ in
     record {
-      clock = eqb-true (r .clock % 2) 0 (and-left a (b && (c && d)) h);
-      last = stamp-in (r .clock) (r .last) (and-left b (c && d) h₁);
-      lag = and-left c d h₂;
+      clock = eqb-true (r .clock % 2) 0 (and-left a (b && (c && (d && e))) h);
+      last = stamp-in (r .clock) (r .last) (and-left b (c && (d && e)) h₁);
+      lag = and-left c (d && e) h₂;
       lanes = λ L u k. every-at (laneOk z (r .clock)) (r .lanes) L (z .lanes) noLane
-          (sym (lanes-every z (r .clock) (take (z .lanes) (r .lanes))) ∙ and-right c d h₂) u k;
+          (sym (lanes-every z (r .clock) (take (z .lanes) (r .lanes))) ∙ and-left d e h₃) u k;
+      lock = and-right d e h₃;
     }
+
+-- the test of a lock that is known to be held
+pub lock-held : (z : Sizes) (r : Record) (ps : List ℕ) (l : Lock) (k : Locked) → l ≡ Held k → heldOk z r ps k ≡ lockOk z r ps l
+unfolding lockOk
+lock-held z r ps l k e = rw e
+
+-- what it says then
+pub record HeldIn (z : Sizes) (clock : ℕ) (ps : List ℕ) (k : Locked) : Type 0 where
+  pub lane : k .lane < z .lanes
+  pub stamp : StampIn clock (k .stamp)
+  pub most : k .count ≤ maxLong
+  pub pairs : pairsOk (z .words) (pairsFrom ps 0 (k .count)) ≡ true
+  pub left : k .written < k .count
+
+pub held-in : (z : Sizes) (r : Record) (ps : List ℕ) (l : Lock) → isHeld l ≡ true → lockOk z r ps l ≡ true → HeldIn z (r .clock) ps (lockedIn l)
+unfolding isHeld lockedIn lockOk heldOk
+held-in z r ps Free t h = clash false t refl
+held-in z r ps (Held k) t h =
+    let h₁ = and-right (ltb (k .lane) (z .lanes)) _ h in
+    let h₂ = and-right (not (isLogged (laneAt r (k .lane) .phase))) _ h₁ in
+    let h₃ = and-right (stampOk (r .clock) (k .stamp)) _ h₂ in
+    let h₄ = and-right (leb (k .count) maxLong) _ h₃ in
+    let h₅ = and-right (pairsOk (z .words) (pairsFrom ps 0 (k .count))) _ h₄ in
+    let h₆ = and-right (eqb (k .written % maxWrites) 0) _ h₅ in
+    record {
+      lane = ltb-true (k .lane) (z .lanes) (and-left _ _ h);
+      stamp = stamp-in (r .clock) (k .stamp) (and-left _ _ h₂);
+      most = leb-true (k .count) maxLong (and-left _ _ h₃);
+      pairs = and-left _ _ h₄;
+      left = ltb-true (k .written) (k .count) (and-left _ _ h₆);
+    }
+
+-- a part ends at the count at most, and is of sixteen writes at most
+pub part-most : (k : Locked) → k .written < k .count → k .written + partLength k ≤ k .count
+unfolding partLength
+part-most k h = omega arith
+
+pub part-few : (k : Locked) → partLength k ≤ maxWrites
+unfolding partLength
+part-few k = omega arith
 
 -- a clock that is not spent has room for a new timestamp, clock + 2
 pub clock-next : (r : Record) → spent r ≡ false → r .clock + 2 < 2 ^ 64
@@ -145,7 +193,7 @@ clock-room r h e = omega (arith, leb-false (2 ^ 64 - 2) (r .clock) h)
 -- of two updates of a lane the second stays
 pub lane-twice : (r : Record) (L : ℕ) (a b : Lane) → withLane (withLane r L a) L b ≡ withLane r L b
 unfolding withLane
-lane-twice r L a b = ap (λ (ls : List Lane). record { clock = r .clock; last = r .last; lanes = ls; lag = r .lag }) (set-set (r .lanes) L a b)
+lane-twice r L a b = ap (λ (ls : List Lane). record { clock = r .clock; last = r .last; lanes = ls; lag = r .lag; lock = r .lock }) (set-set (r .lanes) L a b)
 
 pub clock-lane : (r : Record) (clock L : ℕ) (l : Lane) → withClock (withLane r L l) clock ≡ withLane (withClock r clock) L l
 unfolding withClock withLane

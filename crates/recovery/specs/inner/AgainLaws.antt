@@ -21,7 +21,7 @@ use Rattle.image.specs.inner.ImageLaws.{getD-log}
 use Rattle.image.specs.Stores.{Store, stored}
 use Rattle.image.specs.inner.StoresLaws.{lastAt, length-stored, getD-stored, stored-append, stored-over, stored-again}
 use Rattle.image.specs.declared.Sizes.{Sizes}
-use Rattle.log.specs.Log.{slotAt, closes, completeBelow, completeIn, latest, latestIn, contribution}
+use Rattle.log.specs.Log.{slotAt, closes, completeBelow, completeIn, ordered, firstOf, latest, latestIn, contribution}
 use Rattle.log.specs.declared.Timestamp.the-variants.{None}
 use Rattle.record.specs.Record.{lesser}
 use Rattle.recovery.specs.Recovery.{boundaryBelow, boundary, completeOf, undoneFrom, undone, undoSequences, undoStores, wholeStamp, greatestBelow}
@@ -93,7 +93,7 @@ module _ (W N base : ℕ) (log : List ℕ) (L : ℕ) where
 
 module _ (z : Sizes) (image : List ℕ) where
   none-of : (n : ℕ) → greatestOf z image n ≤ baseOf image → (completeOf z image n ≡ []) × (boundaryBelow z image n ≡ None)
-  unfolding completeOf boundaryBelow greatestOf completeIn latestIn latest contribution lesser
+  unfolding completeOf boundaryBelow greatestOf completeIn latestIn latest ordered firstOf contribution lesser
   none-of zero h = (refl, refl)
   none-of (suc n) h =
       let e : completeBelow z.words z.slots (baseOf image) (logOf z n image) n z.slots ≡ []

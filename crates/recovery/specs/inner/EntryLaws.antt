@@ -15,7 +15,7 @@ use Rattle.image.specs.declared.Sizes.{Sizes}
 use Rattle.log.specs.Log.{Old, Complete, slotAt, back, entriesBack}
 use Rattle.log.specs.inner.LogLaws.{entry-in, EntryBack, entry-back, back-whole, back-cons, back-words}
 use Rattle.log.specs.inner.Search.{closedAt}
-use Rattle.log.specs.inner.SearchLaws.{Closed, closed-from, closes-none, closes-one}
+use Rattle.log.specs.inner.SearchLaws.{Closed, closedAs, closed-from, closes-none, closes-one}
 use Rattle.log.specs.declared.Sequence.{Sequence}
 use Rattle.log.specs.declared.Latest.{Latest}
 use Rattle.log.specs.declared.Latest.the-variants.{Nothing, Is}
@@ -34,14 +34,13 @@ module _ (z : Sizes) (image : List ℕ) (L j : ℕ) where
   nothing-closed e = closes-none (z .words) (z .slots) (baseOf image) (logOf z L image) L j e
 
   module _ (q : Sequence) (c : Closed (z .words) (z .slots) (baseOf image) (logOf z L image) j q) where
-    one-closed : closesIn z image L j
-        ≡ record { stamp = q .stamp; lane = L; slot = j; entries = entriesBack (z .words) (z .slots) (logOf z L image) j (c .wrap) (q .count) } ∷ []
+    one-closed : closesIn z image L j ≡ closedAs (z .words) (z .slots) (baseOf image) (logOf z L image) L j q c ∷ []
     unfolding closesIn
     one-closed = closes-one (z .words) (z .slots) (baseOf image) (logOf z L image) L j q c
 
   -- what holds of it where there is one
   pub closed-all : {P : Complete → Type 0} → ((q : Sequence) (c : Closed (z .words) (z .slots) (baseOf image) (logOf z L image) j q)
-      → P (record { stamp = q .stamp; lane = L; slot = j; entries = entriesBack (z .words) (z .slots) (logOf z L image) j (c .wrap) (q .count) }))
+      → P (closedAs (z .words) (z .slots) (baseOf image) (logOf z L image) L j q c))
       → All P (closesIn z image L j)
   closed-all {P} f = by (closedAt (z .words) (z .slots) (baseOf image) (logOf z L image) j) refl
     where

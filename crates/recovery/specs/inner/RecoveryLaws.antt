@@ -15,6 +15,7 @@ use Rattle.log.specs.declared.Timestamp.{Timestamp}
 use Rattle.record.specs.Record.{startRecord}
 use Rattle.record.specs.declared.Record.{Record}
 use Rattle.store.specs.Machine.{Machine}
+use Rattle.record.specs.Record.{noPairs}
 use Rattle.store.specs.Calls.{started}
 use Rattle.store.specs.inner.StoreLaws.{first-none}
 use Rattle.store.specs.Interface.{machineOf}
@@ -98,14 +99,14 @@ by-refused z lag limit number m h = rw (ne-eqb number 0 h)
 
 module _ (z : Sizes) (lag limit : ℕ) (m : Machine) (all : ℕ) (a : all ≡ length (recoveryStores z (m .nvm))) where
   pub by-cut : (nvm : List ℕ) → nvm ≡ recoveredNvm z limit (m .nvm) → limit < all
-      → record { answer = Cut; machine = machineOf (m .state) (m .cache) nvm (m .flags) } ≡ recoveredBy z lag limit 0 m
+      → record { answer = Cut; machine = machineOf (m .state) (m .pairs) (m .cache) nvm (m .flags) } ≡ recoveredBy z lag limit 0 m
   unfolding recoveredBy allMade
   by-cut nvm n l = rw (n, ← a, lt-leb all limit l)
 
   pub by-finished : (state : Record) (cache nvm flags : List ℕ) (b : Timestamp) (undone torn : ℕ)
       → b ≡ boundary z (m .nvm) → undone ≡ length (undoStores z (m .nvm)) → torn ≡ tornIn z (m .nvm) → nvm ≡ recoveredNvm z limit (m .nvm)
       → state ≡ startRecord lag (getD nvm 0 0) → cache ≡ nvm → flags ≡ replicate (length nvm) 0 → all ≤ limit
-      → record { answer = Finished (record { boundary = b; undone = undone; torn = torn }); machine = machineOf state cache nvm flags }
+      → record { answer = Finished (record { boundary = b; undone = undone; torn = torn }); machine = machineOf state noPairs cache nvm flags }
       ≡ recoveredBy z lag limit 0 m
   unfolding recoveredBy allMade started baseOf tornIn
   by-finished state cache nvm flags b undone torn e₁ e₂ e₀ e₃ e₄ e₅ e₆ l = rw (e₁, e₂, e₀, e₄, e₅, e₆, e₃, ← a, le-leb all limit l)

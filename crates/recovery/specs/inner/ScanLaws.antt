@@ -25,7 +25,8 @@ use Rattle.image.specs.declared.Sizes.{Sizes}
 use Rattle.log.specs.Log.{slotAt, entriesBack, latestIn, given, contribution}
 use Rattle.log.specs.inner.LogLaws.{stamp-in, latest-in}
 use Rattle.log.specs.inner.Search.{entryBack, closedAt}
-use Rattle.log.specs.inner.SearchLaws.{Closed, closed-from, closed-bad, closed-whole, NotAbove, Below, latest-none, latest-is}
+use Rattle.log.specs.inner.SearchLaws.{Closed, closed-from, closed-bad, closed-whole, NoLap, laps-closed, latest-none, latest-lapped}
+use Rattle.recovery.specs.inner.LapLaws.{LapIs, kept, moved, lap-is, lap-every}
 use Rattle.log.specs.declared.Timestamp.{Timestamp}
 use Rattle.log.specs.declared.Timestamp.the-variants.{None}
 use Rattle.log.specs.declared.Sequence.{Sequence}
@@ -34,7 +35,7 @@ use Rattle.log.specs.declared.Latest.the-variants.{Nothing, Is}
 use Rattle.record.specs.Record.{lesser}
 use Rattle.recovery.specs.Recovery.{boundaryBelow, boundary, wholeStamp, greatestBelow, greatestOf, newBase}
 use Rattle.recovery.specs.Recovery.{oneIfTorn, tornBelow, tornOf, tornIn}
-use Rattle.recovery.specs.inner.Picking.{countOf, wrapOf, offered, Offers, partOf, Offering, Tournaments}
+use Rattle.recovery.specs.inner.Picking.{countOf, wrapOf, offered, lapBelow, Offers, partOf, Offering, Tournaments}
 use Rattle.recovery.specs.inner.PickingLaws.{not-above, is-below}
 use Rattle.recovery.specs.inner.LanesLaws.{numbers-small, lane-inside, put-here, put-other, trees-put}
 
@@ -187,31 +188,42 @@ module _ (z : Sizes) (image : List ℕ) (L : ℕ) (pos : 0 < z .slots) (s : List
           ∙ closed-offered (z .words) (z .slots) (baseOf image) (logOf z L image) i q
           (closed-from (z .words) (z .slots) (baseOf image) (logOf z L image) i q x))
 
-      below : (i : ℕ) → i < m → NotAbove (getD s m 0) (closedAt (z .words) (z .slots) (baseOf image) (logOf z L image) i)
-      unfolding NotAbove
-      below i k = by (closedAt (z .words) (z .slots) (baseOf image) (logOf z L image) i) refl
-        where
-          by : (x : Latest) → closedAt (z .words) (z .slots) (baseOf image) (logOf z L image) i ≡ x → NotAbove (getD s m 0) x
-          by Nothing x = tt
-          by (Is q) x = rw (closed-stamp i (omega (arith, search-low)) q x) (not-above s i m (most i (omega (arith, search-low))))
+      here : Sequence
+      here = record { stamp = getD s m 0; count = countOf c; slot = m }
 
-      above : (i : ℕ) → m < i → i < z .slots → Below (getD s m 0) (closedAt (z .words) (z .slots) (baseOf image) (logOf z L image) i)
-      unfolding Below
-      above i k l = by (closedAt (z .words) (z .slots) (baseOf image) (logOf z L image) i) refl
-        where
-          by : (x : Latest) → closedAt (z .words) (z .slots) (baseOf image) (logOf z L image) i ≡ x → Below (getD s m 0) x
-          by Nothing x = tt
-          by (Is q) x = rw (closed-stamp i l q x) (is-below s i m k (most i l))
+      found : Sequence
+      found = lapBelow (z .words) (z .slots) (logOf z L image) s (getD s m 0) (wrapOf c) here m
 
-      pub search-latest : given (countOf c) (getD s m 0) ≡ contribution (latestIn z image L)
-      unfolding contribution
-      search-latest =
-          rw (
-            latest-in z image L,
-            latest-is (z .words) (z .slots) (baseOf image) (logOf z L image) m (z .slots)
-                (record { stamp = getD s m 0; count = countOf c; slot = m }) search-low
-                (sym (closed-whole (z .words) (z .slots) (baseOf image) (logOf z L image) m r (says .0) (says .1) w)) below above,
-          )
+      -- a slot that laps it offers the timestamp
+      laps-offered : (i : ℕ) → i < m → getD s i 0 ≢ getD s m 0 → NoLap (z .words) (z .slots) (logOf z L image) (getD s m 0) (wrapOf c) i
+      laps-offered i k d r l =
+          d (sym (closed-stamp i (omega (arith, search-low)) r
+          (laps-closed (z .words) (z .slots) (baseOf image) (logOf z L image) (getD s m 0) (wrapOf c) i r (says .1) l)) ∙ l .stamp)
+
+      search-found : latestIn z image L ≡ Is found
+      unfolding found here
+      search-found =
+          latest-in z image L
+          ∙ latest-lapped (z .words) (z .slots) (baseOf image) (logOf z L image) m search-low here
+          (sym (closed-whole (z .words) (z .slots) (baseOf image) (logOf z L image) m r (says .0) (says .1) w))
+          (λ i k q x. rw (closed-stamp i k q x) (not-above s i m (most i k)))
+          (λ i l k q x. rw (closed-stamp i k q x) (is-below s i m l (most i k)))
+          (wrapOf c) (sym r ∙ says .0)
+          ∙ ap Is (sym (lap-every (z .words) (z .slots) (logOf z L image) (getD s m 0) (wrapOf c) s here m laps-offered))
+
+      found-stamp : found .stamp ≡ getD s m 0
+      unfolding found here
+      found-stamp = by (lap-is (z .words) (z .slots) (logOf z L image) (getD s m 0) (wrapOf c) s here m)
+        where
+          by : {q : Sequence} → LapIs (z .words) (z .slots) (logOf z L image) (getD s m 0) (wrapOf c) s here m q → q .stamp ≡ getD s m 0
+          by (kept f n) = ap (λ (q : Sequence). q .stamp) f
+          by (moved j k o l n) = l .stamp
+
+      pub search-latest : (q : Sequence)
+          → q ≡ lapBelow (z .words) (z .slots) (logOf z L image) s (getD s m 0) (wrapOf c) (record { stamp = getD s m 0; count = countOf c; slot = m }) m
+          → given (q .count) (getD s m 0) ≡ contribution (latestIn z image L)
+      unfolding contribution found here
+      search-latest q d = rw (search-found, d, found-stamp)
 
 -- ---- the lanes below k
 pub record Scanned (z : Sizes) (image : List ℕ) (room k : ℕ) (a t : List ℕ) (b : Timestamp) (base torn : ℕ) : Type 0 where

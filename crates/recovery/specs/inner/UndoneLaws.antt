@@ -9,8 +9,8 @@ use lib.Dec.{eqb}
 use borrow.Author.Tests.{eqb-true, eqb-false, eq-eqb, ne-eqb}
 use Rattle.laws.specs.inner.Tests.{split, clash, or-left, or-right}
 use Rattle.image.specs.inner.StoresLaws.{lastAt, lastAt-append}
-use Rattle.log.specs.Log.{Old, Complete}
-use Rattle.recovery.specs.Recovery.{undoEntries, undoSequences, undoneBefore}
+use Rattle.log.specs.Log.{Old, Complete, undoneBefore}
+use Rattle.recovery.specs.Recovery.{undoEntries, undoSequences}
 use Rattle.laws.specs.inner.Members.{In, here, there}
 
 -- ---- entries
@@ -90,8 +90,8 @@ module _ (w y : ℕ) where
       only true h = refl
       only false h = h
 
--- a sequence has the value below its timestamp at a word, unless one of the same timestamp that is undone after it names the word too
+-- a sequence of qs has the value below its timestamp at a word, unless one of the same timestamp that is undone after it names the word too
 unfoldable pub OldIn : (w : ℕ) (f : ℕ → ℕ) → List Complete → Complete → Type 0
 OldIn w f qs q =
-    ((r : Complete) → In r qs → r .stamp ≡ q .stamp → undoneBefore q r ≡ true → writes (r .entries) w ≡ false)
+    ((r : Complete) → In r qs → r .stamp ≡ q .stamp → undoneBefore qs q r ≡ true → writes (r .entries) w ≡ false)
     → writes (q .entries) w ≡ true → (x : ℕ) → firstOld (q .entries) w x ≡ f (q .stamp)

@@ -7,11 +7,12 @@ use Rattle.replay.proofs.run_ops.Statement.{statement}
 use Rattle.replay.proofs.run_ops.Tie as tie
 
 abbrev Inv-loop : tie.InvT-loop
-Inv-loop input cache₀ nvm₀ flags₀ run₀ counter₀ end cache nvm flags run counter =
-    (counter ≤ end) × (run .at ≤ length input) × (length cache ≡ length cache₀) × (length nvm ≡ length nvm₀) × (length flags ≡ length flags₀)
+Inv-loop input pairs₀ cache₀ nvm₀ flags₀ run₀ counter₀ end pairs cache nvm flags run counter =
+    (counter ≤ end) × (run .at ≤ length input) × (length pairs ≡ length pairs₀) × (length cache ≡ length cache₀) × (length nvm ≡ length nvm₀)
+    × (length flags ≡ length flags₀)
 
 abbrev μ-loop : tie.MeasureT-loop
-μ-loop input cache₀ nvm₀ flags₀ run₀ counter₀ end cache nvm flags run counter = end - counter
+μ-loop input pairs₀ cache₀ nvm₀ flags₀ run₀ counter₀ end pairs cache nvm flags run counter = end - counter
 
 loop-holds : tie.Need-loop-holds Inv-loop μ-loop
 loop-holds c = search needs
@@ -31,6 +32,9 @@ same-length-2 c = search needs
 same-length-3 : tie.Need-same-length-3 Inv-loop μ-loop
 same-length-3 c = search needs
 
+same-length-4 : tie.Need-same-length-4 Inv-loop μ-loop
+same-length-4 c = search needs
+
 returns : tie.Need-returns Inv-loop μ-loop
 returns c = search needs
 
@@ -43,14 +47,17 @@ loop-less c = search needs
 loop-again : tie.Need-loop-again Inv-loop μ-loop
 loop-again c = search needs
 
-same-length-4 : tie.Need-same-length-4 Inv-loop μ-loop
-same-length-4 c = search needs
-
 same-length-5 : tie.Need-same-length-5 Inv-loop μ-loop
 same-length-5 c = search needs
 
 same-length-6 : tie.Need-same-length-6 Inv-loop μ-loop
 same-length-6 c = search needs
+
+same-length-7 : tie.Need-same-length-7 Inv-loop μ-loop
+same-length-7 c = search needs
+
+same-length-8 : tie.Need-same-length-8 Inv-loop μ-loop
+same-length-8 c = search needs
 
 returns-2 : tie.Need-returns-2 Inv-loop μ-loop
 returns-2 c = search needs
@@ -58,5 +65,5 @@ returns-2 c = search needs
 pub run-ops-spec : {M : Type 1} → statement M
 run-ops-spec =
     tie.close
-    (tie.spec Inv-loop μ-loop loop-holds step-requires enum-told same-length same-length-2 same-length-3 returns
-    add-counter loop-less loop-again same-length-4 same-length-5 same-length-6 returns-2)
+    (tie.spec Inv-loop μ-loop loop-holds step-requires enum-told same-length same-length-2 same-length-3 same-length-4
+    returns add-counter loop-less loop-again same-length-5 same-length-6 same-length-7 same-length-8 returns-2)

@@ -2,6 +2,7 @@
 use native.Mathlib.Omega.{arith}
 use lib.ListN.{length-take}
 use borrow.Author.Needs.{needs}
+use Rattle.replay.specs.inner.Lengths.{within}
 use Rattle.replay.proofs.step.Statement.{statement}
 use Rattle.replay.proofs.step.Tie as tie
 
@@ -38,8 +39,8 @@ part-words-end c = search needs
 lent-requires : tie.Need-lent-requires
 lent-requires c κs = search needs
 
-add-t17 : tie.Need-add-t17
-add-t17 c = search needs
+add-t18 : tie.Need-add-t18
+add-t18 c = search needs
 
 slice-relend-prefix-perform : tie.Need-slice-relend-prefix-perform
 slice-relend-prefix-perform c = search needs
@@ -71,13 +72,20 @@ same-length-2 c = search needs
 same-length-3 : tie.Need-same-length-3
 same-length-3 c = search needs
 
+same-length-4 : tie.Need-same-length-4
+same-length-4 c = search needs
+
 returns-2 : tie.Need-returns-2
-returns-2 c = search needs
+returns-2 c =
+    let p = c .before .before .before .before .before .before .before .before in
+    let o = p .before .before .before .before .before .before .before .before .before .before .before in
+    let s = o .before .before .before .before .before .before .before in
+    within (s .args .input .now) _ _ _ (s .pre .0) (o .op-length .ensures) (p .perform .ensures)
 
 pub step-spec : {M : Type 1} → statement M
 step-spec =
     tie.close
     (tie.spec mul-rest sub-rest part-rest-start part-rest-end op-length-requires returns shared-slice-read-code
-    sub-words part-words-start part-words-end lent-requires add-t17 slice-relend-prefix-perform
+    sub-words part-words-start part-words-end lent-requires add-t18 slice-relend-prefix-perform
     slice-aggregate-perform slice-relend-prefix-perform-2 slice-aggregate-perform-2 slice-relend-prefix-perform-3
-    slice-aggregate-perform-3 perform-requires same-length same-length-2 same-length-3 returns-2)
+    slice-aggregate-perform-3 perform-requires same-length same-length-2 same-length-3 same-length-4 returns-2)

@@ -15,11 +15,11 @@ use Rattle.slot.specs.declared.Content.the-variants.{Empty, Torn, Entry, Stamp}
 use Rattle.image.specs.Image.{maxLanes, maxSlots, baseOf, logOf}
 use Rattle.image.specs.inner.ImageLaws.{InRange, logs-small}
 use Rattle.image.specs.declared.Sizes.{Sizes}
-use Rattle.log.specs.Log.{Complete, slotAt, entriesBack, closes, completeBelow, completeIn}
+use Rattle.log.specs.Log.{Complete, slotAt, entriesBack, closes, completeBelow, completeIn, undoneBefore, insert, ordered}
 use Rattle.log.specs.inner.LogLaws.{stamp-in}
 use Rattle.log.specs.declared.Timestamp.{Timestamp}
 use Rattle.log.specs.declared.Timestamp.the-variants.{None, At}
-use Rattle.recovery.specs.Recovery.{boundary, completeOf, atOrAbove, undoneBefore, insert, ordered, undoneFrom, undone, undoEntries, undoSequences, undoStores}
+use Rattle.recovery.specs.Recovery.{boundary, completeOf, atOrAbove, undoneFrom, undone, undoEntries, undoSequences, undoStores}
 use Rattle.recovery.specs.Recovery.{recoveryStores}
 use Rattle.recovery.specs.inner.Limit.{maxUndone}
 use Rattle.recovery.specs.inner.LimitLaws.{length-undo, length-zeros}
@@ -42,18 +42,18 @@ stores-append [] rs = omega (arith, stores-none)
 stores-append (q ∷ qs) rs = omega (arith, stores-cons q (qs ++ rs), stores-cons q qs, stores-append qs rs)
 
 -- the order does not matter, and fewer sequences make fewer stores
-stores-insert : (q : Complete) (qs : List Complete) → stores (insert q qs) ≡ length (q .entries) + stores qs
+stores-insert : (all : List Complete) (q : Complete) (qs : List Complete) → stores (insert all q qs) ≡ length (q .entries) + stores qs
 unfolding insert
-stores-insert q [] = stores-cons q []
-stores-insert q (r ∷ rs) =
-    split (undoneBefore q r)
+stores-insert all q [] = stores-cons q []
+stores-insert all q (r ∷ rs) =
+    split (undoneBefore all q r)
     (λ e. rw e (stores-cons q (r ∷ rs)))
-    (λ e. rw e (omega (arith, stores-cons r (insert q rs), stores-insert q rs, stores-cons r rs)))
+    (λ e. rw e (omega (arith, stores-cons r (insert all q rs), stores-insert all q rs, stores-cons r rs)))
 
-stores-ordered : (qs : List Complete) → stores (ordered qs) ≡ stores qs
+stores-ordered : (all qs : List Complete) → stores (ordered all qs) ≡ stores qs
 unfolding ordered
-stores-ordered [] = refl
-stores-ordered (q ∷ qs) = omega (arith, stores-insert q (ordered qs), stores-ordered qs, stores-cons q qs)
+stores-ordered all [] = refl
+stores-ordered all (q ∷ qs) = omega (arith, stores-insert all q (ordered all qs), stores-ordered all qs, stores-cons q qs)
 
 stores-above : (b : ℕ) (qs : List Complete) → stores (atOrAbove b qs) ≤ stores qs
 unfolding atOrAbove
@@ -66,7 +66,7 @@ stores-above b (q ∷ qs) =
 stores-from : (b : Timestamp) (qs : List Complete) → stores (undoneFrom b qs) ≤ stores qs
 unfolding undoneFrom
 stores-from None qs = omega (arith, stores-none)
-stores-from (At b) qs = omega (arith, stores-ordered (atOrAbove b qs), stores-above b qs)
+stores-from (At b) qs = omega (arith, stores-ordered qs (atOrAbove b qs), stores-above b qs)
 
 -- ---- the sequences of an image
 -- a slot closes one of at most maxEntries entries
@@ -82,7 +82,7 @@ stores-closed W N base log L j (Stamp n s p) h =
     rw e
     (omega (
       arith,
-      stores-cons (record { stamp = s; lane = L; slot = j; entries = es }) [],
+      stores-cons (record { stamp = s; lane = L; slot = j; wrap = p; entries = es }) [],
       stores-none,
       eqb-true (length es) n (and-right (ltb base s) (eqb (length es) n) e),
       stamp-in W log j n s p h .count,

@@ -29,13 +29,13 @@ returns c =
 
 drained-state-requires : tie.Need-drained-state-requires
 drained-state-requires c κs =
-    let k = checked _ _ _ _ _ _ (sym (c .before .drain-refusal .ensures) ∙ c .if1 .left) in
+    let k = checked _ _ _ _ _ _ _ (sym (c .before .drain-refusal .ensures) ∙ c .if1 .left) in
     (k .image, k .lane-below)
 
 drain-requires : tie.Need-drain-requires
 drain-requires c κs =
     let r = c .before .before .before in
-    let k = checked _ _ _ _ _ _ (sym (r .before .drain-refusal .ensures) ∙ r .if1 .left) in
+    let k = checked _ _ _ _ _ _ _ (sym (r .before .drain-refusal .ensures) ∙ r .if1 .left) in
     (omega (arith, lane-small _ _ (k .image .sizes-ok) (k .lane-below)), (k .same-nvm, k .same-flags))
 
 same-length-3 : tie.Need-same-length-3
@@ -50,7 +50,7 @@ returns-2 c =
     let d = c .before .before .before .before in
     let s = d .before .before .before in
     let r = s .before in
-    let e = drained-by _ _ _ _ _ _ _ _ _ (s .drained-state .ensures) (d .drain .ensures .0) (d .drain .ensures .1) in
+    let e = drained-by _ _ _ _ _ _ _ _ _ _ (s .drained-state .ensures) (d .drain .ensures .0) (d .drain .ensures .1) in
     ap (λ m. record { answer = Done; machine = m }) e ∙ step-taken _ _ _ _ (r .before .drain-refusal .ensures) (r .if1 .left)
 
 pub drain-spec : {M : Type 1} → statement M

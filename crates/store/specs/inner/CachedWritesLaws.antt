@@ -69,7 +69,7 @@ module _ (W : ℕ) (t memory : List ℕ) (w : Writes) (e : w ≡ writesOf maxWri
   writes-low = rw writes-run (run-low current maxWrites W t memory ok)
 
 -- on a machine's data words they are what the calls' refusals and steps speak of
-pub run-on : (z : Sizes) (t : List ℕ) (w : Writes) (state : Record) (cache nvm flags : List ℕ) → w ≡ writesOf maxWrites (run (z .words) t (dataOf z cache))
-    → w ≡ writesOf maxWrites (writesOn z t (machineOf state cache nvm flags))
+pub run-on : (z : Sizes) (t : List ℕ) (w : Writes) (state : Record) (pairs cache nvm flags : List ℕ)
+    → w ≡ writesOf maxWrites (run (z .words) t (dataOf z cache)) → w ≡ writesOf maxWrites (writesOn z t (machineOf state pairs cache nvm flags))
 unfolding writesOn
-run-on z t w state cache nvm flags e = e
+run-on z t w state pairs cache nvm flags e = e

@@ -7,15 +7,16 @@ use lib.ListN.{length, replicate}
 use Rattle.image.specs.inner.Facts.{IsImage}
 use Rattle.image.specs.declared.Sizes.{Sizes}
 use Rattle.log.specs.Log.{latestIn}
-use Rattle.record.specs.Record.{recordOk, withLane, drainedLane, laneAt}
+use Rattle.record.specs.Record.{lockLength, recordOk, withLane, drainedLane, laneAt}
 use Rattle.record.specs.declared.Record.{Record}
 
 -- what a call knows of its sizes, record, buffers and lane once refusals 1, 2 and 3 are ruled out
-pub record Checked (z : Sizes) (state : Record) (cache nvm flags : List ℕ) (L : ℕ) : Type 0 where
+pub record Checked (z : Sizes) (state : Record) (pairs cache nvm flags : List ℕ) (L : ℕ) : Type 0 where
   pub image : IsImage z cache
   pub same-nvm : length nvm ≡ length cache
   pub same-flags : length flags ≡ length cache
-  pub in-range : recordOk z state ≡ true
+  pub in-pairs : length pairs ≡ lockLength
+  pub in-range : recordOk z state pairs ≡ true
   pub lane-below : L < z .lanes
 
 -- what Format writes before the trailer

@@ -1,4 +1,4 @@
--- Inner: how the code goes, need not be believed. What an answer says is the whole answer: `said` tells the nine cases and their values apart, of all
+-- Inner: how the code goes, need not be believed. What an answer says is the whole answer: `said` tells the ten cases and their values apart, of all
 -- answers that calls give. Assumes nothing.
 use Prim.Native.Nat.{ℕ, _<_}
 use native.Mathlib.Omega.{arith}
@@ -12,21 +12,23 @@ use Rattle.laws.specs.inner.Tests.{split}
 use Rattle.txn.specs.Txn.{Rule}
 use Rattle.image.specs.declared.Sizes.{Sizes}
 use Rattle.store.specs.declared.Answer.{Answer}
-use Rattle.store.specs.declared.Answer.the-variants.{Refused, Done, NoWrites, Logged, Settled, Committed, Stale, Changed, Marked}
+use Rattle.store.specs.declared.Answer.the-variants.{Refused, Done, NoWrites, Logged, Settled, Committed, Stale, Changed, Marked, Locked}
 use Rattle.store.specs.Machine.{Machine, unless, Said, said}
 use Rattle.store.specs.Calls.{writesOn, logTxnRefusalBy, logTxnStepBy, settleRefusal, settleStep, logStepBy}
 
--- the answer with this count, timestamp and drop
-unfoldable pub valued : (count stamp : List ℕ) (dropped : List Bool) → Answer
-valued [] [] ds = Done
-valued (n ∷ ns) [] ds = NoWrites
-valued (n ∷ ns) (s ∷ ss) ds = cond (eqb n 0) (Settled s) (Logged (record { count = n; stamp = s }))
-valued [] (s ∷ ss) [] = Committed s
-valued [] (s ∷ ss) (d ∷ ds) = Marked (record { stamp = s; dropped = d })
+-- the answer with this count, writes left, timestamp and drop
+unfoldable pub valued : (count left stamp : List ℕ) (dropped : List Bool) → Answer
+valued [] [] [] ds = Done
+valued [] (n ∷ ns) [] ds = Done
+valued (n ∷ ns) ls [] ds = NoWrites
+valued (n ∷ ns) ls (s ∷ ss) ds = cond (eqb n 0) (Settled s) (Logged (record { count = n; stamp = s }))
+valued [] (n ∷ ns) (s ∷ ss) ds = Locked (record { left = n; stamp = s })
+valued [] [] (s ∷ ss) [] = Committed s
+valued [] [] (s ∷ ss) (d ∷ ds) = Marked (record { stamp = s; dropped = d })
 
 -- the answer that says this
 unfoldable pub answerFor : Said → Answer
-answerFor s = cond s.refused (Refused s.number) (cond s.stale Stale (cond s.changed Changed (valued s.count s.stamp s.dropped)))
+answerFor s = cond s.refused (Refused s.number) (cond s.stale Stale (cond s.changed Changed (valued s.count s.left s.stamp s.dropped)))
 
 -- an answer that a call gives: Log of a transaction that writes counts what it writes
 abbrev pub Given : Answer → Type 0
@@ -39,6 +41,7 @@ Given (Committed s) = Unit {0}
 Given Stale = Unit {0}
 Given Changed = Unit {0}
 Given (Marked a) = Unit {0}
+Given (Locked a) = Unit {0}
 
 pub said-back : (a : Answer) → Given a → answerFor (said a) ≡ a
 unfolding said answerFor valued
@@ -51,6 +54,7 @@ said-back (Committed s) g = refl
 said-back Stale g = refl
 said-back Changed g = refl
 said-back (Marked a) g = refl
+said-back (Locked a) g = refl
 
 -- two such answers that say the same are one
 pub said-apart : (a b : Answer) → Given a → Given b → said a ≡ said b → a ≡ b

@@ -7,17 +7,17 @@ use mathlib.Core.List.{List, [], _∷_}
 use native.Mathlib.Omega.{arith}
 use native.Mathlib.Decide.{ℕ-discrete}
 use lib.ListN.{length}
-use lib.Dec.{ltb}
+use lib.Dec.{ltb, eqb}
 use lib.Seq.{getD-set-same, set-out}
 use borrow.Author.Tests.{ne-eqb, eqb-true, leb-false, ltb-true, ltb-false, not-false}
-use Rattle.laws.specs.inner.Tests.{split}
-use Rattle.txn.specs.Txn.{maxWrites, current, txnOk}
-use Rattle.image.specs.Image.{maxLanes, sizesOk, imageLength}
+use Rattle.laws.specs.inner.Tests.{split, and-left, and-right}
+use Rattle.txn.specs.Txn.{current, txnOk}
+use Rattle.image.specs.Image.{maxLanes, sizesOk, imageLength, buffersOk}
 use Rattle.image.specs.inner.ImageLaws.{sizes-in, AllAre, format-in, Buffers, buffers-in}
 use Rattle.image.specs.Flush.{drainedNvm, drainedFlags}
 use Rattle.image.specs.declared.Sizes.{Sizes}
 use Rattle.log.specs.Log.{latestIn}
-use Rattle.record.specs.Record.{noLane, laneAt, lagOk, withLane, drainedLane}
+use Rattle.record.specs.Record.{lockLength, noLane, laneAt, lagOk, withLane, drainedLane}
 use Rattle.record.specs.declared.Lane.{Lane}
 use Rattle.record.specs.declared.Record.{Record}
 use Rattle.store.specs.declared.Answer.the-variants.{Refused}
@@ -48,19 +48,23 @@ first-none c cs h e =
 
 -- ---- causes of several calls, before any others
 module _ (cs : List Cause) where
-  pub refuses-txn : (z : Sizes) (f : List ℕ) → txnOk maxWrites (z .words) f ≡ false → firstCause (badTxn current z f ∷ cs) ≡ 5
+  pub refuses-txn : (most : ℕ) (z : Sizes) (f : List ℕ) → txnOk most (z .words) f ≡ false → firstCause (badTxn current most z f ∷ cs) ≡ 5
   unfolding badTxn
-  refuses-txn z f e = first-holds _ cs (rw e)
+  refuses-txn most z f e = first-holds _ cs (rw e)
 
-  pub passes-txn : (z : Sizes) (f : List ℕ) → txnOk maxWrites (z .words) f ≡ true → firstCause (badTxn current z f ∷ cs) ≡ firstCause cs
+  pub passes-txn : (most : ℕ) (z : Sizes) (f : List ℕ) → txnOk most (z .words) f ≡ true → firstCause (badTxn current most z f ∷ cs) ≡ firstCause cs
   unfolding badTxn
-  passes-txn z f e = first-fails _ cs (rw e)
+  passes-txn most z f e = first-fails _ cs (rw e)
 
 -- ---- the causes that every call on a lane has first: Drain's
 module _ (z : Sizes) (m : Machine) where
   pub good-buffers : badBuffers z m .holds ≡ false → Buffers z (length (m .cache)) (length (m .nvm)) (length (m .flags))
   unfolding badBuffers
-  good-buffers e = buffers-in z _ _ _ (not-false _ e)
+  good-buffers e = buffers-in z _ _ _ (and-left _ (eqb (length (m .pairs)) lockLength) (not-false _ e))
+
+  pub good-pairs : badBuffers z m .holds ≡ false → length (m .pairs) ≡ lockLength
+  unfolding badBuffers
+  good-pairs e = eqb-true _ _ (and-right (buffersOk z (length (m .cache)) (length (m .nvm)) (length (m .flags))) _ (not-false _ e))
 
   pub lane-causes : (L : ℕ) → drainRefusal z L m ≡ 0 → (badBuffers z m .holds ≡ false) × (badRecord z m .holds ≡ false) × (badLane z L .holds ≡ false)
   unfolding drainRefusal badBuffers badRecord badLane
@@ -71,16 +75,17 @@ module _ (z : Sizes) (m : Machine) where
       (a .0, b .0, c .0)
 
 -- what a call on a lane knows where Drain is not refused
-pub checked : (z : Sizes) (state : Record) (cache nvm flags : List ℕ) (L : ℕ) → drainRefusal z L (machineOf state cache nvm flags) ≡ 0
-    → Checked z state cache nvm flags L
+pub checked : (z : Sizes) (state : Record) (pairs cache nvm flags : List ℕ) (L : ℕ) → drainRefusal z L (machineOf state pairs cache nvm flags) ≡ 0
+    → Checked z state pairs cache nvm flags L
 unfolding badRecord badLane
-checked z state cache nvm flags L e =
-    let h = lane-causes z (machineOf state cache nvm flags) L e in
-    let k = good-buffers z (machineOf state cache nvm flags) (h .0) in
+checked z state pairs cache nvm flags L e =
+    let h = lane-causes z (machineOf state pairs cache nvm flags) L e in
+    let k = good-buffers z (machineOf state pairs cache nvm flags) (h .0) in
     record {
       image = record { sizes-ok = k .sizes-ok; in-image = k .fits; small = k .small };
       same-nvm = k .same-nvm;
       same-flags = k .same-flags;
+      in-pairs = good-pairs z (machineOf state pairs cache nvm flags) (h .0);
       in-range = not-false _ (h .1);
       lane-below = leb-false (z .lanes) L (h .2);
     }
@@ -143,9 +148,9 @@ module _ (number refusal : ℕ) (m : Machine) (step : Step) (e : number ≡ refu
   step-taken h = rw (← e, h)
 
 -- ---- a drain
-module _ (z : Sizes) (L : ℕ) (state : Record) (cache nvm flags : List ℕ) where
+module _ (z : Sizes) (L : ℕ) (state : Record) (pairs cache nvm flags : List ℕ) where
   pub drained-by : (state′ : Record) (nvm′ flags′ : List ℕ) → state′ ≡ drainedState z cache L state → nvm′ ≡ drainedNvm L flags cache nvm
-      → flags′ ≡ drainedFlags L flags → machineOf state′ cache nvm′ flags′ ≡ drained z L (machineOf state cache nvm flags)
+      → flags′ ≡ drainedFlags L flags → machineOf state′ pairs cache nvm′ flags′ ≡ drained z L (machineOf state pairs cache nvm flags)
   unfolding drained drainedState
   drained-by state′ nvm′ flags′ e f g = rw (e, f, g)
 

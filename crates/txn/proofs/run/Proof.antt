@@ -1,92 +1,60 @@
--- `txn::run` meets its contract. The loop's invariant is `Reached`: the writes so far, and the rest of the instructions gives the rest. Assumes nothing.
+-- `txn::run` meets its contract: the loop puts the writes together from their columns. Assumes nothing.
 use Prim.Native.Nat.{_≤_, _-_}
+use mathlib.Core.Path.{refl}
+use native.Mathlib.Omega.{arith}
 use borrow.Author.Needs.{needs}
-use Rattle.txn.specs.Txn.{maxWrites, instructionAt}
-use Rattle.txn.specs.inner.Progress.{Reached}
-use Rattle.txn.specs.inner.ProgressLaws.{reached-none, reached-all, reached-b, reached-skip, reached-a, reached-write}
+use lib.ListN.{length}
+use Rattle.txn.specs.Txn.{maxWrites, current, run}
+use Rattle.txn.specs.inner.TxnLaws.{few-writes}
+use Rattle.txn.specs.inner.Writes.{Gathered}
+use Rattle.txn.specs.inner.WritesLaws.{gathered-none, gathered-more, gathered-all}
 use Rattle.txn.proofs.run.Statement.{statement}
 use Rattle.txn.proofs.run.Tie as tie
 
 abbrev Inv-loop : tie.InvT-loop
-Inv-loop txn memory list₀ words₀ news₀ last₀ count₀ end i₀ list words news last count i =
-    (i ≤ end) × Reached maxWrites txn memory end i list words news last count
+Inv-loop txn memory words olds news count list₀ i₀ list i =
+    (i ≤ count) × Gathered maxWrites (run (length memory) txn memory) words olds news count i list
 
 abbrev μ-loop : tie.MeasureT-loop
-μ-loop txn memory list₀ words₀ news₀ last₀ count₀ end i₀ list words news last count i = end - i
+μ-loop txn memory words olds news count list₀ i₀ list i = count - i
+
+slice-aggregate-run-in : tie.Need-slice-aggregate-run-in Inv-loop μ-loop
+slice-aggregate-run-in c = search needs
+
+slice-aggregate-run-in-2 : tie.Need-slice-aggregate-run-in-2 Inv-loop μ-loop
+slice-aggregate-run-in-2 c = search needs
+
+slice-aggregate-run-in-3 : tie.Need-slice-aggregate-run-in-3 Inv-loop μ-loop
+slice-aggregate-run-in-3 c = search needs
+
+run-in-requires : tie.Need-run-in-requires Inv-loop μ-loop
+run-in-requires c κs = (c .before .before .before .before .before .pre, (refl, (refl, omega arith)))
 
 loop-holds : tie.Need-loop-holds Inv-loop μ-loop
-loop-holds c = (search needs, reached-none _ _ _ (c .before .before .pre))
+loop-holds c =
+    let r = c .before .before .before .run-in .ensures in
+    let o = c .before .before .before .before .before .before .before .before .before in (
+      search needs,
+      gathered-none _ _ _ refl refl refl (few-writes current _ _ _ _ (o .pre)) (r .0) (r .1 .0) (r .1 .1 .0) (r .1 .1 .1),
+    )
 
-mul-at : tie.Need-mul-at Inv-loop μ-loop
-mul-at c = search needs
+mul-t17 : tie.Need-mul-t17 Inv-loop μ-loop
+mul-t17 c = search needs
 
-add-i : tie.Need-add-i Inv-loop μ-loop
-add-i c = search needs
+array-read-t20 : tie.Need-array-read-t20 Inv-loop μ-loop
+array-read-t20 c = search needs
 
-mul-code : tie.Need-mul-code Inv-loop μ-loop
-mul-code c = search needs
+mul-t21 : tie.Need-mul-t21 Inv-loop μ-loop
+mul-t21 c = search needs
 
-shared-slice-read-code : tie.Need-shared-slice-read-code Inv-loop μ-loop
-shared-slice-read-code c = search needs
+array-read-t24 : tie.Need-array-read-t24 Inv-loop μ-loop
+array-read-t24 c = search needs
 
-add-k : tie.Need-add-k Inv-loop μ-loop
-add-k c = search needs
+mul-t25 : tie.Need-mul-t25 Inv-loop μ-loop
+mul-t25 c = search needs
 
-mul-k : tie.Need-mul-k Inv-loop μ-loop
-mul-k c = search needs
-
-shared-slice-read-k : tie.Need-shared-slice-read-k Inv-loop μ-loop
-shared-slice-read-k c = search needs
-
-add-value : tie.Need-add-value Inv-loop μ-loop
-add-value c = search needs
-
-mul-value : tie.Need-mul-value Inv-loop μ-loop
-mul-value c = search needs
-
-shared-slice-read-value : tie.Need-shared-slice-read-value Inv-loop μ-loop
-shared-slice-read-value c = search needs
-
-value-requires : tie.Need-value-requires Inv-loop μ-loop
-unfolding instructionAt
-value-requires c κs = let e = c .before .before .before .before .before .before in
-    reached-b (e .before .loop .inv .1) (e .loop-test .taken)
-
-distance-requires : tie.Need-distance-requires Inv-loop μ-loop
-distance-requires c κs = search needs
-
-add-i-2 : tie.Need-add-i-2 Inv-loop μ-loop
-unfolding instructionAt
-add-i-2 c = let v = c .before .before in
-    let e = v .before .before .before .before .before .before .before in
-    let s = reached-skip (e .before .loop .inv .1) (e .loop-test .taken) _ (v .value .ensures) (c .before .if1 .taken) _ (c .distance .ensures) in
-    search needs
-
-loop-less : tie.Need-loop-less Inv-loop μ-loop
-loop-less c = search needs
-
-loop-again : tie.Need-loop-again Inv-loop μ-loop
-unfolding instructionAt
-loop-again c = let v = c .before .before in
-    let e = v .before .before .before .before .before .before .before in
-    reached-skip (e .before .loop .inv .1) (e .loop-test .taken) _ (v .value .ensures) (c .before .if1 .taken) _ (c .distance .ensures)
-
-add-word : tie.Need-add-word Inv-loop μ-loop
-add-word c = search needs
-
-mul-word : tie.Need-mul-word Inv-loop μ-loop
-mul-word c = search needs
-
-shared-slice-read-word : tie.Need-shared-slice-read-word Inv-loop μ-loop
-shared-slice-read-word c = search needs
-
-value-requires-2 : tie.Need-value-requires-2 Inv-loop μ-loop
-unfolding instructionAt
-value-requires-2 c κs = let e = c .before .before .before .before .before .before .before .before .before .before .before .before in
-    reached-a (e .before .loop .inv .1) (e .loop-test .taken)
-
-result-requires : tie.Need-result-requires Inv-loop μ-loop
-result-requires c κs = search needs
+array-read-t28 : tie.Need-array-read-t28 Inv-loop μ-loop
+array-read-t28 c = search needs
 
 mul-list : tie.Need-mul-list Inv-loop μ-loop
 mul-list c = search needs
@@ -94,49 +62,20 @@ mul-list c = search needs
 array-set-from-list : tie.Need-array-set-from-list Inv-loop μ-loop
 array-set-from-list c = search needs
 
-mul-words : tie.Need-mul-words Inv-loop μ-loop
-mul-words c = search needs
+add-i : tie.Need-add-i Inv-loop μ-loop
+add-i c = search needs
 
-array-write-words : tie.Need-array-write-words Inv-loop μ-loop
-array-write-words c = search needs
+loop-less : tie.Need-loop-less Inv-loop μ-loop
+loop-less c = search needs
 
-mul-news : tie.Need-mul-news Inv-loop μ-loop
-mul-news c = search needs
-
-array-write-news : tie.Need-array-write-news Inv-loop μ-loop
-array-write-news c = search needs
-
-add-count : tie.Need-add-count Inv-loop μ-loop
-add-count c = search needs
-
-cast-last : tie.Need-cast-last Inv-loop μ-loop
-cast-last c = search needs
-
-array-write-last : tie.Need-array-write-last Inv-loop μ-loop
-array-write-last c = search needs
-
-loop-less-2 : tie.Need-loop-less-2 Inv-loop μ-loop
-loop-less-2 c = search needs
-
-loop-again-2 : tie.Need-loop-again-2 Inv-loop μ-loop
-unfolding instructionAt
-loop-again-2 c = let o = c .before in
-    let w = o .before .before .before .before .before in
-    let v = w .before in
-    let e = v .before .before .before .before .before .before .before in (
-      search needs,
-      reached-write (e .before .loop .inv .1) (e .loop-test .taken) _ (v .value .ensures) (w .if1 .left) _ _ (o .value2 .ensures)
-          (c .result .ensures),
-    )
+loop-again : tie.Need-loop-again Inv-loop μ-loop
+loop-again c = (search needs, gathered-more (c .before .loop .inv .1) (c .loop-test .taken))
 
 returns : tie.Need-returns Inv-loop μ-loop
-returns c = reached-all (c .before .loop .inv .1) (c .loop-test .left)
+returns c = gathered-all (c .before .loop .inv .1) (c .loop-test .left)
 
 pub run-spec : {M : Type 1} → statement M
 run-spec =
     tie.close
-    (tie.spec Inv-loop μ-loop loop-holds mul-at add-i mul-code shared-slice-read-code add-k mul-k shared-slice-read-k
-    add-value mul-value shared-slice-read-value value-requires distance-requires add-i-2 loop-less loop-again add-word
-    mul-word shared-slice-read-word value-requires-2 result-requires mul-list array-set-from-list
-    mul-words array-write-words mul-news array-write-news add-count cast-last array-write-last loop-less-2 loop-again-2
-    returns)
+    (tie.spec Inv-loop μ-loop slice-aggregate-run-in slice-aggregate-run-in-2 slice-aggregate-run-in-3 run-in-requires loop-holds mul-t17 array-read-t20
+    mul-t21 array-read-t24 mul-t25 array-read-t28 mul-list array-set-from-list add-i loop-less loop-again returns)

@@ -3,16 +3,16 @@ use borrow.Author.Tests.{not-true, not-false}
 use Prim.Native.Nat.{_≤_, _-_}
 use mathlib.Core.Path.{_≡_}
 use borrow.Author.Needs.{needs}
-use Rattle.txn.specs.Txn.{maxWrites, instructionAt, instructionsFrom, current, allBy, txnOk}
+use Rattle.txn.specs.Txn.{instructionAt, instructionsFrom, current, allBy, txnOk}
 use Rattle.txn.specs.inner.CheckLaws.{checked-ragged, checked-empty, checked-long, checked-none, checked-refused, checked-more, checked-all}
 use Rattle.txn.proofs.txn_ok.Statement.{statement}
 use Rattle.txn.proofs.txn_ok.Tie as tie
 
 abbrev Inv-loop : tie.InvT-loop
-Inv-loop txn words count i₀ i = (i ≤ count) × (txnOk maxWrites words txn ≡ allBy current words (instructionsFrom txn i (count - i)))
+Inv-loop txn words most count i₀ i = (i ≤ count) × (txnOk most words txn ≡ allBy current words (instructionsFrom txn i (count - i)))
 
 abbrev μ-loop : tie.MeasureT-loop
-μ-loop txn words count i₀ i = count - i
+μ-loop txn words most count i₀ i = count - i
 
 returns : tie.Need-returns Inv-loop μ-loop
 returns c = checked-ragged _ _ _ (c .if1 .taken)

@@ -2,8 +2,7 @@
 use Prim.Native.Nat.{_≤_, _%_}
 use mathlib.Core.Path.{_≡_, refl, sym, _∙_}
 use borrow.Author.Needs.{needs}
-use lib.ListN.{getD}
-use Rattle.txn.specs.Txn.{maxWrites}
+use lib.ListN.{length, getD}
 use Rattle.txn.specs.inner.Lookup.{buckets, latest}
 use Rattle.txn.specs.inner.LookupLaws.{latest-none, latest-found, latest-other}
 use Rattle.txn.proofs.value.Statement.{statement}
@@ -11,7 +10,7 @@ use Rattle.txn.proofs.value.Tie as tie
 
 abbrev Inv-loop : tie.InvT-loop
 Inv-loop words news last memory word i₀ i =
-    (i ≤ maxWrites) × (latest words news (getD last (word % buckets) 0) memory word ≡ latest words news i memory word)
+    (i ≤ length words) × (latest words news (getD last (word % buckets) 0) memory word ≡ latest words news i memory word)
 
 abbrev μ-loop : tie.MeasureT-loop
 μ-loop words news last memory word i₀ i = i
@@ -31,14 +30,14 @@ sub-i c = search needs
 mul-if1 : tie.Need-mul-if1 Inv-loop μ-loop
 mul-if1 c = search needs
 
-element-copy-out-if1 : tie.Need-element-copy-out-if1 Inv-loop μ-loop
-element-copy-out-if1 c = search needs
+shared-slice-read-if1 : tie.Need-shared-slice-read-if1 Inv-loop μ-loop
+shared-slice-read-if1 c = search needs
 
 mul-result : tie.Need-mul-result Inv-loop μ-loop
 mul-result c = search needs
 
-element-copy-out-result : tie.Need-element-copy-out-result Inv-loop μ-loop
-element-copy-out-result c = search needs
+shared-slice-read-result : tie.Need-shared-slice-read-result Inv-loop μ-loop
+shared-slice-read-result c = search needs
 
 returns : tie.Need-returns Inv-loop μ-loop
 returns c = let l = c .before .before .before .before .loop in
@@ -54,8 +53,8 @@ loop-again c = let l = c .before .before .before .loop in
 mul-result-2 : tie.Need-mul-result-2 Inv-loop μ-loop
 mul-result-2 c = search needs
 
-shared-slice-read-result : tie.Need-shared-slice-read-result Inv-loop μ-loop
-shared-slice-read-result c = search needs
+shared-slice-read-result-2 : tie.Need-shared-slice-read-result-2 Inv-loop μ-loop
+shared-slice-read-result-2 c = search needs
 
 returns-2 : tie.Need-returns-2 Inv-loop μ-loop
 returns-2 c = let l = c .before .before .loop in
@@ -64,5 +63,5 @@ returns-2 c = let l = c .before .before .loop in
 pub value-spec : {M : Type 1} → statement M
 value-spec =
     tie.close
-    (tie.spec Inv-loop μ-loop element-copy-out-i cast-i loop-holds sub-i mul-if1 element-copy-out-if1 mul-result
-    element-copy-out-result returns loop-less loop-again mul-result-2 shared-slice-read-result returns-2)
+    (tie.spec Inv-loop μ-loop element-copy-out-i cast-i loop-holds sub-i mul-if1 shared-slice-read-if1 mul-result
+    shared-slice-read-result returns loop-less loop-again mul-result-2 shared-slice-read-result-2 returns-2)

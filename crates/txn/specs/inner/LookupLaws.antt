@@ -47,17 +47,17 @@ module _ (words news : List ℕ) (count word new : ℕ) (ws : List ℕ) (w : ℕ
   top h k = rw (getD-set-same words count word 0 h, getD-set-same news count new 0 k, before count (omega arith))
 
 -- before the first write
-pub seen-none : (most : ℕ) (ws : List ℕ) → Seen most ws 0 (replicate most 0) (replicate most 0) (replicate buckets 0) ws
+pub seen-none : (most : ℕ) (ws words news : List ℕ) → length words ≡ most → length news ≡ most → Seen most ws 0 words news (replicate buckets 0) ws
 unfolding latest
-seen-none most ws =
+seen-none most ws words news a b =
     record {
-      words-whole = length-replicate {A = ℕ} most 0;
-      news-whole = length-replicate {A = ℕ} most 0;
+      words-whole = a;
+      news-whole = b;
       last-whole = length-replicate {A = ℕ} buckets 0;
       data-whole = refl;
       within = λ w. omega (arith, zero-at w);
       by-all = λ w h. refl;
-      by-bucket = λ w h. latest-none (replicate most 0) (replicate most 0) ws w (getD (replicate {A = ℕ} buckets 0) (w % buckets) 0) (zero-at w);
+      by-bucket = λ w h. latest-none words news ws w (getD (replicate {A = ℕ} buckets 0) (w % buckets) 0) (zero-at w);
     }
   where
     zero-at : (w : ℕ) → getD (replicate {A = ℕ} buckets 0) (w % buckets) 0 ≡ 0

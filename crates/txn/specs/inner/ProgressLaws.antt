@@ -13,25 +13,29 @@ use Rattle.laws.specs.inner.Tests.{split, clash, and-left, and-right}
 use Rattle.txn.specs.declared.Write.{Write}
 use Rattle.txn.specs.Txn.{Instruction, instructionAt, instructionsFrom, instructions, instructionOk, current, instructionBy, allBy, txnOk}
 use Rattle.txn.specs.Txn.{target, result, emit, passed, applied, runFrom, run}
-use Rattle.txn.specs.inner.Writes.{noWrite, writesOf}
+use Rattle.txn.specs.inner.Writes.{laid}
 use Rattle.txn.specs.inner.CheckLaws.{ok-few, ok-low, ok-skip, ok-all, poke-refused, from-next, all-next}
 use Rattle.txn.specs.inner.TxnLaws.{applied-append}
-use Rattle.txn.specs.inner.WritesLaws.{padded-none, set-padded}
+use Rattle.txn.specs.inner.WritesLaws.{length-laid, set-laid}
 use Rattle.txn.specs.inner.Lookup.{buckets, latest}
 use Rattle.txn.specs.inner.LookupLaws.{seen-none, seen-more}
 use Rattle.txn.specs.inner.Progress.{Reached}
 
 -- before the first instruction
-pub reached-none : (most : ℕ) (f ws : List ℕ) → txnOk most (length ws) f ≡ true
-    → Reached most f ws (length f / 4) 0 (replicate most noWrite) (replicate most 0) (replicate most 0) (replicate buckets 0) 0
-unfolding run instructions applied
-reached-none most f ws ok =
+pub reached-none : (most : ℕ) (f ws words olds news : List ℕ) → txnOk most (length ws) f ≡ true
+    → length words ≡ most → length olds ≡ most → length news ≡ most
+    → Reached most f ws (length f / 4) 0 words olds news words olds news (replicate buckets 0) 0
+unfolding run instructions applied laid
+reached-none most f ws words olds news ok a b c =
     let z : length f / 4 - 0 ≡ length f / 4 = omega arith in
     record {
       done = [];
       counted = refl;
-      listed = padded-none most;
-      seen = seen-none most ws;
+      whole = (a, (b, c));
+      words-laid = refl;
+      olds-laid = refl;
+      news-laid = refl;
+      seen = seen-none most ws words news a c;
       few = omega arith;
       fits = ok-few current most (length ws) f ok;
       ok = rw z (ok-all current most (length ws) f ok);
@@ -65,15 +69,33 @@ ok-target : (W : ℕ) (x : Instruction) (n : ℕ) (ws : List ℕ) → instructio
 unfolding target
 ok-target W x n ws h = rw (ne-eqb (x .code) 4 (λ e. clash (instructionOk W n x) h (poke-refused W x n e)))
 
-module _ {most : ℕ} {f ws : List ℕ} {n i : ℕ} {list : List Write} {words news last : List ℕ} {count : ℕ}
-    (h : Reached most f ws n i list words news last count)
+module _ {most : ℕ} {f ws : List ℕ} {n i : ℕ} {words₀ olds₀ news₀ words olds news last : List ℕ} {count : ℕ}
+    (h : Reached most f ws n i words₀ olds₀ news₀ words olds news last count)
   where
     -- after the last one
-    pub reached-all : n ≤ i → record { count = count; list = list } ≡ writesOf most (run (length ws) f ws)
-    unfolding instructionsFrom runFrom writesOf
+    pub reached-all : n ≤ i
+        → (count ≡ length (run (length ws) f ws))
+        × ((words ≡ laid (λ w. w .word) (run (length ws) f ws) words₀)
+        × ((olds ≡ laid (λ w. w .old) (run (length ws) f ws) olds₀)
+        × (news ≡ laid (λ w. w .new) (run (length ws) f ws) news₀)))
+    unfolding instructionsFrom runFrom
     reached-all l =
         let z : n - i ≡ 0 = omega arith in
-        rw (h .counted, h .listed) (ap (writesOf most) (sym (append-nil (h .done)) ∙ sym (rw z at (h .rest))))
+        let e : run (length ws) f ws ≡ h .done = rw z at (h .rest) ∙ append-nil (h .done) in
+        rw e (h .counted, (h .words-laid, (h .olds-laid, h .news-laid)))
+
+    -- the lists stay as long as they were
+    pub reached-lengths : (length words ≡ length words₀) × ((length olds ≡ length olds₀) × (length news ≡ length news₀))
+    reached-lengths =
+        rw (h .words-laid, h .olds-laid, h .news-laid)
+        (length-laid (λ w. w .word) (h .done) words₀, (length-laid (λ w. w .old) (h .done) olds₀, length-laid (λ w. w .new) (h .done) news₀))
+
+    -- there is a place for one write more
+    pub reached-room : i < n → (count < length words) × ((count < length olds) × (count < length news))
+    reached-room l = (
+      omega (arith, h .few, h .fits, h .whole, reached-lengths),
+      (omega (arith, h .few, h .fits, h .whole, reached-lengths), omega (arith, h .few, h .fits, h .whole, reached-lengths)),
+    )
 
     module _ (l : i < n) where
       -- the next instruction, those after it, and the data words as it sees them
@@ -96,15 +118,18 @@ module _ {most : ℕ} {f ws : List ℕ} {n i : ℕ} {list : List Write} {words n
       unfolding instructionBy
       low = ok-low (length ws) next current (n - i - 1) (and-left _ _ all-ok)
 
-      within : (w : ℕ) → getD last (w % buckets) 0 ≤ most
-      within w = omega (arith, h .seen .within w, h .few, h .fits)
+      within : (w : ℕ) → getD last (w % buckets) 0 ≤ length words
+      within w = omega (arith, h .seen .within w, h .seen .words-whole, h .few, h .fits)
+
+      same : length news ≡ length words
+      same = h .seen .news-whole ∙ sym (h .seen .words-whole)
 
       -- its words a and b can be looked up
-      pub reached-a : (getD last (next .a % buckets) 0 ≤ most) × (next .a < length ws)
-      reached-a = (within (next .a), low .0)
+      pub reached-a : (getD last (next .a % buckets) 0 ≤ length words) × ((length news ≡ length words) × (next .a < length ws))
+      reached-a = (within (next .a), (same, low .0))
 
-      pub reached-b : (getD last (next .b % buckets) 0 ≤ most) × (next .b < length ws)
-      reached-b = (within (next .b), low .1)
+      pub reached-b : (getD last (next .b % buckets) 0 ≤ length words) × ((length news ≡ length words) × (next .b < length ws))
+      reached-b = (within (next .b), (same, low .1))
 
       left : run (length ws) f ws
           ≡ h .done ++ (emit (length ws) 0 next running
@@ -138,7 +163,7 @@ module _ {most : ℕ} {f ws : List ℕ} {n i : ℕ} {list : List Write} {words n
           rest-over = rw (emitted-none, passes) at left
 
           -- it is a SKIP that passes over d instructions
-          pub reached-skip : (i + 1 + d ≤ n) × Reached most f ws n (i + 1 + d) list words news last count
+          pub reached-skip : (i + 1 + d ≤ n) × Reached most f ws n (i + 1 + d) words₀ olds₀ news₀ words olds news last count
           reached-skip =
               let z : n - (i + 1 + d) ≡ n - (i + 1) - d = omega arith in
               let s = few-over in (
@@ -146,7 +171,10 @@ module _ {most : ℕ} {f ws : List ℕ} {n i : ℕ} {list : List Write} {words n
                 record {
                   done = h .done;
                   counted = h .counted;
-                  listed = h .listed;
+                  whole = h .whole;
+                  words-laid = h .words-laid;
+                  olds-laid = h .olds-laid;
+                  news-laid = h .news-laid;
                   seen = h .seen;
                   few = omega (arith, h .few);
                   fits = h .fits;
@@ -187,14 +215,20 @@ module _ {most : ℕ} {f ws : List ℕ} {n i : ℕ} {list : List Write} {words n
             unfolding applied
             rest-written = rw (stored, append-assoc (h .done) (write ∷ [])) (rw (emitted, goes-on) at left)
 
+            room : (xs : List ℕ) → length xs ≡ most → length (h .done) < length xs
+            room xs e = omega (arith, h .few, h .fits, h .counted)
+
             -- it writes
-            pub reached-write : Reached most f ws n (i + 1) (set list count write)
-                (set words count (next .a)) (set news count new) (set last (next .a % buckets) (count + 1)) (count + 1)
+            pub reached-write : Reached most f ws n (i + 1) words₀ olds₀ news₀ (set words count (next .a)) (set olds count old)
+                (set news count new) (set last (next .a % buckets) (count + 1)) (count + 1)
             reached-write =
                 record {
                   done = h .done ++ (write ∷ []);
                   counted = omega (arith, h .counted, length-append (h .done) (write ∷ []));
-                  listed = rw (h .listed, h .counted) (set-padded most (h .done) write (omega (arith, h .few, h .fits, h .counted)));
+                  whole = h .whole;
+                  words-laid = rw (h .words-laid, h .counted) (set-laid (λ w. w .word) (h .done) words₀ write (room words₀ (h .whole .0)));
+                  olds-laid = rw (h .olds-laid, h .counted) (set-laid (λ w. w .old) (h .done) olds₀ write (room olds₀ (h .whole .1 .0)));
+                  news-laid = rw (h .news-laid, h .counted) (set-laid (λ w. w .new) (h .done) news₀ write (room news₀ (h .whole .1 .1)));
                   seen = rw stored (seen-more most ws count words news last running (h .seen) (next .a) new (omega (arith, h .few, h .fits)));
                   few = omega (arith, h .few);
                   fits = h .fits;

@@ -1,5 +1,5 @@
 -- `vandzulge_format` leaves what the call's own step says: a slice of another length is the call unfit, and
--- otherwise the record's words are written by `put_record`. Assumes nothing.
+-- otherwise the record's words are written by `start`. Assumes nothing.
 use mathlib.Core.Path.{refl}
 use borrow.Author.Needs.{needs}
 use Rattle.vandzulge.specs.inner.ExportsLaws.{fits, fits-not, left-unfit, left-by}
@@ -7,13 +7,13 @@ use Rattle.vandzulge.proofs.vandzulge_format.Statement.{statement}
 use Rattle.vandzulge.proofs.vandzulge_format.Tie as tie
 
 returns : tie.Need-returns
-returns c = left-unfit _ _ _ _ _ _ _ (fits-not _ _ (c .if1 .taken) refl)
+returns c = left-unfit _ _ _ _ _ _ _ _ (fits-not _ _ (c .if1 .taken) refl)
 
 format-requires : tie.Need-format-requires
 format-requires c κs = search needs
 
-put-record-requires : tie.Need-put-record-requires
-put-record-requires c κs = search needs
+start-requires : tie.Need-start-requires
+start-requires c κs = search needs
 
 same-length : tie.Need-same-length
 same-length c = search needs
@@ -32,9 +32,17 @@ returns-2 c =
     let s = c .before .before in
     let d = s .before .before .before .before .before .before .before .before in
     let e = d .before .before .before .before in
-    left-by _ _ _ _ _ _ _ _ _ _ _ _ _ _ (fits _ (e .if1 .left)) refl (d .format .ensures) (s .put-record .ensures .0) (s .put-record .ensures .1)
+    left-by _ _ _ _ _ _ _ _ _ _ _ _ _ _ _ _ _ (fits _ (e .if1 .left)) refl refl (d .format .ensures) (s .start .ensures .0) (s .start .ensures .1)
 
 pub vandzulge-format-spec : {M : Type 1} → statement M
 vandzulge-format-spec =
     tie.close
-    (tie.spec returns format-requires put-record-requires same-length same-length-2 same-length-3 same-length-4 returns-2)
+    (tie.spec
+    returns
+    format-requires
+    start-requires
+    same-length
+    same-length-2
+    same-length-3
+    same-length-4
+    returns-2)

@@ -7,10 +7,10 @@ use Rattle.vandzulge.proofs.vandzulge_recover.Statement.{statement}
 use Rattle.vandzulge.proofs.vandzulge_recover.Tie as tie
 
 returns : tie.Need-returns
-returns c = let e = both-not-state _ _ _ (c .if1 .taken) refl in (restart-unfit _ _ _ _ _ _ _ e, restart-reply-unfit _ _ _ _ _ _ _ e)
+returns c = let e = both-not-state _ _ _ (c .if1 .taken) refl in (restart-unfit _ _ _ _ _ _ _ _ e, restart-reply-unfit _ _ _ _ _ _ _ _ e)
 
 returns-2 : tie.Need-returns-2
-returns-2 c = let e = both-not-answer _ _ (c .before .if1 .left) (c .if2 .taken) in (restart-unfit _ _ _ _ _ _ _ e, restart-reply-unfit _ _ _ _ _ _ _ e)
+returns-2 c = let e = both-not-answer _ _ (c .before .if1 .left) (c .if2 .taken) in (restart-unfit _ _ _ _ _ _ _ _ e, restart-reply-unfit _ _ _ _ _ _ _ _ e)
 
 recover-requires : tie.Need-recover-requires
 recover-requires c κs = search needs
@@ -43,8 +43,8 @@ returns-3 c =
     let d = p .before .before .before .before .before .before .before .before in
     let e = d .before .before .before .before in
     let b = both _ _ (e .before .if1 .left) (e .if2 .left) in (
-      restart-by _ _ _ _ _ _ _ _ _ _ _ _ _ b (d .recover .ensures) (s .restart .ensures .0) (s .restart .ensures .1),
-      restart-reply-by _ _ _ _ _ _ _ _ _ _ _ _ b (d .recover .ensures) (p .reply-restart .ensures),
+      restart-by _ _ _ _ _ _ _ _ _ _ _ _ _ _ b (d .recover .ensures) (s .restart .ensures .0) (s .restart .ensures .1),
+      restart-reply-by _ _ _ _ _ _ _ _ _ _ _ _ _ b (d .recover .ensures) (p .reply-restart .ensures),
     )
 
 pub vandzulge-recover-spec : {M : Type 1} → statement M

@@ -2,19 +2,36 @@
 -- `put_record` write.
 -- Assumes nothing.
 use mathlib.Core.Path.{refl}
+use native.Mathlib.Omega.{arith}
+use lib.ListN.{length-take}
 use borrow.Author.Needs.{needs}
-use Rattle.vandzulge.specs.inner.ExportsLaws.{both, both-not-state, both-not-answer, left-unfit, left-by, reply-unfit, reply-by}
+use Rattle.vandzulge.specs.inner.ExportsLaws.{both, both-not-state, both-not-answer, left-unfit, left-kept, reply-unfit, reply-part}
 use Rattle.vandzulge.proofs.vandzulge_validate.Statement.{statement}
 use Rattle.vandzulge.proofs.vandzulge_validate.Tie as tie
 
 returns : tie.Need-returns
-returns c = let e = both-not-state _ _ _ (c .if1 .taken) refl in (left-unfit _ _ _ _ _ _ _ e, reply-unfit _ _ _ _ _ _ _ e)
+returns c = let e = both-not-state _ _ _ (c .if1 .taken) refl in (left-unfit _ _ _ _ _ _ _ _ e, reply-unfit _ _ _ _ _ _ _ _ e)
 
 returns-2 : tie.Need-returns-2
-returns-2 c = let e = both-not-answer _ _ (c .before .if1 .left) (c .if2 .taken) in (left-unfit _ _ _ _ _ _ _ e, reply-unfit _ _ _ _ _ _ _ e)
+returns-2 c = let e = both-not-answer _ _ (c .before .if1 .left) (c .if2 .taken) in (left-unfit _ _ _ _ _ _ _ _ e, reply-unfit _ _ _ _ _ _ _ _ e)
+
+slice-reshare-prefix-record-from : tie.Need-slice-reshare-prefix-record-from
+slice-reshare-prefix-record-from c = search needs
+
+slice-aggregate-record-from : tie.Need-slice-aggregate-record-from
+slice-aggregate-record-from c = simp length-take (omega arith)
 
 record-from-requires : tie.Need-record-from-requires
-record-from-requires c κs = search needs
+record-from-requires c κs = simp length-take (omega arith)
+
+sub-validate : tie.Need-sub-validate
+sub-validate c = search needs
+
+part-validate-start : tie.Need-part-validate-start
+part-validate-start c = search needs
+
+part-validate-end : tie.Need-part-validate-end
+part-validate-end c = search needs
 
 validate-requires : tie.Need-validate-requires
 validate-requires c κs = search needs
@@ -45,15 +62,31 @@ returns-3 c =
     let s = c .before .before in
     let p = s .before .before .before .before in
     let d = p .before .before .before .before .before .before .before .before in
-    let f = d .before .before .before .before in
-    let e = d .before .before .before .before .before .before in
+    let f = d .before .before .before .before .before .before in
+    let e = f .before .before in
     let b = both _ _ (e .before .if1 .left) (e .if2 .left) in (
-      left-by _ _ _ _ _ _ _ _ _ _ _ _ _ _ b (f .record-from .ensures) (d .validate .ensures) (s .put-record .ensures .0) (s .put-record .ensures .1),
-      reply-by _ _ _ _ _ _ _ _ _ _ _ _ _ b (f .record-from .ensures) (d .validate .ensures) (p .reply .ensures),
+      left-kept _ _ _ _ _ _ _ _ _ _ _ _ _ _ b (f .record-from .ensures) (d .validate .ensures) (s .put-record .ensures .0) (s .put-record .ensures .1),
+      reply-part _ _ _ _ _ _ _ _ _ _ _ _ _ _ b (f .record-from .ensures) (d .validate .ensures) (p .reply .ensures),
     )
 
 pub vandzulge-validate-spec : {M : Type 1} → statement M
 vandzulge-validate-spec =
     tie.close
-    (tie.spec returns returns-2 record-from-requires validate-requires reply-requires put-record-requires same-length
-    same-length-2 same-length-3 same-length-4 same-length-5 returns-3)
+    (tie.spec
+    returns
+    returns-2
+    slice-reshare-prefix-record-from
+    slice-aggregate-record-from
+    record-from-requires
+    sub-validate
+    part-validate-start
+    part-validate-end
+    validate-requires
+    reply-requires
+    put-record-requires
+    same-length
+    same-length-2
+    same-length-3
+    same-length-4
+    same-length-5
+    returns-3)

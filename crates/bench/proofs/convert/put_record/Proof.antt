@@ -13,8 +13,8 @@ abbrev μ-loop : tie.MeasureT-loop
 clear-requires : tie.Need-clear-requires Inv-loop μ-loop
 clear-requires c κs = search needs
 
-set-row-requires : tie.Need-set-row-requires Inv-loop μ-loop
-set-row-requires c κs = search needs
+put-shared-requires : tie.Need-put-shared-requires Inv-loop μ-loop
+put-shared-requires c κs = search needs
 
 loop-holds : tie.Need-loop-holds Inv-loop μ-loop
 loop-holds c = search needs
@@ -43,5 +43,5 @@ returns c = search needs
 pub put-record-spec : {M : Type 1} → statement M
 put-record-spec =
     tie.close
-    (tie.spec Inv-loop μ-loop clear-requires set-row-requires loop-holds mul-lane element-copy-out-lane
+    (tie.spec Inv-loop μ-loop clear-requires put-shared-requires loop-holds mul-lane element-copy-out-lane
     put-lane-requires add-l loop-less loop-again returns)

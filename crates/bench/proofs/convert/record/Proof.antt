@@ -45,6 +45,9 @@ get-requires-2 c κs = search needs
 get-requires-3 : tie.Need-get-requires-3 Inv-loop μ-loop
 get-requires-3 c κs = search needs
 
+lock-from-requires : tie.Need-lock-from-requires Inv-loop μ-loop
+lock-from-requires c κs = search needs
+
 returns : tie.Need-returns Inv-loop μ-loop
 returns c = search needs
 
@@ -52,4 +55,5 @@ pub record-spec : {M : Type 1} → statement M
 record-spec =
     tie.close
     (tie.spec Inv-loop μ-loop lane-from-requires loop-holds lane-from-requires-2 mul-lanes array-set-from-lanes add-l
-    loop-less loop-again get-requires get-requires-2 get-requires-3 returns)
+    loop-less loop-again get-requires get-requires-2 get-requires-3
+    lock-from-requires returns)

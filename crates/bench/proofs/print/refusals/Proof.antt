@@ -8,7 +8,7 @@ abbrev Inv-loop : tie.InvT-loop
 Inv-loop arena n₀ t4 n = Unit
 
 abbrev μ-loop : tie.MeasureT-loop
-μ-loop arena n₀ t4 n = 11 - n
+μ-loop arena n₀ t4 n = 13 - n
 
 slice-aggregate-text : tie.Need-slice-aggregate-text Inv-loop μ-loop
 slice-aggregate-text c = search needs

@@ -31,6 +31,9 @@ loop-less c = search needs
 loop-again : tie.Need-loop-again Inv-loop μ-loop
 loop-again c = search needs
 
+fill-lock-requires : tie.Need-fill-lock-requires Inv-loop μ-loop
+fill-lock-requires c κs = search needs
+
 returns : tie.Need-returns Inv-loop μ-loop
 returns c = search needs
 
@@ -38,4 +41,4 @@ pub fill-record-spec : {M : Type 1} → statement M
 fill-record-spec =
     tie.close
     (tie.spec Inv-loop μ-loop clear-requires fill-time-requires loop-holds fill-lane-requires add-lane loop-less
-    loop-again returns)
+    loop-again fill-lock-requires returns)

@@ -8,7 +8,7 @@ abbrev Inv-loop : tie.InvT-loop
 Inv-loop set rest₀ bit₀ rest bit = Unit
 
 abbrev μ-loop : tie.MeasureT-loop
-μ-loop set rest₀ bit₀ rest bit = 13 - bit
+μ-loop set rest₀ bit₀ rest bit = 15 - bit
 
 loop-holds : tie.Need-loop-holds Inv-loop μ-loop
 loop-holds c = search needs

@@ -8,7 +8,7 @@ abbrev Inv-loop : tie.InvT-loop
 Inv-loop arena₀ at₀ arena at = Unit
 
 abbrev μ-loop : tie.MeasureT-loop
-μ-loop arena₀ at₀ arena at = 20 - at
+μ-loop arena₀ at₀ arena at = 68 - at
 
 loop-holds : tie.Need-loop-holds Inv-loop μ-loop
 loop-holds c = search needs

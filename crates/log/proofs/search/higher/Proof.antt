@@ -37,11 +37,12 @@ returns-5 c = let r = c .before in
     higher-tried _ _ _ _ _ _ _ (k .before .before .slot-at .ensures) (k .content .given .1) (sym (r .ranks-below .ensures) ∙ not-true _ (c .if4 .taken))
 
 returns-6 : tie.Need-returns-6
-returns-6 c = let r = c .before in
+returns-6 c = let f = c .before in
+    let r = f .before in
     let e = r .before .before .before in
     let k = e .before .before in
     higher-is _ _ _ _ _ _ _ (k .before .before .slot-at .ensures) (k .content .given .1) (e .if2 .left) (r .before .if3 .left)
-    (sym (r .ranks-below .ensures) ∙ not-false _ (c .if4 .left))
+    (sym (r .ranks-below .ensures) ∙ not-false _ (f .if4 .left))
 
 pub higher-spec : {M : Type 1} → statement M
 higher-spec =

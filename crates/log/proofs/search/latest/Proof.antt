@@ -9,17 +9,19 @@ use lib.ListN.{length}
 use denote.Ref.{now}
 use Rattle.image.specs.Image.{maxSlots}
 use Rattle.log.specs.Log.{entriesBack}
+use Rattle.log.specs.declared.Latest.the-variants.{Is}
 use Rattle.log.specs.inner.LogLaws.{stamp-in, back-none, back-more}
-use Rattle.log.specs.inner.Search.{rank}
-use Rattle.log.specs.inner.SearchLaws.{Best, AllUnder, under-start, nothing-left, next-best, next-under, next-latest, closed-bad, closed-whole}
+use Rattle.log.specs.inner.Search.{rank, closedAt}
+use Rattle.log.specs.inner.SearchLaws.{Best, AllUnder, under-start, nothing-left, next-best, next-under, next-latest, next-lapped, closed-bad}
+use Rattle.log.specs.inner.SearchLaws.{closed-whole}
 use Rattle.log.proofs.search.latest.Statement.{statement}
 use Rattle.log.proofs.search.latest.Tie as tie
 
 abbrev Inv-loop : tie.InvT-loop
-Inv-loop log words slots base stamp slot count wrap i₀ i = (i ≤ count) × (length (entriesBack words slots log slot wrap i) ≡ i)
+Inv-loop log words slots base stamp slot count wrap again i₀ i = (i ≤ count) × (length (entriesBack words slots log slot wrap i) ≡ i)
 
 abbrev μ-loop : tie.MeasureT-loop
-μ-loop log words slots base stamp slot count wrap i₀ i = count - i
+μ-loop log words slots base stamp slot count wrap again i₀ i = count - i
 
 abbrev Inv-stamps : tie.InvT-stamps
 Inv-stamps log words slots base stamp₀ slot₀ stamp slot = (slot ≤ maxSlots) × AllUnder words slots base log (rank stamp slot)
@@ -88,19 +90,41 @@ loop-again : tie.Need-loop-again Inv-loop μ-loop Inv-stamps μ-stamps
 loop-again c = let i = c .before .before .before in
     (search needs, back-more _ _ _ _ _ (i .loop .i) (i .loop .inv .1) (sym (c .before .entry-back .ensures) ∙ not-false _ (c .if2 .left)))
 
+-- the entries passed are all that it closes
+closed : (l : tie.After-loop Inv-loop μ-loop Inv-stamps μ-stamps) →
+    let n = l .before .before .before in
+    let a = n .before .before .before .args in
+    let r = n .next-candidate .result in
+    Is (record { stamp = r .stamp; count = r .count; slot = r .slot }) ≡ closedAt (a .words) (a .slots) (a .base) (now (a .log)) (r .slot)
+closed l =
+    let i = l .before in
+    let b = best (i .before) in
+    let e : i .loop .i ≡ i .before .before .next-candidate .result .count = omega arith in
+    closed-whole _ _ _ _ _ refl (b .reads) (b .above) (rw e at (i .loop .inv .1))
+
 returns-2 : tie.Need-returns-2 Inv-loop μ-loop Inv-stamps μ-stamps
 returns-2 c =
-    let i = c .before in
-    let k = i .before in
+    let l = c .before in
+    let k = l .before .before in
     let n = k .before in
     let s = n .before .before .before in
-    let b = best k in
-    let e : i .loop .i ≡ n .next-candidate .result .count = omega arith in
-    next-latest _ _ _ _ (s .pre .slots-high) _ _ (n .before .stamps .inv .1) (n .next-candidate .ensures) (k .if1 .left)
-    (closed-whole _ _ _ _ _ refl (b .reads) (b .above) (rw e at (i .loop .inv .1)))
+    next-latest _ _ _ _ (s .pre .slots-high) _ _ (n .before .stamps .inv .1) (n .next-candidate .ensures) (k .if1 .left) (closed l) (not-true _ (c .if3 .taken))
+
+lapped-requires : tie.Need-lapped-requires Inv-loop μ-loop Inv-stamps μ-stamps
+lapped-requires c κs =
+    let k = c .before .before .before in
+    (k .before .before .before .before .pre, omega (arith, best k .low))
+
+returns-3 : tie.Need-returns-3 Inv-loop μ-loop Inv-stamps μ-stamps
+returns-3 c =
+    let l = c .before .before in
+    let k = l .before .before in
+    let n = k .before in
+    let s = n .before .before .before in
+    next-lapped _ _ _ _ (s .pre .slots-high) _ _ (n .before .stamps .inv .1) (n .next-candidate .ensures) (k .if1 .left) (closed l) _ (c .lapped .ensures)
 
 pub latest-spec : {M : Type 1} → statement M
 latest-spec =
     tie.close
     (tie.spec Inv-loop μ-loop Inv-stamps μ-stamps stamps-holds next-candidate-requires returns loop-holds add-entry-back
-    entry-back-requires stamps-less stamps-again add-i loop-less loop-again returns-2)
+    entry-back-requires stamps-less stamps-again add-i loop-less loop-again returns-2 lapped-requires returns-3)

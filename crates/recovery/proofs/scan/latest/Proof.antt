@@ -12,11 +12,12 @@ use Rattle.winners.specs.inner.Winners.{Tournament}
 use Rattle.slot.specs.Slot.{maxEntries}
 use Rattle.image.specs.Image.{logOf}
 use Rattle.image.specs.inner.ImageLaws.{InRange, sizes-in}
-use Rattle.log.specs.Log.{slotAt, entriesBack, given}
+use Rattle.log.specs.Log.{slotAt, entriesBack}
 use Rattle.log.specs.inner.LogLaws.{back-none, back-more}
 use Rattle.log.specs.inner.Search.{entryBack}
 use Rattle.recovery.specs.inner.Picking.{Offers}
 use Rattle.recovery.specs.inner.PickingLaws.{leftOver, left-fewer}
+use Rattle.recovery.specs.inner.LapLaws.{lap-same}
 use Rattle.recovery.specs.inner.ScanLaws.{search-low, search-none, search-few, search-drops, search-latest}
 use Rattle.recovery.proofs.scan.latest.Statement.{statement}
 use Rattle.recovery.proofs.scan.latest.Tie as tie
@@ -191,35 +192,46 @@ loop-again c =
     let l = c .before .before .before .loop in
     (search needs, back-more _ _ _ _ _ (l .i) (l .inv .1) (sym (enters (c .before)) ∙ not-false _ (c .if2 .left)), l .inv .2, l .inv .3)
 
+lapped-requires : tie.Need-lapped-requires Inv-loop μ-loop Inv-stamps μ-stamps
+lapped-requires c κs =
+    let l = c .before .before in
+    let w = winner (l .before) in
+    let a = w .before .before .before in
+    (a .before .log-part .ensures .1, (ap length (l .loop .inv .2) ∙ a .stamps .inv .0 .long, omega (arith, low w)))
+
 given-requires : tie.Need-given-requires Inv-loop μ-loop Inv-stamps μ-stamps
 given-requires c κs = search needs
 
 same-length-3 : tie.Need-same-length-3 Inv-loop μ-loop Inv-stamps μ-stamps
 same-length-3 c =
-    let l = c .before .before in
+    let l = c .before .before .before .before in
     let a = winner (l .before) .before .before .before in
     ap length (l .loop .inv .2) ∙ a .stamps .inv .0 .long ∙ sym (start a .pre .1 .1 .0 .long)
 
 same-length-4 : tie.Need-same-length-4 Inv-loop μ-loop Inv-stamps μ-stamps
 same-length-4 c =
-    let l = c .before .before in
+    let l = c .before .before .before .before in
     let a = winner (l .before) .before .before .before in
     ap length (l .loop .inv .3) ∙ a .stamps .inv .1 .bracket .same ∙ a .stamps .inv .0 .long
     ∙ sym (start a .pre .1 .1 .1 .bracket .same ∙ start a .pre .1 .1 .0 .long)
 
 returns-2 : tie.Need-returns-2 Inv-loop μ-loop Inv-stamps μ-stamps
 returns-2 c =
-    let l = c .before .before in
+    let l = c .before .before .before .before in
     let k = l .before in
     let s = k .before .before in
     let w = winner k in
     let a = w .before .before .before in
+    let z = start a .args .sizes in
     let e : l .loop .i ≡ k .before .count-of .result = omega arith in (
       c .given .ensures
-          ∙ ap (λ n. given n (getD (a .stamps .stamps) (w .winner .result) 0)) (k .before .count-of .ensures)
           ∙ search-latest _ _ _ (some a) (a .stamps .stamps) (a .stamps .inv .0) _ (w .winner .ensures) (s .before .if1 .left) (s .slot-at .result)
           (reads s)
-          (rw (← k .wrap-of .ensures, ← k .before .count-of .ensures) (rw e at (l .loop .inv .1))),
+          (rw (← k .wrap-of .ensures, ← k .before .count-of .ensures) (rw e at (l .loop .inv .1)))
+          _
+          (c .before .lapped .ensures
+          ∙ lap-same (z .words) (z .slots) (getD (a .stamps .stamps) (w .winner .result) 0) (w .winner .result) (a .before .log-part .ensures .0)
+          (l .loop .inv .2) (k .wrap-of .ensures) (k .before .count-of .ensures)),
       (rw (l .loop .inv .2) (a .stamps .inv .0), kept l),
     )
 
@@ -229,4 +241,4 @@ latest-spec =
     (tie.spec Inv-loop μ-loop Inv-stamps μ-stamps log-part-requires stamps-holds winner-requires mul-stamp
     slice-read-stamp same-length same-length-2 returns slot-at-requires count-of-requires wrap-of-requires loop-holds
     add-entry-back entry-back-requires drop-at-requires stamps-less stamps-again add-i loop-less loop-again
-    given-requires same-length-3 same-length-4 returns-2)
+    lapped-requires given-requires same-length-3 same-length-4 returns-2)

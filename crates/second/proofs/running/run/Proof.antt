@@ -8,7 +8,7 @@ abbrev Inv-loop : tie.InvT-loop
 Inv-loop arena₀ words end at₀ count₀ counter₀ arena at count counter = Unit
 
 abbrev μ-loop : tie.MeasureT-loop
-μ-loop arena₀ words end at₀ count₀ counter₀ arena at count counter = 16 - counter
+μ-loop arena₀ words end at₀ count₀ counter₀ arena at count counter = 64 - counter
 
 get-requires : tie.Need-get-requires Inv-loop μ-loop
 get-requires c κs = search needs

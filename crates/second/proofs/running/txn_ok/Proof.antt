@@ -5,10 +5,10 @@ use Rattle.second.proofs.running.txn_ok.Statement.{statement}
 use Rattle.second.proofs.running.txn_ok.Tie as tie
 
 abbrev Inv-loop : tie.InvT-loop
-Inv-loop arena length count at₀ at = Unit
+Inv-loop arena most length count at₀ at = Unit
 
 abbrev μ-loop : tie.MeasureT-loop
-μ-loop arena length count at₀ at = count - at
+μ-loop arena most length count at₀ at = count - at
 
 get-requires : tie.Need-get-requires Inv-loop μ-loop
 get-requires c κs = search needs

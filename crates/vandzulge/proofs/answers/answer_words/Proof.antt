@@ -33,6 +33,9 @@ enum-told-5 c = search needs
 enum-known-answer-4 : tie.Need-enum-known-answer-4
 enum-known-answer-4 c = search needs
 
+enum-known-answer-5 : tie.Need-enum-known-answer-5
+enum-known-answer-5 c = search needs
+
 bit-for-requires : tie.Need-bit-for-requires
 bit-for-requires c κs = search needs
 
@@ -72,8 +75,12 @@ returns-9 : tie.Need-returns-9
 unfolding said saidWords firstWord
 returns-9 c = rw (c .before .before .answer4 .given .1, c .bit-for .ensures)
 
+returns-10 : tie.Need-returns-10
+unfolding said saidWords firstWord
+returns-10 c = rw (c .before .answer5 .given .1)
+
 pub answer-words-spec : {M : Type 1} → statement M
 answer-words-spec =
     tie.close
     (tie.spec enum-told enum-told-2 enum-told-3 enum-known-answer enum-known-answer-2 enum-known-answer-3 enum-told-4 enum-told-5
-    enum-known-answer-4 bit-for-requires returns returns-2 returns-3 returns-4 returns-5 returns-6 returns-7 returns-8 returns-9)
+    enum-known-answer-4 bit-for-requires enum-known-answer-5 returns returns-2 returns-3 returns-4 returns-5 returns-6 returns-7 returns-8 returns-9 returns-10)

@@ -1,4 +1,4 @@
--- `answers::restart` returns the number and writes the record's words where recovery finished, arm by arm.
+-- `answers::restart` returns the number and writes the words of a start where recovery finished, arm by arm.
 -- Assumes nothing.
 use mathlib.Core.Path.{refl}
 use borrow.Author.Needs.{needs}
@@ -16,8 +16,8 @@ enum-told c = search needs
 enum-told-2 : tie.Need-enum-told-2
 enum-told-2 c = search needs
 
-record-to-requires : tie.Need-record-to-requires
-record-to-requires c κs = search needs
+put-start-requires : tie.Need-put-start-requires
+put-start-requires c κs = search needs
 
 returns : tie.Need-returns
 unfolding told whereFinished
@@ -32,9 +32,9 @@ same-length c = search needs
 
 returns-3 : tie.Need-returns-3
 unfolding told whereFinished
-returns-3 c = let r = c .before .before in rw (r .before .before .before .enum-told2 .given .1) (refl, r .record-to .ensures)
+returns-3 c = let r = c .before .before in rw (r .before .before .before .enum-told2 .given .1) (refl, r .put-start .ensures)
 
 pub restart-spec : {M : Type 1} → statement M
 restart-spec =
     tie.close
-    (tie.spec enum-known-answer enum-told enum-told-2 record-to-requires returns returns-2 same-length returns-3)
+    (tie.spec enum-known-answer enum-told enum-told-2 put-start-requires returns returns-2 same-length returns-3)

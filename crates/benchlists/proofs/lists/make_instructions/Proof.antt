@@ -1,20 +1,17 @@
--- `lists::make_txn` is safe and ends: the loop counts its turns. Assumes nothing.
+-- `lists::make_instructions` is safe and ends: the loop counts its turns. Assumes nothing.
 use borrow.Author.Needs.{needs}
 use Prim.Native.Nat.{_-_}
-use Rattle.benchlists.proofs.lists.make_txn.Statement.{statement}
-use Rattle.benchlists.proofs.lists.make_txn.Tie as tie
+use Rattle.benchlists.proofs.lists.make_instructions.Statement.{statement}
+use Rattle.benchlists.proofs.lists.make_instructions.Tie as tie
 
 abbrev Inv-loop : tie.InvT-loop
-Inv-loop arena₀ count at₀ arena at = Unit
+Inv-loop arena₀ count picks at₀ arena at = Unit
 
 abbrev μ-loop : tie.MeasureT-loop
-μ-loop arena₀ count at₀ arena at = count - at
+μ-loop arena₀ count picks at₀ arena at = count - at
 
 clear-requires : tie.Need-clear-requires Inv-loop μ-loop
 clear-requires c κs = search needs
-
-instructions-requires : tie.Need-instructions-requires Inv-loop μ-loop
-instructions-requires c κs = search needs
 
 loop-holds : tie.Need-loop-holds Inv-loop μ-loop
 loop-holds c = search needs
@@ -43,8 +40,8 @@ spoil-txn-requires c κs = search needs
 returns : tie.Need-returns Inv-loop μ-loop
 returns c = search needs
 
-pub make-txn-spec : {M : Type 1} → statement M
-make-txn-spec =
+pub make-instructions-spec : {M : Type 1} → statement M
+make-instructions-spec =
     tie.close
-    (tie.spec Inv-loop μ-loop clear-requires instructions-requires loop-holds plus-requires minus-requires
+    (tie.spec Inv-loop μ-loop clear-requires loop-holds plus-requires minus-requires
     make-instruction-requires add-at loop-less loop-again spoil-txn-requires returns)

@@ -1,0 +1,4 @@
+-- How the code goes and why it is right: need not be believed.
+pub mod Parts
+pub mod PartsLaws
+pub mod LockLaws

@@ -1,0 +1,41 @@
+-- `log::search::lapped` meets its contract. The loop's invariant: the latest of the slots passed. Assumes nothing.
+use borrow.Author.Needs.{needs}
+use Prim.Native.Nat.{_≤_, _-_}
+use mathlib.Core.Path.{_≡_, ap, _∙_}
+use native.Mathlib.Omega.{arith}
+use denote.Ref.{now}
+use Rattle.log.specs.inner.Search.{lappedBelow}
+use Rattle.log.specs.inner.SearchLaws.{lapped-none, lapped-more}
+use Rattle.log.proofs.search.lapped.Statement.{statement}
+use Rattle.log.proofs.search.lapped.Tie as tie
+
+abbrev Inv-loop : tie.InvT-loop
+Inv-loop log words slots wrap found best₀ k₀ k-end best k = (k ≤ k-end) × (best ≡ lappedBelow words slots log (found .stamp) wrap found k)
+
+abbrev μ-loop : tie.MeasureT-loop
+μ-loop log words slots wrap found best₀ k₀ k-end best k = k-end - k
+
+loop-holds : tie.Need-loop-holds Inv-loop μ-loop
+loop-holds c = (search needs, lapped-none _ _ _ _ _ _)
+
+lap-over-requires : tie.Need-lap-over-requires Inv-loop μ-loop
+lap-over-requires c κs = search needs
+
+add-k : tie.Need-add-k Inv-loop μ-loop
+add-k c = search needs
+
+loop-less : tie.Need-loop-less Inv-loop μ-loop
+loop-less c = search needs
+
+loop-again : tie.Need-loop-again Inv-loop μ-loop
+loop-again c = let l = c .before .before .loop in
+    (search needs, lapped-more _ _ _ _ _ _ (l .k) (l .best) _ (l .inv .1) (c .lap-over .ensures))
+
+returns : tie.Need-returns Inv-loop μ-loop
+returns c = let l = c .before .loop in
+    let a = c .before .before .before .args in
+    let e : l .k ≡ a .found .slot = omega arith in
+    l .inv .1 ∙ ap (lappedBelow (a .words) (a .slots) (now (a .log)) (a .found .stamp) (a .wrap) (a .found)) e
+
+pub lapped-spec : {M : Type 1} → statement M
+lapped-spec = tie.close (tie.spec Inv-loop μ-loop loop-holds lap-over-requires add-k loop-less loop-again returns)
