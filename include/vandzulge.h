@@ -1,13 +1,70 @@
 /* Vandzulge: a transactional store for persistent memory. Link with libvandzulge.a (x86-64; written by `rt staticlib vandzulge`).
+ * First what a new user needs, then the reference. docs/INTEGRATION.md is the long form of the first part; examples/counters.c is a whole program to copy.
  *
- * Every function returns 0 where the call was taken, else the number of its refusal. After a refusal all is as it was, record and answer too.
- * The library has no heap, no threads and no global state; it uses less than 32 KB of stack, and calls nothing but memcpy and memset, to which only Format hands a part of nvm.
+ * ==== Quick start
+ * The store keeps W data words of 64 bits in memory that survives without power. Transactions change them, and after a power cut each transaction stands whole or not at all. The
+ * calls are lent four buffers, which have their names in struct vz_store:
+ *   nvm      the persistent memory, which is all that survives
+ *   cache    a copy of it in RAM, which the calls read and change; vz_word(&store, i) is its data word i
+ *   flags    in RAM, a byte for each word: which lanes have changed it in the cache and not yet drained it to nvm
+ *   record   in RAM: the clock, and what each lane is doing
+ *
+ *   #define LENGTH VANDZULGE_IMAGE_WORDS(16, 1, 64)                             // 16 data words, 1 lane, 64 log slots
+ *   static uint64_t cache[LENGTH], record[VANDZULGE_RECORD_WORDS];
+ *   static uint8_t flags[LENGTH];
+ *   struct vz_store store = {.words = 16, .lanes = 1, .slots = 64, .length = LENGTH, .cache = cache, .nvm = nvm, .flags = flags, .record = record};
+ *   const uint64_t start[16] = {0}, add[] = {VZ_ADD(0, 0, 1), VZ_ADD(1, 1, 1)}; // word 0 := word 0 + 1, word 1 := word 1 + 1: both or none
+ *   struct vz_recovered found = {0};
+ *   struct vz_commit commit = {0};
+ *
+ *   vz_format(&store, VANDZULGE_LAG_MAX, start);                                // once, where nvm is new
+ *   vz_recover_read(&store, VANDZULGE_LAG_MAX, VANDZULGE_NO_LIMIT, &found);     // at every other power-up, before any other call
+ *   vz_log(&store, 0, add, VZ_LENGTH(add), NULL);                               // on lane 0: the old values go to the log
+ *   vz_redo(&store, 0, &commit);                                                // the new ones to the cache: committed, but a power cut may still undo it
+ *   vz_settle(&store, 0, NULL);                                                 // a mark behind the commit
+ *   vz_drain(&store, 0);                                                        // from here on no power cut undoes it: vz_is_safe(&store, commit.stamp)
+ *
+ * Each returns VANDZULGE_TAKEN, which is 0, or why it was refused; look at it after every call. enum vandzulge_refusal says for each number what to do.
+ *
+ * ==== When a commit can no longer be lost
+ * A drain alone does NOT make a commit safe: after Log, Redo, Drain and a power cut it is undone. What makes it safe:
+ *   1. Log, then Redo. Where Redo does not commit, there was a commit since the Log (stale): Validate with the same transaction. Where that does not commit either, the
+ *      transaction would now write other words, or over other values (changed): begin again with Log.
+ *   2. Settle the lane (vz_settle, which is a Log of no words), or Mark it where it may hold a transaction, which Mark drops. Once behind many commits is enough.
+ *   3. Drain the lane, and see that its stores are persistent.
+ * With one lane this is all. With several, another lane holds a commit back while it has a floor that is not above the commit's timestamp: until it has logged something later
+ * and is drained, or is settled (or marked) and drained. vz_is_safe says whether a commit is safe; "What a power cut can lose", below, says why.
+ *
+ * ==== On a board
+ * cache, flags and record are plain RAM, and lost with power. nvm is mapped so that an aligned 64-bit store to it is whole, also where power fails (the memory has the old word
+ * or the new one), and such stores reach the memory in the code's order: an uncached, device or strongly ordered mapping. Every store to nvm but Format's is one aligned 64-bit
+ * store; Format hands parts of nvm to memcpy and memset. The order: a step stores the words that its lane has flushed before it changes the cache; recovery stores the entries
+ * undone, then the base word, then the log words in rising order, each only where it is not 0 yet, and then changes the cache. It stores to no trailer.
+ * The library has no fences and flushes no processor cache. Where a processor cache or a buffer stands in between, the caller flushes and fences:
+ *   - All stores of a call are to be persistent before the next call begins, and before a commit counts as safe. Within one step, drain or write-back any order will do: it
+ *     stores a word at most once, a step only in its drain, and a drain of which power lets any of the words through is one that the theorem covers (docs/THEOREM.md).
+ *   - Recovery's stores are to become persistent one by one, in the code's order. Where the memory does not keep that order, recover a copy: keep in RAM what nvm holds when
+ *     power comes back; for limit 1, 2, 3, .. lend recovery, as nvm, a new copy of that; after each call the copy differs from nvm in one word at most: store this one to nvm,
+ *     and make it persistent; go on until recovery has finished, and then lend nvm itself again. To lend nvm itself with limit 1, 2, 3, .. is NOT enough: each call makes the
+ *     earlier stores anew, so that a word which is undone twice has for a moment the first of these two values again, and the base word, behind which nothing is undone any more,
+ *     may become persistent in that moment.
+ * Format is not safe against power cuts: have a sign of your own that one is complete, as the example has in the name of its file. A trailer is no sign.
+ * The library uses less than 32 KB of stack. docs/PERFORMANCE.md has the time that each call takes.
+ *
+ * ==== What the caller owes
+ * At every power-up recovery comes first, until it has finished, before any other call but Format. Every call gets the sizes and buffers as the last one left them: nobody else
+ * touches them during a call, nor writes them between calls. No null pointer, also where a length is 0 (but where a vz_ function puts its answer, NULL is no answer wanted); each
+ * pointer has its length in elements, aligned; a buffer that is written overlaps no other one. All else is checked: any words are taken as a record, transaction or image.
+ *
+ * ==== Reference
+ * Every function returns 0 where the call was taken, else the number of its refusal. After a refusal all is as it was, record and answer too. The library has no heap, no threads
+ * and no global state; it calls nothing but memcpy and memset, to which only Format hands a part of nvm.
  *
  * What each call is lent, with W = words (1 to 1,024), T = lanes (1 to 8), N = slots a lane (34 to 256):
  *   cache, nvm   the cached image and the non-volatile memory, VANDZULGE_IMAGE_WORDS(W, T, N) words each: base word, data words, each lane's log, and the trailer,
  *                four last words that tell W, T, N and how many words stand before these four; or VANDZULGE_FORMER_WORDS(W, T, N) words each, without a trailer
  *   flags        one byte for each image word, the trailer's too; bit L: lane L has flushed this word
- *   record       VANDZULGE_RECORD_WORDS words that Format or a finished recovery makes and the calls keep: clock, last commit, then 40 words a lane:
+ *   record       VANDZULGE_RECORD_WORDS words that Format or a finished recovery makes and the calls keep: clock, last commit, then 40 words a lane (VANDZULGE_RECORD_LANE):
  *                phase (0 idle), first slot, count, timestamp, next slot, wrap bit, floor (0 none), floor's value, 16 pairs of word number and value; then the lag limit
  *                (word VANDZULGE_RECORD_LAG); then the lock (word VANDZULGE_RECORD_LOCK: 0 free), its lane, timestamp, count of pairs, how many of them are logged, how many
  *                are written, and its 64 pairs. A taken call writes all but the 64 pairs: a phase, floor or lock word that is set becomes 1, words that say nothing 0, in lanes
@@ -33,14 +90,6 @@
  * trailer, of other sizes: vandzulge_recover_read then takes them for one, and destroys that image. And vandzulge_recover with sizes that are not the image's, whose former
  * length it happens to have, takes its words for what they are not, a trailer for log words, and destroys it as well.
  *
- * What the caller owes: no null pointer, also where a length is 0; each pointer has its length in elements, aligned; a buffer that is written overlaps no
- * other one; nobody else touches them during a call, nor writes them between calls. All else is checked: any words are taken as a record, transaction or image.
- *
- * What is left to the platform: an aligned 64-bit store to nvm is whole, also where power fails (the memory has the old word or the new one), and such stores reach the
- * memory in the code's order; the library has no fences and flushes no processor cache. Every store to nvm but Format's is one aligned 64-bit store. The order: a step stores
- * the words that its lane has flushed before it changes the cache; recovery stores the entries undone, then the base word, then the log words in rising order, each only
- * where it is not 0 yet, and then changes the cache. It stores to no trailer.
- *
  * What a power cut can lose. Recovery looks in each lane's log in nvm for the newest timestamp that has all its entries. The lane gives this timestamp, or nothing where it is a
  * mark, which closes no entries. The least that is given is the boundary: all sequences at or above it are undone, those of marked lanes too, and commits below it stay. Where no
  * lane gives one, nothing is undone and every commit stays.
@@ -51,8 +100,8 @@
  *   drained.
  *   A drain alone does not make a commit safe: the floor of its lane is then the commit's own timestamp, and what is at the boundary is undone. A Mark and then a Drain of the lane
  *   end the floor; a later logged transaction and then a Drain raise it above the commit.
- *   A lane that is drained after a Mark, or after a Log of the empty transaction (below), and of which no step was called in between or since, delays nobody: from that drain on the commits of the other lanes become safe by those
- *   lanes' own steps and drains alone. The next timestamp that is appended to its log gives it a floor again.
+ *   A lane that is drained after a Mark, or after a Log of the empty transaction (below), and of which no step was called in between or since, delays nobody: from that drain on
+ *   the commits of the other lanes become safe by those lanes' own steps and drains alone. The next timestamp that is appended to its log gives it a floor again.
  *   A Log of the empty transaction settles its lane: it drains the lane and appends a mark, as Mark does on an idle lane. Use it where a piece of work is done, and then Drain: from
  *   one later drain of that lane on, also the one that a step of it begins with, a cut loses nothing that was committed before the lane was settled, by whichever lane, as long as
  *   every other lane that has a floor at the cut has it above the commit's timestamp. It differs from Mark in that it drops nothing: where the lane holds a transaction it is refused
@@ -82,17 +131,7 @@
  *   A Lock that writes nothing takes no lock and no timestamp, but drains its lane.
  *   A lane that holds a transaction keeps it meanwhile. After the commit its Redo is stale, and Validate, or Log after a Mark, is the way on.
  *
- * Refusals, the lowest number wins, but 11 and 12 come between 7 and 8, 14 and 16 before 10, in this order, and 15 before 9:
- *    1 a size out of range, or a slice of another length      6 Log or Lock on a lane that holds a transaction
- *    2 a record field out of range                            7 Redo or Validate on an idle lane, Continue while the lock is free
- *    3 lane not below T                                       8 the clock is spent
- *    4 word not in the image                                  9 the append would overwrite a sequence that recovery may need
- *    5 transaction not as above, or empty and not for Log    10 recovery finds an odd base word
- *   11 Log, Redo, Validate, Mark or Lock while the lock is held, or Continue on another lane than the lock's
- *   12 Lock of a transaction that counts more than N - 17 slots
- *   14 recovery without sizes: fewer than four words, a size in the trailer out of range, or a fourth word or a length of nvm that does not agree with these sizes
- *   15 Log, also one that settles its lane, or Lock would take a timestamp more than the lag limit above the least floor
- *   16 Format or recovery is given a lag limit that is odd, below 2 or above 2^32
+ * Refusals: enum vandzulge_refusal has them. The lowest number wins, but 11 and 12 come between 7 and 8, 14 and 16 before 10, in this order, and 15 before 9.
  * What recovery may need, for 9: the sequences that are not below the least floor, floors as after the drain that Log, Mark or Lock begins with; none where no lane has a floor.
  *
  * Costs are given in passes: over the flags or the image (its whole length), over one lane's log (N slots). Calls with a record read and write it whole, but for the lock's 64 pairs:
@@ -101,10 +140,17 @@
 #ifndef VANDZULGE_H
 #define VANDZULGE_H
 
+#include <stdbool.h>
 #include <stddef.h>
 #include <stdint.h>
 
+#define VANDZULGE_VERSION_MAJOR 0
+#define VANDZULGE_VERSION_MINOR 1
+#define VANDZULGE_VERSION_PATCH 0
+#define VANDZULGE_VERSION "0.1.0"
+
 #define VANDZULGE_RECORD_WORDS 457
+#define VANDZULGE_RECORD_LANE(lane) (2 + 40 * (lane))
 #define VANDZULGE_RECORD_LAG 322
 #define VANDZULGE_RECORD_LOCK 323
 #define VANDZULGE_ANSWER_WORDS 4
@@ -122,6 +168,39 @@
 #define VANDZULGE_IMAGE_WORDS(words, lanes, slots) (VANDZULGE_FORMER_WORDS(words, lanes, slots) + VANDZULGE_TRAILER_WORDS)
 #define VANDZULGE_IMAGE_WORDS_MAX 5125
 #define VANDZULGE_NO_LIMIT SIZE_MAX
+
+/* Why a call was refused, and what to do. Nothing was touched. The same call will be refused again until something else is done. */
+enum vandzulge_refusal {
+    VANDZULGE_TAKEN = 0,               /* the call was not refused */
+    VANDZULGE_REFUSED_SIZE = 1,        /* a size out of range, or a slice of another length. The caller's fault: "What each call is lent" and "Lengths" say which */
+    VANDZULGE_REFUSED_RECORD = 2,      /* a record field out of range. No Format or finished recovery made this record, or someone else wrote to it: recover, from nvm */
+    VANDZULGE_REFUSED_LANE = 3,        /* lane not below T. The caller's fault */
+    VANDZULGE_REFUSED_WORD = 4,        /* word not in the image. The caller's fault */
+    VANDZULGE_REFUSED_TXN = 5,         /* transaction not as txn is to be, or empty and not for Log. The caller's fault; more than 16 instructions are for Lock */
+    VANDZULGE_REFUSED_LOGGED = 6,      /* Log or Lock on a lane that holds a transaction. Redo or Validate that one, or drop it by Mark; or take another lane */
+    VANDZULGE_REFUSED_IDLE = 7,        /* Redo or Validate on an idle lane: Log first. Continue while the lock is free: the long transaction is committed, or none was begun */
+    VANDZULGE_REFUSED_SPENT = 8,       /* the clock is spent: of 2^63 timestamps none is left. Format a new store with the data words as start words; they begin again */
+    VANDZULGE_REFUSED_OVERWRITE = 9,   /* the append would overwrite a sequence that recovery may need. Mark and Drain the lane with the least floor, as on 15 */
+    VANDZULGE_REFUSED_ODD_BASE = 10,   /* recovery finds an odd base word. nvm is damaged, no image of this store, or of other sizes than those given. Nothing was stored to it */
+    VANDZULGE_REFUSED_LOCKED = 11,     /* Log, Redo, Validate, Mark or Lock while the lock is held, or Continue on another lane than the lock's. Continue till it is free */
+    VANDZULGE_REFUSED_TOO_LONG = 12,   /* Lock of a transaction that counts more than N - 17 slots. Split it, or Format a store with more slots */
+    VANDZULGE_REFUSED_TRAILER = 14,    /* recovery without sizes: fewer than four words, a size in the trailer out of range, or a fourth word or a length of nvm that does not agree
+                                        * with these sizes. nvm is new (Format it), of another length, damaged, or of the former length (recover it with its sizes given) */
+    VANDZULGE_REFUSED_LAG_PASSED = 15, /* Log, also one that settles its lane, or Lock would take a timestamp more than the lag limit above the least floor. "What to do on 15" */
+    VANDZULGE_REFUSED_LAG_RANGE = 16   /* Format or recovery is given a lag limit that is odd, below 2 or above 2^32. The caller's fault */
+};
+
+/* Codes of instructions. 4 was POKE, which is withdrawn. */
+enum vandzulge_opcode { VANDZULGE_SET = 1, VANDZULGE_COPY = 2, VANDZULGE_ADD = 3, VANDZULGE_SKIP = 5 };
+
+/* One instruction, as four elements of a transaction: const uint64_t txn[] = {VZ_ADD(0, 0, 1), VZ_COPY(1, 0)}. */
+#define VZ_SET(a, k) VANDZULGE_SET, (uint64_t)(a), 0, (uint64_t)(k)                 /* word a := k */
+#define VZ_COPY(a, b) VANDZULGE_COPY, (uint64_t)(a), (uint64_t)(b), 0               /* word a := word b */
+#define VZ_ADD(a, b, k) VANDZULGE_ADD, (uint64_t)(a), (uint64_t)(b), (uint64_t)(k)  /* word a := word b + k, modulo 2^64 */
+#define VZ_SKIP(b, k) VANDZULGE_SKIP, 0, (uint64_t)(b), (uint64_t)(k)               /* pass over the next k instructions if word b is 0 */
+
+/* How many elements an array has (an array, not a pointer). */
+#define VZ_LENGTH(array) (sizeof(array) / sizeof((array)[0]))
 
 #ifdef __cplusplus
 extern "C" {
@@ -205,5 +284,301 @@ uint64_t vandzulge_recover_read(uint64_t max_lag, uint64_t *cache, size_t cache_
 #ifdef __cplusplus
 }
 #endif
+
+/* ==== The same calls with a handle: sizes and buffers by their names. */
+struct vz_store {
+    size_t words, lanes, slots; /* W, T, N; vz_recover_read sets them */
+    size_t length;              /* of cache and nvm in words, of flags in bytes: vz_image_length(words, lanes, slots), or the former length */
+    uint64_t *cache;            /* the copy in RAM */
+    uint64_t *nvm;              /* the persistent memory */
+    uint8_t *flags;             /* in RAM */
+    uint64_t *record;           /* in RAM, VANDZULGE_RECORD_WORDS words */
+};
+
+/* The answers. A refused call leaves them untouched; NULL may be given where one is not wanted. */
+struct vz_logged {
+    uint64_t count; /* of writes; 0: it writes nothing, and the lane stays idle */
+    uint64_t stamp; /* 0 where it writes nothing */
+};
+
+struct vz_commit {
+    bool committed; /* false: Redo is stale, and the lane keeps the transaction; or Validate finds it changed, and the lane is idle */
+    uint64_t stamp; /* of the commit, for vz_is_safe; 0 where there is none */
+};
+
+struct vz_marked {
+    bool dropped; /* a transaction that the lane held */
+    uint64_t stamp;
+};
+
+struct vz_progress {
+    uint64_t left;  /* writes not yet made. After Lock 0: it writes nothing, and the lock is free. After Continue 0: committed, and the lock is free */
+    uint64_t stamp; /* of the lock, and of the commit; 0 where Lock writes nothing */
+};
+
+struct vz_recovered {
+    bool finished;     /* false: the limit cut it, stores remain; recover again. The rest is then false and 0 */
+    bool has_boundary; /* false: this call undid nothing (one that was cut before it may have) */
+    uint64_t boundary; /* commits with this timestamp or a greater one are undone; 0 where there is none */
+    uint64_t undone;   /* log entries undone */
+    uint64_t torn;     /* log slots that held something, but nothing whole, as this call found nvm; by itself no sign of damage */
+};
+
+/* What a refusal means, in a few words; there is a text for every number. */
+static inline const char *vz_refusal_text(uint64_t number)
+{
+    switch (number) {
+    case VANDZULGE_TAKEN: return "taken";
+    case VANDZULGE_REFUSED_SIZE: return "a size out of range, or a buffer of a wrong length";
+    case VANDZULGE_REFUSED_RECORD: return "a record field out of range";
+    case VANDZULGE_REFUSED_LANE: return "no such lane";
+    case VANDZULGE_REFUSED_WORD: return "no such word in the image";
+    case VANDZULGE_REFUSED_TXN: return "no well-formed transaction";
+    case VANDZULGE_REFUSED_LOGGED: return "the lane holds a transaction";
+    case VANDZULGE_REFUSED_IDLE: return "the lane holds no transaction, or the lock is free";
+    case VANDZULGE_REFUSED_SPENT: return "the clock is spent";
+    case VANDZULGE_REFUSED_OVERWRITE: return "it would overwrite log entries that recovery may need";
+    case VANDZULGE_REFUSED_ODD_BASE: return "an odd base word: damaged, or no image";
+    case VANDZULGE_REFUSED_LOCKED: return "a long transaction holds the lock";
+    case VANDZULGE_REFUSED_TOO_LONG: return "the long transaction does not fit the lane's log";
+    case VANDZULGE_REFUSED_TRAILER: return "no trailer that agrees with the length: not formatted, damaged, or of the former length";
+    case VANDZULGE_REFUSED_LAG_PASSED: return "the lag limit is reached: mark and drain the lane with the least floor";
+    case VANDZULGE_REFUSED_LAG_RANGE: return "a lag limit out of range, or odd";
+    default: return "unknown number";
+    }
+}
+
+/* Words of cache and nvm, and bytes of flags, for these sizes. */
+static inline size_t vz_image_length(size_t words, size_t lanes, size_t slots)
+{
+    return VANDZULGE_IMAGE_WORDS(words, lanes, slots);
+}
+
+/* As vandzulge_format; start has store->words words. */
+static inline enum vandzulge_refusal vz_format(struct vz_store *store, uint64_t max_lag, const uint64_t *start)
+{
+    return (enum vandzulge_refusal)vandzulge_format(store->words, store->lanes, store->slots, max_lag, start, store->words,
+        store->cache, store->length, store->nvm, store->length, store->flags, store->length, store->record, VANDZULGE_RECORD_WORDS);
+}
+
+/* As vandzulge_write_back. Drains do all that is needed; this is for a cache that writes words back when it likes. */
+static inline enum vandzulge_refusal vz_write_back(struct vz_store *store, size_t word)
+{
+    return (enum vandzulge_refusal)vandzulge_write_back(store->words, store->lanes, store->slots,
+        store->cache, store->length, store->nvm, store->length, store->flags, store->length, word);
+}
+
+/* As vandzulge_drain. */
+static inline enum vandzulge_refusal vz_drain(struct vz_store *store, size_t lane)
+{
+    return (enum vandzulge_refusal)vandzulge_drain(store->words, store->lanes, store->slots,
+        store->cache, store->length, store->nvm, store->length, store->flags, store->length, store->record, VANDZULGE_RECORD_WORDS, lane);
+}
+
+/* As vandzulge_log; txn has txn_len words, four an instruction. With none it settles, as vz_settle does. */
+static inline enum vandzulge_refusal vz_log(struct vz_store *store, size_t lane, const uint64_t *txn, size_t txn_len, struct vz_logged *logged)
+{
+    uint64_t answer[VANDZULGE_ANSWER_WORDS];
+    const enum vandzulge_refusal refusal = (enum vandzulge_refusal)vandzulge_log(store->words, store->lanes, store->slots,
+        store->cache, store->length, store->nvm, store->length, store->flags, store->length, store->record, VANDZULGE_RECORD_WORDS,
+        answer, VANDZULGE_ANSWER_WORDS, lane, txn, txn_len);
+    if (refusal == VANDZULGE_TAKEN && logged != NULL) {
+        logged->count = answer[0];
+        logged->stamp = answer[1];
+    }
+    return refusal;
+}
+
+/* Settles the lane, which must hold no transaction: vandzulge_log with no words. After the next drain of the lane what was committed before is safe, as far as this lane goes. */
+static inline enum vandzulge_refusal vz_settle(struct vz_store *store, size_t lane, uint64_t *stamp)
+{
+    const uint64_t none = 0;
+    struct vz_logged settled;
+    const enum vandzulge_refusal refusal = vz_log(store, lane, &none, 0, &settled);
+    if (refusal == VANDZULGE_TAKEN && stamp != NULL)
+        *stamp = settled.stamp;
+    return refusal;
+}
+
+/* As vandzulge_redo. Look at commit->committed: a stale transaction is not refused, and not committed. */
+static inline enum vandzulge_refusal vz_redo(struct vz_store *store, size_t lane, struct vz_commit *commit)
+{
+    uint64_t answer[VANDZULGE_ANSWER_WORDS];
+    const enum vandzulge_refusal refusal = (enum vandzulge_refusal)vandzulge_redo(store->words, store->lanes, store->slots,
+        store->cache, store->length, store->nvm, store->length, store->flags, store->length, store->record, VANDZULGE_RECORD_WORDS,
+        answer, VANDZULGE_ANSWER_WORDS, lane);
+    if (refusal == VANDZULGE_TAKEN && commit != NULL) {
+        commit->committed = answer[0] != 0;
+        commit->stamp = answer[1];
+    }
+    return refusal;
+}
+
+/* As vandzulge_validate, with the transaction that was logged. Look at commit->committed. */
+static inline enum vandzulge_refusal vz_validate(struct vz_store *store, size_t lane, const uint64_t *txn, size_t txn_len, struct vz_commit *commit)
+{
+    uint64_t answer[VANDZULGE_ANSWER_WORDS];
+    const enum vandzulge_refusal refusal = (enum vandzulge_refusal)vandzulge_validate(store->words, store->lanes, store->slots,
+        store->cache, store->length, store->nvm, store->length, store->flags, store->length, store->record, VANDZULGE_RECORD_WORDS,
+        answer, VANDZULGE_ANSWER_WORDS, lane, txn, txn_len);
+    if (refusal == VANDZULGE_TAKEN && commit != NULL) {
+        commit->committed = answer[0] != 0;
+        commit->stamp = answer[1];
+    }
+    return refusal;
+}
+
+/* As vandzulge_mark. */
+static inline enum vandzulge_refusal vz_mark(struct vz_store *store, size_t lane, struct vz_marked *marked)
+{
+    uint64_t answer[VANDZULGE_ANSWER_WORDS];
+    const enum vandzulge_refusal refusal = (enum vandzulge_refusal)vandzulge_mark(store->words, store->lanes, store->slots,
+        store->cache, store->length, store->nvm, store->length, store->flags, store->length, store->record, VANDZULGE_RECORD_WORDS,
+        answer, VANDZULGE_ANSWER_WORDS, lane);
+    if (refusal == VANDZULGE_TAKEN && marked != NULL) {
+        marked->dropped = answer[0] != 0;
+        marked->stamp = answer[1];
+    }
+    return refusal;
+}
+
+/* As vandzulge_lock. Where progress->left is not 0, call vz_continue on this lane until it is. */
+static inline enum vandzulge_refusal vz_lock(struct vz_store *store, size_t lane, const uint64_t *txn, size_t txn_len, struct vz_progress *progress)
+{
+    uint64_t answer[VANDZULGE_ANSWER_WORDS];
+    const enum vandzulge_refusal refusal = (enum vandzulge_refusal)vandzulge_lock(store->words, store->lanes, store->slots,
+        store->cache, store->length, store->nvm, store->length, store->flags, store->length, store->record, VANDZULGE_RECORD_WORDS,
+        answer, VANDZULGE_ANSWER_WORDS, lane, txn, txn_len);
+    if (refusal == VANDZULGE_TAKEN && progress != NULL) {
+        progress->left = answer[0];
+        progress->stamp = answer[1];
+    }
+    return refusal;
+}
+
+/* As vandzulge_continue. */
+static inline enum vandzulge_refusal vz_continue(struct vz_store *store, size_t lane, struct vz_progress *progress)
+{
+    uint64_t answer[VANDZULGE_ANSWER_WORDS];
+    const enum vandzulge_refusal refusal = (enum vandzulge_refusal)vandzulge_continue(store->words, store->lanes, store->slots,
+        store->cache, store->length, store->nvm, store->length, store->flags, store->length, store->record, VANDZULGE_RECORD_WORDS,
+        answer, VANDZULGE_ANSWER_WORDS, lane);
+    if (refusal == VANDZULGE_TAKEN && progress != NULL) {
+        progress->left = answer[0];
+        progress->stamp = answer[1];
+    }
+    return refusal;
+}
+
+/* The four words of a recovery's answer. */
+static inline void vz_recovered_from(const uint64_t *answer, struct vz_recovered *recovered)
+{
+    recovered->finished = answer[0] != 0;
+    recovered->has_boundary = answer[0] == 2;
+    recovered->boundary = answer[1];
+    recovered->undone = answer[2];
+    recovered->torn = answer[3];
+}
+
+/* As vandzulge_recover, of an image of the former length, with the handle's sizes; limit: how many stores at most, VANDZULGE_NO_LIMIT for all of them. */
+static inline enum vandzulge_refusal vz_recover(struct vz_store *store, uint64_t max_lag, size_t limit, struct vz_recovered *recovered)
+{
+    uint64_t answer[VANDZULGE_ANSWER_WORDS];
+    const enum vandzulge_refusal refusal = (enum vandzulge_refusal)vandzulge_recover(store->words, store->lanes, store->slots, max_lag,
+        store->cache, store->length, store->nvm, store->length, store->flags, store->length, store->record, VANDZULGE_RECORD_WORDS,
+        answer, VANDZULGE_ANSWER_WORDS, limit);
+    if (refusal == VANDZULGE_TAKEN && recovered != NULL)
+        vz_recovered_from(answer, recovered);
+    return refusal;
+}
+
+/* As vandzulge_recover_read, of an image with a trailer. Where it was taken, the handle's sizes are those of the trailer, whatever they were before. */
+static inline enum vandzulge_refusal vz_recover_read(struct vz_store *store, uint64_t max_lag, size_t limit, struct vz_recovered *recovered)
+{
+    uint64_t answer[VANDZULGE_ANSWER_WORDS];
+    const enum vandzulge_refusal refusal = (enum vandzulge_refusal)vandzulge_recover_read(max_lag,
+        store->cache, store->length, store->nvm, store->length, store->flags, store->length, store->record, VANDZULGE_RECORD_WORDS,
+        answer, VANDZULGE_ANSWER_WORDS, limit);
+    if (refusal == VANDZULGE_TAKEN) {
+        const uint64_t *trailer = store->nvm + (store->length - VANDZULGE_TRAILER_WORDS);
+        store->words = (size_t)trailer[0];
+        store->lanes = (size_t)trailer[1];
+        store->slots = (size_t)trailer[2];
+        if (recovered != NULL)
+            vz_recovered_from(answer, recovered);
+    }
+    return refusal;
+}
+
+/* ==== What a caller reads of a store. After a power cut the record says nothing until recovery has finished. */
+
+/* Cached data word i; 0 where there is none. Under the lock it may be one of a transaction that is not committed yet. */
+static inline uint64_t vz_word(const struct vz_store *store, size_t i)
+{
+    return i < store->words && i + 1 < store->length ? store->cache[1 + i] : 0;
+}
+
+/* The newest timestamp that was taken. */
+static inline uint64_t vz_clock(const struct vz_store *store)
+{
+    return store->record[0];
+}
+
+/* The timestamp of the last commit; after a start the clock's. */
+static inline uint64_t vz_last_commit(const struct vz_store *store)
+{
+    return store->record[1];
+}
+
+/* The lag limit that the last start was given. */
+static inline uint64_t vz_max_lag(const struct vz_store *store)
+{
+    return store->record[VANDZULGE_RECORD_LAG];
+}
+
+/* Is the lock held? Then also by which lane, and with which timestamp; each where it is not NULL. */
+static inline bool vz_locked(const struct vz_store *store, size_t *lane, uint64_t *stamp)
+{
+    const uint64_t *lock = store->record + VANDZULGE_RECORD_LOCK;
+    if (lock[0] == 0)
+        return false;
+    if (lane != NULL)
+        *lane = (size_t)lock[1];
+    if (stamp != NULL)
+        *stamp = lock[2];
+    return true;
+}
+
+/* Does the lane hold a transaction that is logged and not yet committed or dropped? false where there is no such lane. */
+static inline bool vz_holds(const struct vz_store *store, size_t lane)
+{
+    return lane < store->lanes && lane < VANDZULGE_LANES_MAX && store->record[VANDZULGE_RECORD_LANE(lane)] != 0;
+}
+
+/* Has the lane a floor? Then also which, where floor is not NULL: no power cut undoes, because of this lane, what is below it. false where there is no such lane. */
+static inline bool vz_floor(const struct vz_store *store, size_t lane, uint64_t *floor)
+{
+    if (lane >= store->lanes || lane >= VANDZULGE_LANES_MAX || store->record[VANDZULGE_RECORD_LANE(lane) + 6] == 0)
+        return false;
+    if (floor != NULL)
+        *floor = store->record[VANDZULGE_RECORD_LANE(lane) + 7];
+    return true;
+}
+
+/* Can the commit with this timestamp, and every earlier one, no longer be lost? To be asked of commits made since the last start (Format, or a finished recovery): of those before
+ * it recovery has decided. It is so, and stays so until the next Format, if the timestamp is not above the clock, while the lock is held below the lock's, and below the floor of
+ * each lane that has one. For this all stores to nvm so far must be persistent. Proved of stores from Format on (docs/THEOREM.md, "When a commit can no longer be lost"), not of
+ * those that began as an image of the former length. */
+static inline bool vz_is_safe(const struct vz_store *store, uint64_t stamp)
+{
+    uint64_t bound;
+    size_t lane;
+    if (stamp > vz_clock(store) || (vz_locked(store, NULL, &bound) && stamp >= bound))
+        return false;
+    for (lane = 0; lane < VANDZULGE_LANES_MAX; lane++)
+        if (vz_floor(store, lane, &bound) && stamp >= bound)
+            return false;
+    return true;
+}
 
 #endif
