@@ -11,7 +11,11 @@ pub mod LapLaws
 pub mod ScanLaws
 pub mod EntryLaws
 pub mod NextLaws
+pub mod Turns
+pub mod TurnLaws
 pub mod UndoLaws
+pub mod UndoWords
+pub mod ListLaws
 pub mod RecoveryLaws
 pub mod OrderLaws
 pub mod UndoOrderLaws

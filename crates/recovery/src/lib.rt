@@ -1,20 +1,24 @@
 // Recovery: from the non-volatile memory alone, the words at one boundary. The logs are read in scan.rt, undoing is in
-// undo.rt, stores up to the limit in stores.rt.
+// undo.rt, its order as a list in order.rt, stores up to the limit in stores.rt.
 ghost use mathlib.Core.Path.{_≡_};
-ghost use lib.ListN.{length, replicate};
+ghost use Prim.Native.Nat.{_*_, _≤_};
+ghost use lib.ListN.{length, take, replicate};
+ghost use Rattle.image.specs.Image.{maxLanes, maxSlots};
 ghost use Rattle.image.specs.inner.Facts.{IsImage};
 ghost use Rattle.record.specs.Record.{blankRecord};
 ghost use Rattle.store.specs.Interface.{blankOf};
-ghost use Rattle.recovery.specs.Recovery.{boundary as boundaryOf, undoStores, tornIn};
+ghost use Rattle.recovery.specs.Recovery.{boundary as boundaryOf, undone, undoStores, tornIn};
 ghost use Rattle.recovery.specs.Recovery.{recoveryStores, recoveredNvm};
 ghost use Rattle.recovery.specs.Recovery.{recoveredBy, recoverRefusal, recoverStep};
 ghost use Rattle.recovery.specs.Recovery.{recoverReadRefusal, recoverReadStep};
 ghost use Rattle.recovery.specs.Interface.{restartedOf};
 ghost use Rattle.recovery.specs.inner.Picking.{LaneRoom};
+ghost use Rattle.recovery.specs.inner.UndoWords.{undoWords};
 use image::Sizes;
 use log::Timestamp;
 use record::Record;
 
+mod order;
 mod scan;
 mod stores;
 mod undo;
@@ -243,4 +247,19 @@ pub fn recover_read(
     }
     let sizes = image::sizes_at_end(nvm);
     recover_by(sizes, lag, cache, nvm, flags, limit)
+}
+
+// The sequences that recovery undoes, in its order, four words each: the lane, the slot of the timestamp, the count of
+// entries, the timestamp. How many there are. Nothing but `order` is stored to.
+pub fn undo_order(sizes: Sizes, nvm: &[u64], order: &mut [u64]) -> usize
+    requires { ⌜ IsImage sizes (now nvm) ⌝ }
+    requires { ⌜ 4 * (maxLanes * maxSlots) ≤ length (now order) ⌝ }
+    ensures few { λ r. ⌜ r ≤ maxLanes * maxSlots ⌝ }
+    ensures listed { λ r. ⌜ take (4 * r) (now (order .exit)) ≡ undoWords (undone sizes (now (nvm .entry))) ⌝ }
+{
+    let mut stamps = [0u64; ALL_SLOTS];
+    let mut tree = [0u16; ALL_SLOTS];
+    let found = scan::scan(sizes, nvm, &mut stamps, &mut tree);
+    let boundary = found.boundary;
+    order::list_all(sizes, nvm, &mut stamps, &mut tree, boundary, order)
 }

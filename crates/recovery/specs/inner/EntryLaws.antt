@@ -34,7 +34,7 @@ module _ (z : Sizes) (image : List ℕ) (L j : ℕ) where
   nothing-closed e = closes-none (z .words) (z .slots) (baseOf image) (logOf z L image) L j e
 
   module _ (q : Sequence) (c : Closed (z .words) (z .slots) (baseOf image) (logOf z L image) j q) where
-    one-closed : closesIn z image L j ≡ closedAs (z .words) (z .slots) (baseOf image) (logOf z L image) L j q c ∷ []
+    pub one-closed : closesIn z image L j ≡ closedAs (z .words) (z .slots) (baseOf image) (logOf z L image) L j q c ∷ []
     unfolding closesIn
     one-closed = closes-one (z .words) (z .slots) (baseOf image) (logOf z L image) L j q c
 
