@@ -16,8 +16,8 @@ use libc::STDOUT_FILENO;
 use log::Timestamp;
 use recovery::Recovered;
 
-mod printing;
-mod reading;
+pub mod printing;
+pub mod reading;
 
 // Where an input has its sizes.
 pub enum SizesAt {
@@ -31,7 +31,7 @@ pub enum SizesAt {
 const TAKEN: usize = 8 * image::MAX_IMAGE + 1;
 
 // No report is longer: a line for the boundary, and one for each data word.
-const ROOM: usize = printing::BOUNDARY_ROOM + printing::WORD_ROOM * image::MAX_WORDS;
+pub const ROOM: usize = printing::BOUNDARY_ROOM + printing::WORD_ROOM * image::MAX_WORDS;
 
 // More stores than recovery can make.
 const NO_LIMIT: usize = usize::MAX;
@@ -131,13 +131,13 @@ fn recover_in(
 }
 
 // Zeros for the longest image.
-fn blank_words() -> [u64; image::MAX_IMAGE]
+pub fn blank_words() -> [u64; image::MAX_IMAGE]
     ensures { λ r. ⌜ r ≡ blank maxImage ⌝ }
 {
     [0; image::MAX_IMAGE]
 }
 
-fn blank_flags() -> [u8; image::MAX_IMAGE]
+pub fn blank_flags() -> [u8; image::MAX_IMAGE]
     ensures { λ r. ⌜ r ≡ blank maxImage ⌝ }
 {
     [0; image::MAX_IMAGE]
@@ -174,13 +174,13 @@ pub fn report(place: SizesAt, input: &[u8], output: &mut [u8]) -> usize
 
 // One byte more than the longest input that is not refused: a longer one is then refused, and not cut to one that is
 // not.
-fn taken(place: SizesAt) -> usize
+pub fn taken(place: SizesAt) -> usize
     ensures { λ r. ⌜ r ≡ longest place + 1 ⌝ }
 {
     reading::longest(place) + 1
 }
 
-fn input_buffer() -> [u8; TAKEN]
+pub fn input_buffer() -> [u8; TAKEN]
     ensures { λ r. ⌜ longest SizesAt.End + 1 ≡ length r ⌝ }
 {
     [0; TAKEN]

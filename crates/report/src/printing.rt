@@ -8,14 +8,14 @@ ghost use Rattle.report.specs.inner.ReportFacts.{Put};
 use log::Timestamp;
 
 // The most digits of a word.
-const MAX_DIGITS: usize = 20;
+pub const MAX_DIGITS: usize = 20;
 
 // The most bytes of the first line, and of a word's.
 pub const BOUNDARY_ROOM: usize = 9 + MAX_DIGITS + 1;
 
 pub const WORD_ROOM: usize = MAX_DIGITS + 1 + MAX_DIGITS + 1;
 
-fn put_text(output: &mut [u8], at: usize, text: &[u8]) -> usize
+pub fn put_text(output: &mut [u8], at: usize, text: &[u8]) -> usize
     requires { ⌜ at + length (now text) ≤ length (now output) ⌝ }
     ensures { λ r. ⌜ Put at (now (text .entry)) (now (output .entry)) r (now (output .exit)) ⌝ }
 {
@@ -25,7 +25,7 @@ fn put_text(output: &mut [u8], at: usize, text: &[u8]) -> usize
     at + text.len()
 }
 
-fn put_number(output: &mut [u8], at: usize, number: u64) -> usize
+pub fn put_number(output: &mut [u8], at: usize, number: u64) -> usize
     requires { ⌜ at + maxDigits ≤ length (now output) ⌝ }
     ensures { λ r. ⌜ Put at (decimal number) (now (output .entry)) r (now (output .exit)) ⌝ }
 {

@@ -57,7 +57,7 @@ pub blanks-alike : (image : List ℕ) → allAre (length image) (length (blank (
 blanks-alike image = all-good _ _ _ _ (record { in-cache = length-blank (length image); in-nvm = refl; in-flags = length-blank (length image) })
 
 -- the machine that recovery is given, with an image read into blank buffers
-blank-nvm : (n : ℕ) (cache nvm flags image : List ℕ) → Blanks n cache nvm flags → length image ≡ n → blankOf cache image flags ≡ nvmOnly image
+pub blank-nvm : (n : ℕ) (cache nvm flags image : List ℕ) → Blanks n cache nvm flags → length image ≡ n → blankOf cache image flags ≡ nvmOnly image
 unfolding nvmOnly
 blank-nvm n cache nvm flags image b l = rw (b .no-cache, l, b .no-flags)
 
@@ -108,7 +108,7 @@ untold input e = first-fails _ _ (rw (blanks-alike (imageIn End input))) ∙ fir
 -- ---- the image that was read, and what recovery made of it
 module _ (input cache nvm flags image : List ℕ) where
   module _ (t : inputRefusal Start input ≡ 0) (b : Blanks (imageWords Start input) cache nvm flags) (m : image ≡ wordsIn input 3 (length nvm)) where
-    start-read : image ≡ imageIn Start input
+    pub start-read : image ≡ imageIn Start input
     unfolding imageIn imageWords
     start-read = m ∙ ap (wordsIn input 3) (b .in-nvm)
 
@@ -123,7 +123,7 @@ module _ (input cache nvm flags image : List ℕ) where
         ap (restartText z) (e ∙ ap (recoverStep z maxLag noLimit) found) ∙ same ∙ report-taken Start input t
 
   module _ (t : inputRefusal End input ≡ 0) (b : Blanks (imageWords End input) cache nvm flags) (m : image ≡ wordsIn input 0 (length nvm)) where
-    end-read : image ≡ allWords input
+    pub end-read : image ≡ allWords input
     unfolding imageWords allWords
     end-read = m ∙ ap (wordsIn input 0) (b .in-nvm)
 

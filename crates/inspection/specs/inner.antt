@@ -1,0 +1,5 @@
+-- How the code goes and why it is right: need not be believed.
+pub mod InspectionFacts
+pub mod LineLaws
+pub mod ListingLaws
+pub mod InspectionLaws
