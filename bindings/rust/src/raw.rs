@@ -1,5 +1,20 @@
-//! The library's calls on words: one function a call, on slices that cannot be null and, by Rust's rules, do not overlap where one is written.
-//! Each returns 0 or the number of the refusal, as in `include/vandzulge.h`; nothing is checked here, the library checks it.
+//! The library's calls on words, as in C, for code that must hand over anything: one function a call, on slices that cannot be null and, by Rust's rules, do not overlap where one
+//! is written. Each returns 0 or the number of the refusal, as in `include/vandzulge.h`; nothing is checked here, the library checks it. [`Store`](crate::Store) is made of them.
+
+/// Words of an answer.
+pub const ANSWER_WORDS: usize = 4;
+/// Words of each lane in the record, from word 2 on: phase (0 idle), first slot, count, timestamp, next slot, wrap bit, floor (0 none), floor's value; then 16 pairs.
+pub const LANE_WORDS: usize = 40;
+/// The record's word that has the lag limit.
+pub const LAG_WORD: usize = 322;
+/// The first of the record's words for the lock: whether it is held, its lane, timestamp, count of writes, how many of them are logged, how many are written; then 64 pairs.
+pub const LOCK_WORD: usize = 323;
+/// Words of the longest transaction: 16 instructions of four.
+pub const MAX_TXN_WORDS: usize = 4 * crate::MAX_INSTRUCTIONS;
+/// Words of the longest transaction under the lock: 64 instructions of four.
+pub const MAX_LONG_TXN_WORDS: usize = 4 * crate::MAX_LONG_INSTRUCTIONS;
+/// Words of the trailer, the last ones of an image: W, T, N, and how many words stand before these four.
+pub const TRAILER_WORDS: usize = 4;
 
 mod ffi {
     extern "C" {

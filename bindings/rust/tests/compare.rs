@@ -4,9 +4,9 @@
 mod common;
 
 use common::states::{every_outcome, BAD_LAGS, LOCK_PAIRS};
-use common::{trailers, Call, Random, World, LIBRARY, PLAIN};
-use vandzulge::images;
-use vandzulge::{Sizes, GREATEST_LAG, LAG_WORD, LOCK_WORD};
+use common::{images, plain, trailers, Call, Random, Sizes, World, LIBRARY, PLAIN};
+use vandzulge::raw::{LAG_WORD, LOCK_WORD};
+use vandzulge::GREATEST_LAG;
 
 /// Makes the call on both, compares all, and keeps what they left. Its number.
 fn both(world: &mut World, call: &Call, place: &str) -> u64 {
@@ -679,7 +679,7 @@ fn equal_timestamps_on_two_laps() {
             world.record[0] = 100;
             assert_eq!(both(&mut world, &Call::Drain(lane), &format!("seed {seed}")), 0);
         }
-        let stores = vandzulge::plain::recovery_read_stores(&image).len() - 2 * sizes.lanes * sizes.slots;
+        let stores = plain::recovery_read_stores(&image).len() - 2 * sizes.lanes * sizes.slots;
         for limit in (0..=stores).chain([usize::MAX]) {
             let mut world = cut(sizes, image.clone());
             assert_eq!(both(&mut world, &Call::RecoverRead(limit), &format!("seed {seed}, limit {limit}")), 0);

@@ -1,5 +1,5 @@
 //! Power cuts after every call of pseudo-random runs, with write-backs in between: recovery leaves the commits below its boundary, no boundary is below the least floor, and a
-//! commit that is safe, as `include/vandzulge.h` says, or ever was, stays; a lane that is settled and drained keeps what was committed before; and no boundary is further below a
+//! commit that is safe, as `include/vandzulge.h` and `Store::is_safe` say, or ever was, stays; a lane that is settled and drained keeps what was committed before; and no boundary is further below a
 //! timestamp that Log or Lock took than the lag limit. Now one lane is at work, now another; the others rest, marked and drained or not. And cuts inside the steps of a long
 //! transaction: all of it stands or none.
 
@@ -7,7 +7,8 @@ mod common;
 
 use common::states::small_lag;
 use common::{Call, Random, World, LIBRARY};
-use vandzulge::{LAG_WORD, LOCK_WORD};
+use vandzulge::raw::{LAG_WORD, LOCK_WORD};
+use vandzulge::{Buffers, Sizes, Store};
 
 const WORDS: usize = 3;
 const LANES: usize = 3;
@@ -75,6 +76,15 @@ impl Run {
     fn floor(&self, lane: usize) -> Option<u64> {
         let words = &self.world.record[2 + 40 * lane..];
         (words[6] != 0).then_some(words[7])
+    }
+
+    /// What the store itself says of each commit: whether it is safe.
+    fn told_safe(&mut self) -> Vec<bool> {
+        let World { words, lanes, slots, cache, nvm, flags, record, .. } = &mut self.world;
+        let sizes = Sizes::new(*words, *lanes, *slots).expect("in range");
+        let mut buffers = Buffers { cache, nvm, flags, record: record.as_mut_slice().try_into().expect("a record") };
+        let store = Store::attach(&mut buffers, sizes).expect("a store that has started");
+        self.commits.iter().map(|commit| store.is_safe(commit.0)).collect()
     }
 
     /// Makes a call and notes what it answered. Its number.
@@ -195,9 +205,11 @@ fn no_cut_loses_a_safe_commit() {
             let floors: Vec<u64> = (0..LANES).filter_map(|lane| run.floor(lane)).collect();
             let place = format!("seed {seed}, step {step}, boundary {boundary:?}, floors {floors:?}");
             assert!(boundary.is_none_or(|boundary| floors.iter().any(|&floor| floor <= boundary)), "{place}");
-            for (stamp, txn) in &run.commits {
+            let told_safe = run.told_safe();
+            for ((stamp, txn), told_safe) in run.commits.iter().zip(told_safe) {
                 let stays = boundary.is_none_or(|boundary| *stamp < boundary);
                 let safe = floors.iter().all(|floor| floor > stamp);
+                assert_eq!(told_safe, safe, "the commit at {stamp}: {place}");
                 if safe {
                     run.safe = run.safe.max(*stamp);
                 }

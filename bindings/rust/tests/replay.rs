@@ -4,7 +4,8 @@ mod common;
 
 use common::{Call, Calls, World, LIBRARY, PLAIN};
 use std::fmt::{Display, Write};
-use vandzulge::{ANSWER_WORDS, GREATEST_LAG, RECORD_WORDS};
+use vandzulge::raw::ANSWER_WORDS;
+use vandzulge::{GREATEST_LAG, RECORD_WORDS};
 
 const MAX_INPUT_WORDS: usize = 131_072;
 /// Words of each buffer.

@@ -1,60 +1,176 @@
-//! The safe wrappers: every call and every answer by way of `Store`, with the two-lane scenario of the specification.
+//! The safe wrappers: every call and every answer by way of `Store`, with the two-lane scenario of the specification; the types that calls take; and what a store tells.
 
+use vandzulge::raw::{self, LAG_WORD, LOCK_WORD, MAX_LONG_TXN_WORDS, MAX_TXN_WORDS};
+use vandzulge::Instruction::{Add, Copy, Set, SkipIfZero};
 use vandzulge::{
-    former_words, image_words, Lock, Log, Mark, Progress, Recovery, Redo, Refusal, Sizes, Store, Validate, GREATEST_LAG, LAG_WORD, LOCK_WORD, MAX_FORMER_WORDS,
-    MAX_IMAGE_WORDS, MAX_LONG_TXN_WORDS, RECORD_WORDS,
+    former_words, image_words, Buffers, Instruction, Lock, Locked, Log, Mark, Progress, Recovery, Redo, Refusal, Sizes, Store, Validate, GREATEST_LAG,
+    LEAST_LAG, MAX_FORMER_WORDS, MAX_IMAGE_WORDS, MAX_INSTRUCTIONS, MAX_LONG_INSTRUCTIONS, RECORD_WORDS,
 };
 
-/// Runs the test on a new store of the given sizes, not formatted.
-fn with_store(sizes: Sizes, test: impl FnOnce(&mut Store)) {
-    with_length(sizes, image_words(sizes), test);
+/// A store's buffers, to look at and to spoil between two calls. Each call is that of a `Store` that is attached to them for it.
+struct Lent {
+    sizes: Sizes,
+    cache: Vec<u64>,
+    nvm: Vec<u64>,
+    flags: Vec<u8>,
+    record: Box<[u64; RECORD_WORDS]>,
+}
+
+impl Lent {
+    fn buffers(&mut self) -> Buffers<'_> {
+        Buffers { cache: &mut self.cache, nvm: &mut self.nvm, flags: &mut self.flags, record: &mut self.record }
+    }
+
+    /// What is done with the store that has started on these buffers.
+    fn started<R>(&mut self, run: impl FnOnce(&mut Store) -> R) -> Result<R, Refusal> {
+        let sizes = self.sizes;
+        Ok(run(&mut Store::attach(&mut self.buffers(), sizes)?))
+    }
+
+    fn format(&mut self, max_lag: u64, start: &[u64]) -> Result<(), Refusal> {
+        let sizes = self.sizes;
+        Store::format(&mut self.buffers(), sizes, max_lag, start).map(|store| assert_eq!(store.sizes(), sizes))
+    }
+
+    /// Recovery, which tells the sizes.
+    fn recover(&mut self, max_lag: u64) -> Result<Recovery, Refusal> {
+        let (sizes, recovery) = Store::recover(&mut self.buffers(), max_lag).map(|(store, recovery)| (store.sizes(), recovery))?;
+        self.sizes = sizes;
+        Ok(recovery)
+    }
+
+    fn recover_within(&mut self, max_lag: u64, limit: usize) -> Result<Option<Recovery>, Refusal> {
+        Ok(Store::recover_within(&mut self.buffers(), max_lag, limit)?.map(|(_, recovery)| recovery))
+    }
+
+    fn recover_former(&mut self, max_lag: u64) -> Result<Recovery, Refusal> {
+        let sizes = self.sizes;
+        Store::recover_former(&mut self.buffers(), sizes, max_lag).map(|(_, recovery)| recovery)
+    }
+
+    fn recover_former_within(&mut self, max_lag: u64, limit: usize) -> Result<Option<Recovery>, Refusal> {
+        let sizes = self.sizes;
+        Ok(Store::recover_former_within(&mut self.buffers(), sizes, max_lag, limit)?.map(|(_, recovery)| recovery))
+    }
+
+    fn write_back(&mut self, word: usize) -> Result<(), Refusal> {
+        self.started(|store| store.write_back(word))?
+    }
+
+    fn drain(&mut self, lane: usize) -> Result<(), Refusal> {
+        self.started(|store| store.drain(lane))?
+    }
+
+    fn log(&mut self, lane: usize, txn: &[Instruction]) -> Result<Log, Refusal> {
+        self.started(|store| store.log(lane, txn))?
+    }
+
+    fn settle(&mut self, lane: usize) -> Result<u64, Refusal> {
+        self.started(|store| store.settle(lane))?
+    }
+
+    fn redo(&mut self, lane: usize) -> Result<Redo, Refusal> {
+        self.started(|store| store.redo(lane))?
+    }
+
+    fn validate(&mut self, lane: usize, txn: &[Instruction]) -> Result<Validate, Refusal> {
+        self.started(|store| store.validate(lane, txn))?
+    }
+
+    fn mark(&mut self, lane: usize) -> Result<Mark, Refusal> {
+        self.started(|store| store.mark(lane))?
+    }
+
+    fn lock(&mut self, lane: usize, txn: &[Instruction]) -> Result<Lock, Refusal> {
+        self.started(|store| store.lock(lane, txn))?
+    }
+
+    fn proceed(&mut self, lane: usize) -> Result<Progress, Refusal> {
+        self.started(|store| store.proceed(lane))?
+    }
+
+    /// The number of a raw call with these words as transaction and with so many slots given.
+    fn raw_txn(&mut self, call: RawTxnCall, slots: usize, lane: usize, txn: &[u64]) -> u64 {
+        let (words, lanes) = (self.sizes.words(), self.sizes.lanes());
+        call(words, lanes, slots, &mut self.cache, &mut self.nvm, &mut self.flags, &mut *self.record, &mut [0; 4], lane, txn)
+    }
+
+    fn raw_log(&mut self, lane: usize, txn: &[u64]) -> u64 {
+        self.raw_txn(raw::log, self.sizes.slots(), lane, txn)
+    }
+
+    fn raw_validate(&mut self, lane: usize, txn: &[u64]) -> u64 {
+        self.raw_txn(raw::validate, self.sizes.slots(), lane, txn)
+    }
+
+    /// The number of a raw Redo or Mark.
+    fn raw_step(&mut self, call: RawCall, lane: usize) -> u64 {
+        let sizes = self.sizes;
+        let Buffers { cache, nvm, flags, record } = self.buffers();
+        call(sizes.words(), sizes.lanes(), sizes.slots(), cache, nvm, flags, record, &mut [0; 4], lane)
+    }
+}
+
+type RawCall = fn(usize, usize, usize, &mut [u64], &mut [u64], &mut [u8], &mut [u64], &mut [u64], usize) -> u64;
+type RawTxnCall = fn(usize, usize, usize, &mut [u64], &mut [u64], &mut [u8], &mut [u64], &mut [u64], usize, &[u64]) -> u64;
+
+const fn sizes(words: usize, lanes: usize, slots: usize) -> Sizes {
+    match Sizes::new(words, lanes, slots) {
+        Ok(sizes) => sizes,
+        Err(_) => panic!("sizes out of range"),
+    }
+}
+
+/// Runs the test on buffers for a store of the given sizes, not formatted.
+fn with_store(sizes: Sizes, test: impl FnOnce(&mut Lent)) {
+    with_length(sizes, sizes.image_words(), test);
 }
 
 /// The same on buffers of the given length.
-fn with_length(sizes: Sizes, length: usize, test: impl FnOnce(&mut Store)) {
-    test(&mut Store { sizes, cache: &mut vec![0; length], nvm: &mut vec![0; length], flags: &mut vec![0; length], record: &mut [0; RECORD_WORDS] });
+fn with_length(sizes: Sizes, length: usize, test: impl FnOnce(&mut Lent)) {
+    test(&mut Lent { sizes, cache: vec![0; length], nvm: vec![0; length], flags: vec![0; length], record: Box::new([0; RECORD_WORDS]) });
 }
 
 /// Power is cut: cache, flags and record are lost.
-fn cut_power(store: &mut Store) {
+fn cut_power(store: &mut Lent) {
     store.cache.fill(77);
     store.flags.fill(0xff);
     store.record.fill(99);
 }
 
 /// The lane's floor in the record.
-fn floor(store: &Store, lane: usize) -> Option<u64> {
+fn floor(store: &Lent, lane: usize) -> Option<u64> {
     let words = &store.record[2 + 40 * lane..];
     (words[6] != 0).then_some(words[7])
 }
 
 /// Logs a transaction of one write and commits it, with this timestamp.
-fn commit(store: &mut Store, lane: usize, txn: &[u64], stamp: u64) {
+fn commit(store: &mut Lent, lane: usize, txn: &[Instruction], stamp: u64) {
     assert_eq!(store.log(lane, txn), Ok(Log::Logged { count: 1, stamp: stamp - 2 }));
     assert_eq!(store.redo(lane), Ok(Redo::Committed { stamp }));
 }
 
 /// All words that the store is lent, one after another.
-fn all_words(store: &Store) -> Vec<u64> {
+fn all_words(store: &Lent) -> Vec<u64> {
     [&*store.cache, &*store.nvm, &*store.record].concat().into_iter().chain(store.flags.iter().map(|&flag| flag as u64)).collect()
 }
 
 /// Marks a lane that holds no transaction, with this timestamp.
-fn mark(store: &mut Store, lane: usize, stamp: u64) {
+fn mark(store: &mut Lent, lane: usize, stamp: u64) {
     assert_eq!(store.mark(lane), Ok(Mark { stamp, dropped: false }));
 }
 
 /// A finished recovery that found no torn slots.
 fn finished(boundary: Option<u64>, undone: u64) -> Result<Recovery, Refusal> {
-    Ok(Recovery::Finished { boundary, undone, torn: 0 })
+    Ok(Recovery { boundary, undone, torn: 0 })
 }
 
-const SIZES: Sizes = Sizes { words: 2, lanes: 2, slots: 34 };
-const COPY_0_TO_1: [u64; 4] = [2, 1, 0, 0];
-const SET_0_TO_2: [u64; 4] = [1, 0, 0, 2];
-const SET_0_TO_5: [u64; 4] = [1, 0, 0, 5];
-const SET_1_TO_7: [u64; 4] = [1, 1, 0, 7];
-const PASS_OVER: [u64; 8] = [5, 0, 0, 1, 1, 0, 0, 9];
+const SIZES: Sizes = sizes(2, 2, 34);
+const COPY_0_TO_1: [Instruction; 1] = [Copy { to: 1, from: 0 }];
+const SET_0_TO_2: [Instruction; 1] = [Set { to: 0, value: 2 }];
+const SET_0_TO_5: [Instruction; 1] = [Set { to: 0, value: 5 }];
+const SET_1_TO_7: [Instruction; 1] = [Set { to: 1, value: 7 }];
+const PASS_OVER: [Instruction; 2] = [SkipIfZero { word: 0, count: 1 }, Set { to: 0, value: 9 }];
 /// Withdrawn: the word whose number is word 0 modulo W becomes 7. And the same where it is passed over if word 1 is 0.
 const POKE: [u64; 4] = [4, 0, 0, 7];
 const PASS_OVER_POKE: [u64; 12] = [5, 0, 1, 1, 4, 0, 0, 7, 1, 0, 0, 9];
@@ -69,16 +185,16 @@ fn two_lanes_and_a_power_cut() {
         assert_eq!(store.redo(1), Ok(Redo::Stale));
         assert_eq!(store.validate(1, &COPY_0_TO_1), Ok(Validate::Committed { stamp: 8 }));
         assert_eq!(store.log(1, &COPY_0_TO_1), Ok(Log::Logged { count: 1, stamp: 10 }));
-        for word in 0..image_words(SIZES) {
+        for word in 0..SIZES.image_words() {
             assert_eq!(store.write_back(word), Ok(()));
         }
         assert_eq!(store.nvm[1..3], [2, 2]);
         cut_power(store);
-        assert_eq!(store.recover_read(GREATEST_LAG, 1), Ok(Recovery::Cut));
-        assert_eq!(store.recover_read(GREATEST_LAG, usize::MAX), Ok(Recovery::Finished { boundary: Some(6), undone: 3, torn: 0 }));
+        assert_eq!(store.recover_within(GREATEST_LAG, 1), Ok(None));
+        assert_eq!(store.recover(GREATEST_LAG), Ok(Recovery { boundary: Some(6), undone: 3, torn: 0 }));
         assert_eq!((store.cache[1..3].to_vec(), store.nvm[1..3].to_vec()), (vec![0, 0], vec![0, 0]));
         assert_eq!((store.record[0], store.record[1]), (10, 10));
-        assert_eq!(store.recover_read(GREATEST_LAG, usize::MAX), Ok(Recovery::Finished { boundary: None, undone: 0, torn: 0 }));
+        assert_eq!(store.recover(GREATEST_LAG), Ok(Recovery { boundary: None, undone: 0, torn: 0 }));
     });
 }
 
@@ -90,10 +206,10 @@ fn torn_slots_are_counted_in_the_memory_that_a_call_finds() {
         // of the entry in slot 0 only the address word reaches the memory, of the timestamp in slot 1 only the value word
         assert_eq!((store.write_back(3), store.write_back(6)), (Ok(()), Ok(())));
         // the cache has two whole slots: none of them counts. Clearing word 3, after the base word, leaves slot 0 empty and slot 1 torn
-        assert_eq!(store.recover_read(GREATEST_LAG, 2), Ok(Recovery::Cut));
+        assert_eq!(store.recover_within(GREATEST_LAG, 2), Ok(None));
         assert_eq!((store.nvm[3], store.nvm[6]), (0, 3));
-        assert_eq!(store.recover_read(GREATEST_LAG, usize::MAX), Ok(Recovery::Finished { boundary: None, undone: 0, torn: 1 }));
-        assert_eq!(store.recover_read(GREATEST_LAG, usize::MAX), Ok(Recovery::Finished { boundary: None, undone: 0, torn: 0 }));
+        assert_eq!(store.recover(GREATEST_LAG), Ok(Recovery { boundary: None, undone: 0, torn: 1 }));
+        assert_eq!(store.recover(GREATEST_LAG), Ok(Recovery { boundary: None, undone: 0, torn: 0 }));
     });
 }
 
@@ -139,7 +255,7 @@ fn the_empty_transaction_settles_a_lane() {
 }
 
 /// Settles or marks lane 0 of a store on which these calls were made. Its timestamp, and all words.
-fn settled_or_marked(calls: fn(&mut Store), step: fn(&mut Store) -> u64) -> (u64, Vec<u64>) {
+fn settled_or_marked(calls: fn(&mut Lent), step: fn(&mut Lent) -> u64) -> (u64, Vec<u64>) {
     let mut left = (0, vec![]);
     with_store(SIZES, |store| {
         assert_eq!(store.format(GREATEST_LAG, &[0, 5]), Ok(()));
@@ -153,7 +269,7 @@ fn settled_or_marked(calls: fn(&mut Store), step: fn(&mut Store) -> u64) -> (u64
 /// and beside a lane that is not drained.
 #[test]
 fn a_settled_lane_is_as_a_marked_one() {
-    let states: [(fn(&mut Store), u64); 7] = [
+    let states: [(fn(&mut Lent), u64); 7] = [
         (|_| {}, 2),
         (|store| commit(store, 0, &SET_0_TO_2, 4), 6),
         (
@@ -199,7 +315,7 @@ fn validate_refuses_the_empty_transaction() {
         assert_eq!(store.format(GREATEST_LAG, &[0, 0]), Ok(()));
         assert_eq!(store.validate(0, &[]), Err(Refusal::Txn));
         for length in 1..4 {
-            assert_eq!(store.log(0, &SET_0_TO_2[..length]), Err(Refusal::Txn));
+            assert_eq!(store.raw_log(0, &SET_0_TO_2[0].to_words()[..length]), 5);
         }
         assert_eq!(store.log(0, &SET_0_TO_2), Ok(Log::Logged { count: 1, stamp: 2 }));
         let before = all_words(store);
@@ -224,6 +340,7 @@ fn what_stops_a_lane_from_being_settled() {
             (store.record[0], store.record[LAG_WORD]) = (clock, max_lag);
             let before = all_words(store);
             let number = store.settle(lane).expect_err("refused");
+            assert_eq!(store.raw_log(lane, &[]), number.number());
             assert!(all_words(store) == before, "{number:?}");
             number
         };
@@ -235,7 +352,9 @@ fn what_stops_a_lane_from_being_settled() {
         assert_eq!(store.mark(1), Err(Refusal::Overwrite));
         assert_eq!((store.mark(0), store.drain(0)), (Ok(Mark { stamp: 72, dropped: true }), Ok(())));
         assert_eq!((store.settle(1), floor(store, 1)), (Ok(74), Some(74)));
-        (store.sizes.slots, store.record[LAG_WORD]) = (33, 3);
+        store.record[LAG_WORD] = 3;
+        assert_eq!(store.raw_txn(raw::log, 33, 1, &[]), 1);
+        store.sizes = sizes(2, 2, 36);
         assert_eq!(store.settle(1), Err(Refusal::Size));
     });
 }
@@ -259,13 +378,13 @@ fn the_lag_limit_binds_what_settles_a_lane() {
 }
 
 /// Power is cut, and recovery answers this.
-fn cut_and_recover(store: &mut Store, boundary: Option<u64>, undone: u64) {
+fn cut_and_recover(store: &mut Lent, boundary: Option<u64>, undone: u64) {
     cut_power(store);
-    assert_eq!(store.recover_read(GREATEST_LAG, usize::MAX), finished(boundary, undone));
+    assert_eq!(store.recover(GREATEST_LAG), finished(boundary, undone));
 }
 
 /// A store of two words 0 whose lane 1 has set word 1 to 7 at 4, was marked at 6 and drained, and rests.
-fn with_lane_1_at_rest(test: impl FnOnce(&mut Store)) {
+fn with_lane_1_at_rest(test: impl FnOnce(&mut Lent)) {
     with_store(SIZES, |store| {
         assert_eq!(store.format(GREATEST_LAG, &[0, 0]), Ok(()));
         commit(store, 1, &SET_1_TO_7, 4);
@@ -342,7 +461,7 @@ fn a_settled_lane_keeps_its_commits_from_its_next_drain_on() {
         cut_and_recover(store, Some(10), 1);
         assert_eq!(store.nvm[1..3], [0, 7]);
     });
-    let drains: [fn(&mut Store); 4] = [
+    let drains: [fn(&mut Lent); 4] = [
         |store| assert_eq!(store.drain(0), Ok(())),
         |store| assert_eq!(store.log(0, &SET_0_TO_5), Ok(Log::Logged { count: 1, stamp: 14 })),
         |store| mark(store, 0, 14),
@@ -437,7 +556,7 @@ fn a_floor_ends_when_a_mark_is_drained() {
         // Mark drains the commit, and not yet itself; nor do write-backs drain it
         mark(store, 1, 12);
         assert_eq!(floor(store, 1), Some(10));
-        for word in 0..image_words(SIZES) {
+        for word in 0..SIZES.image_words() {
             assert_eq!(store.write_back(word), Ok(()));
         }
         assert_eq!(floor(store, 1), Some(10));
@@ -452,13 +571,13 @@ fn a_marked_lane_keeps_no_slots() {
     with_store(SIZES, |store| {
         assert_eq!(store.format(GREATEST_LAG, &[0, 0]), Ok(()));
         mark(store, 1, 2);
-        for _ in 0..SIZES.slots {
+        for _ in 0..SIZES.slots() {
             assert!(store.mark(0).is_ok());
         }
         // slot 0 has the mark at 4, and lane 1's floor is 2
         assert_eq!(store.mark(0), Err(Refusal::Overwrite));
         assert_eq!(store.drain(1), Ok(()));
-        for _ in 0..3 * SIZES.slots {
+        for _ in 0..3 * SIZES.slots() {
             assert!(store.mark(0).is_ok());
         }
     });
@@ -497,17 +616,17 @@ fn of_equal_timestamps_the_later_decides() {
             store.cache[3..9].copy_from_slice(slots.as_flattened());
             assert_eq!(store.drain(0), Ok(()));
             assert_eq!(floor(store, 0), given, "{slots:?}");
-            assert_eq!(store.recover_read(GREATEST_LAG, usize::MAX), finished(given, undone), "{slots:?}");
+            assert_eq!(store.recover(GREATEST_LAG), finished(given, undone), "{slots:?}");
             assert_eq!(store.nvm[..3], [2, word, 0], "{slots:?}");
         });
     }
 }
 
 /// A store whose word 0 is 3, with lane 0 as a Log of that POKE left it under the former rule: it wrote word 3 modulo 2, so a Log of a SET of word 1 leaves the same.
-fn with_poke_held(test: impl FnOnce(&mut Store)) {
+fn with_poke_held(test: impl FnOnce(&mut Lent)) {
     with_store(SIZES, |store| {
         assert_eq!(store.format(GREATEST_LAG, &[3, 0]), Ok(()));
-        assert_eq!(store.log(0, &[1, 1, 0, 7]), Ok(Log::Logged { count: 1, stamp: 2 }));
+        assert_eq!(store.log(0, &SET_1_TO_7), Ok(Log::Logged { count: 1, stamp: 2 }));
         test(store);
     });
 }
@@ -515,10 +634,8 @@ fn with_poke_held(test: impl FnOnce(&mut Store)) {
 #[test]
 fn a_new_poke_is_refused_and_a_logged_one_ends_by_redo_or_mark() {
     with_poke_held(|store| {
-        assert_eq!(store.log(1, &POKE), Err(Refusal::Txn));
-        assert_eq!(store.log(1, &PASS_OVER_POKE), Err(Refusal::Txn));
-        assert_eq!(store.validate(0, &POKE), Err(Refusal::Txn));
-        assert_eq!(store.validate(0, &PASS_OVER_POKE), Err(Refusal::Txn));
+        assert_eq!((store.raw_log(1, &POKE), store.raw_log(1, &PASS_OVER_POKE)), (5, 5));
+        assert_eq!((store.raw_validate(0, &POKE), store.raw_validate(0, &PASS_OVER_POKE)), (5, 5));
         assert_eq!(store.redo(0), Ok(Redo::Committed { stamp: 4 }));
         assert_eq!(store.cache[1..3], [3, 7]);
     });
@@ -530,12 +647,12 @@ fn a_new_poke_is_refused_and_a_logged_one_ends_by_redo_or_mark() {
 }
 
 /// The lag limit of the record.
-fn lag_limit(store: &Store) -> u64 {
+fn lag_limit(store: &Lent) -> u64 {
     store.record[LAG_WORD]
 }
 
 /// Two lanes and the lag limit 4. Lane 1 commits at 4 and rests, with that floor; a Log of lane 0 may then take 6 or 8, and not 10, until lane 1 is marked and drained.
-fn with_lane_1_idle(test: impl FnOnce(&mut Store)) {
+fn with_lane_1_idle(test: impl FnOnce(&mut Lent)) {
     with_store(SIZES, |store| {
         assert_eq!(store.format(4, &[0, 0]), Ok(()));
         commit(store, 1, &SET_0_TO_2, 4);
@@ -554,7 +671,7 @@ fn the_lag_limit_refuses_a_log() {
         assert_eq!(store.log(0, &SET_1_TO_7), Err(Refusal::LagPassed));
         assert_eq!(*store.record, record[..]);
         // word 1 is 0: what is passed over takes no timestamp
-        assert_eq!(store.log(0, &[5, 0, 1, 1, 1, 1, 0, 9]), Ok(Log::NoWrites));
+        assert_eq!(store.log(0, &[SkipIfZero { word: 1, count: 1 }, Set { to: 1, value: 9 }]), Ok(Log::NoWrites));
         cut_and_recover(store, Some(4), 2);
         assert_eq!(store.nvm[1..3], [0, 0]);
     });
@@ -595,7 +712,7 @@ fn without_a_floor_there_is_no_limit() {
         // 2 above lane 1's floor
         assert_eq!(store.log(0, &SET_0_TO_5), Ok(Log::Logged { count: 1, stamp: 26 }));
         cut_power(store);
-        assert_eq!(store.recover_read(2, usize::MAX), finished(None, 0));
+        assert_eq!(store.recover(2), finished(None, 0));
         // in the memory are lane 1's marks up to 22; the base is 22
         assert_eq!(store.log(1, &SET_1_TO_7), Ok(Log::Logged { count: 1, stamp: 24 }));
     });
@@ -613,25 +730,25 @@ fn each_start_is_given_a_lag_limit() {
         assert_eq!(lag_limit(store), 6);
         commit(store, 0, &SET_0_TO_2, 4);
         assert_eq!(lag_limit(store), 6);
-        assert_eq!(store.recover_read(3, usize::MAX), Err(Refusal::LagRange));
+        assert_eq!(store.recover(3), Err(Refusal::LagRange));
         // where stores remain, the record is as it was
-        assert_eq!(store.recover_read(8, 0), Ok(Recovery::Cut));
+        assert_eq!(store.recover_within(8, 0), Ok(None));
         assert_eq!(lag_limit(store), 6);
-        assert_eq!(store.recover_read(8, usize::MAX), finished(Some(2), 1));
+        assert_eq!(store.recover(8), finished(Some(2), 1));
         assert_eq!(lag_limit(store), 8);
         store.record[LAG_WORD] = 7;
-        assert_eq!(store.mark(0), Err(Refusal::Record));
+        assert_eq!((store.mark(0), store.raw_step(raw::mark, 0)), (Err(Refusal::Record), 2));
     });
-    with_length(SIZES, former_words(SIZES), |store| {
-        assert_eq!(store.recover(GREATEST_LAG + 2, usize::MAX), Err(Refusal::LagRange));
-        assert_eq!(store.recover(2, usize::MAX), finished(None, 0));
+    with_length(SIZES, SIZES.former_words(), |store| {
+        assert_eq!(store.recover_former(GREATEST_LAG + 2), Err(Refusal::LagRange));
+        assert_eq!(store.recover_former(2), finished(None, 0));
         assert_eq!(lag_limit(store), 2);
     });
 }
 
 #[test]
 fn both_lengths() {
-    assert_eq!((former_words(SIZES), image_words(SIZES)), (139, 143));
+    assert_eq!((SIZES.former_words(), SIZES.image_words()), (139, 143));
     assert_eq!((MAX_FORMER_WORDS, MAX_IMAGE_WORDS), (5121, 5125));
 }
 
@@ -647,8 +764,8 @@ fn the_sizes_are_read_from_the_image() {
         assert_eq!(store.log(0, &SET_0_TO_2), Ok(Log::Logged { count: 1, stamp: 2 }));
         assert_eq!(store.redo(0), Ok(Redo::Committed { stamp: 4 }));
         cut_power(store);
-        store.sizes = Sizes { words: 1, lanes: 1, slots: 1 };
-        assert_eq!(store.recover_read(GREATEST_LAG, usize::MAX), Ok(Recovery::Finished { boundary: Some(2), undone: 1, torn: 0 }));
+        store.sizes = sizes(1, 1, 34);
+        assert_eq!(store.recover(GREATEST_LAG), Ok(Recovery { boundary: Some(2), undone: 1, torn: 0 }));
         assert_eq!(store.sizes, SIZES);
         assert_eq!(store.nvm[139..], [2, 2, 34, 139]);
         assert!(*store.cache == *store.nvm && store.flags.iter().all(|&flag| flag == 0));
@@ -660,12 +777,12 @@ fn the_sizes_are_read_from_the_image() {
 #[test]
 fn an_image_of_the_former_length_is_taken_over() {
     let mut data = Vec::new();
-    with_length(SIZES, former_words(SIZES), |store| {
+    with_length(SIZES, SIZES.former_words(), |store| {
         // word 0 was changed from 7 to 9 by a transaction with timestamp 2, and power was cut
         store.nvm[1] = 9;
         store.nvm[3..7].copy_from_slice(&[11, 7, 32_777, 3]);
         store.cache.fill(77);
-        assert_eq!(store.recover(GREATEST_LAG, usize::MAX), Ok(Recovery::Finished { boundary: Some(2), undone: 1, torn: 0 }));
+        assert_eq!(store.recover_former(GREATEST_LAG), Ok(Recovery { boundary: Some(2), undone: 1, torn: 0 }));
         assert_eq!((store.nvm[1], store.cache[1]), (7, 7));
         assert_eq!(store.log(1, &COPY_0_TO_1), Ok(Log::Logged { count: 1, stamp: 4 }));
         assert_eq!(store.redo(1), Ok(Redo::Committed { stamp: 6 }));
@@ -675,82 +792,88 @@ fn an_image_of_the_former_length_is_taken_over() {
         assert_eq!(store.write_back(139), Err(Refusal::Word));
         // the next start: both lanes are marked and drained, and the commit at 6 stays
         store.cache.fill(77);
-        assert_eq!(store.recover(GREATEST_LAG, usize::MAX), Ok(Recovery::Finished { boundary: None, undone: 0, torn: 0 }));
-        data.extend_from_slice(&store.nvm[1..=SIZES.words]);
+        assert_eq!(store.recover_former(GREATEST_LAG), Ok(Recovery { boundary: None, undone: 0, torn: 0 }));
+        data.extend_from_slice(&store.nvm[1..=SIZES.words()]);
         assert_eq!(data, [7, 7]);
     });
     with_store(SIZES, |store| {
         assert_eq!(store.format(GREATEST_LAG, &data), Ok(()));
-        assert_eq!(store.recover_read(GREATEST_LAG, usize::MAX), Ok(Recovery::Finished { boundary: None, undone: 0, torn: 0 }));
+        assert_eq!(store.recover(GREATEST_LAG), Ok(Recovery { boundary: None, undone: 0, torn: 0 }));
         assert_eq!(store.nvm[1..3], [7, 7]);
     });
 }
 
+const REFUSALS: [Refusal; 15] = [
+    Refusal::Size,
+    Refusal::Record,
+    Refusal::Lane,
+    Refusal::Word,
+    Refusal::Txn,
+    Refusal::Logged,
+    Refusal::Idle,
+    Refusal::Spent,
+    Refusal::Overwrite,
+    Refusal::OddBase,
+    Refusal::Locked,
+    Refusal::TooLong,
+    Refusal::Trailer,
+    Refusal::LagPassed,
+    Refusal::LagRange,
+];
+
 #[test]
 fn refusals_have_their_numbers() {
-    with_store(Sizes { slots: 33, ..SIZES }, |store| assert_eq!(store.format(GREATEST_LAG, &[0, 0]), Err(Refusal::Size)));
+    assert_eq!(Sizes::new(2, 2, 33), Err(Refusal::Size));
+    with_length(SIZES, image_words(2, 2, 33), |store| {
+        let Buffers { cache, nvm, flags, record } = store.buffers();
+        assert_eq!(raw::format(2, 2, 33, GREATEST_LAG, &[0, 0], cache, nvm, flags, record), 1);
+        assert_eq!(store.format(GREATEST_LAG, &[0, 0]), Err(Refusal::Size));
+    });
     with_store(SIZES, |store| {
         assert_eq!(store.format(GREATEST_LAG, &[0]), Err(Refusal::Size));
         assert_eq!(store.format(GREATEST_LAG, &[0, 0]), Ok(()));
         assert_eq!(store.drain(2), Err(Refusal::Lane));
-        assert_eq!(store.write_back(image_words(SIZES)), Err(Refusal::Word));
-        assert_eq!(store.log(0, &[1]), Err(Refusal::Txn));
+        assert_eq!(store.write_back(SIZES.image_words()), Err(Refusal::Word));
+        assert_eq!(store.raw_log(0, &[1]), 5);
         assert_eq!(store.redo(0), Err(Refusal::Idle));
         assert_eq!(store.log(0, &SET_0_TO_2), Ok(Log::Logged { count: 1, stamp: 2 }));
         assert_eq!(store.log(0, &SET_0_TO_2), Err(Refusal::Logged));
         // lane 0 keeps its floor: lane 1 can go once around its log, not further
-        for _ in 0..SIZES.slots {
+        for _ in 0..SIZES.slots() {
             assert!(store.mark(1).is_ok());
         }
         assert_eq!(store.mark(1), Err(Refusal::Overwrite));
         store.record[0] = u64::MAX - 1;
         assert_eq!(store.redo(0), Err(Refusal::Spent));
         store.record[0] = 1;
-        assert_eq!(store.redo(0), Err(Refusal::Record));
+        assert_eq!((store.redo(0), store.raw_step(raw::redo, 0)), (Err(Refusal::Record), 2));
         store.nvm[0] = 3;
-        assert_eq!(store.recover_read(GREATEST_LAG, usize::MAX), Err(Refusal::OddBase));
-        store.nvm[image_words(SIZES) - 1] += 1;
-        assert_eq!(store.recover_read(GREATEST_LAG, usize::MAX), Err(Refusal::Trailer));
-        assert_eq!(store.recover(GREATEST_LAG, usize::MAX), Err(Refusal::Size));
+        assert_eq!(store.recover(GREATEST_LAG), Err(Refusal::OddBase));
+        store.nvm[SIZES.image_words() - 1] += 1;
+        assert_eq!(store.recover(GREATEST_LAG), Err(Refusal::Trailer));
+        assert_eq!(store.recover_former(GREATEST_LAG), Err(Refusal::Size));
     });
-    with_length(SIZES, former_words(SIZES), |store| {
+    with_length(SIZES, SIZES.former_words(), |store| {
         assert_eq!(store.format(GREATEST_LAG, &[0, 0]), Err(Refusal::Size));
-        assert_eq!(store.recover_read(GREATEST_LAG, usize::MAX), Err(Refusal::Trailer));
+        assert_eq!(store.recover(GREATEST_LAG), Err(Refusal::Trailer));
         store.nvm[0] = 3;
-        assert_eq!(store.recover(GREATEST_LAG, usize::MAX), Err(Refusal::OddBase));
+        assert_eq!(store.recover_former(GREATEST_LAG), Err(Refusal::OddBase));
     });
-    let numbers = [
-        Refusal::Size,
-        Refusal::Record,
-        Refusal::Lane,
-        Refusal::Word,
-        Refusal::Txn,
-        Refusal::Logged,
-        Refusal::Idle,
-        Refusal::Spent,
-        Refusal::Overwrite,
-        Refusal::OddBase,
-        Refusal::Locked,
-        Refusal::TooLong,
-        Refusal::Trailer,
-        Refusal::LagPassed,
-        Refusal::LagRange,
-    ]
-    .map(Refusal::number);
+    let numbers = REFUSALS.map(Refusal::number);
     assert_eq!(numbers, [1, 2, 3, 4, 5, 6, 7, 8, 9, 10, 11, 12, 14, 15, 16]);
 }
 
 // ---- Long transactions ----
 
-const LONG: Sizes = Sizes { words: 4, lanes: 2, slots: 64 };
+const LONG: Sizes = sizes(4, 2, 64);
 
 /// So many ADDs of 1, to words 0 to 3 in turn.
-fn adds(count: u64) -> Vec<u64> {
-    (0..count).flat_map(|number| [3, number % 4, number % 4, 1]).collect()
+fn adds(count: usize) -> Vec<Instruction> {
+    (0..count).map(|number| Add { to: number % 4, from: number % 4, value: 1 }).collect()
 }
 
 /// A store of four words 0 whose lane 1 holds a transaction logged at 2, its floor.
-fn with_lane_1_logged(test: impl FnOnce(&mut Store)) {
+fn with_lane_1_logged(test: impl FnOnce(&mut Lent)) {
     with_store(LONG, |store| {
         assert_eq!(store.format(GREATEST_LAG, &[0; 4]), Ok(()));
         assert_eq!(store.log(1, &SET_1_TO_7), Ok(Log::Logged { count: 1, stamp: 2 }));
@@ -759,7 +882,7 @@ fn with_lane_1_logged(test: impl FnOnce(&mut Store)) {
 }
 
 /// The lock's words in the record, without its pairs.
-fn lock_words(store: &Store) -> [u64; 6] {
+fn lock_words(store: &Lent) -> [u64; 6] {
     store.record[LOCK_WORD..LOCK_WORD + 6].try_into().unwrap()
 }
 
@@ -769,7 +892,7 @@ fn a_long_transaction_step_by_step() {
     with_lane_1_logged(|store| {
         assert_eq!(store.log(0, &SET_0_TO_5), Ok(Log::Logged { count: 1, stamp: 4 }));
         assert_eq!(store.redo(0), Ok(Redo::Committed { stamp: 6 }));
-        let log = |store: &Store, slot: usize| [store.cache[5 + 2 * slot], store.cache[6 + 2 * slot]];
+        let log = |store: &Lent, slot: usize| [store.cache[5 + 2 * slot], store.cache[6 + 2 * slot]];
         let before = store.cache.to_vec();
         // it drains, and takes timestamp and lock; no cached word changes, and the lane's newest timestamp is still its commit's
         assert_eq!(store.lock(0, &adds(18)), Ok(Lock::Taken(Progress { left: 18, stamp: 8 })));
@@ -810,7 +933,7 @@ fn a_long_transaction_step_by_step() {
 /// The handle tells timestamp and writes left, lets drains and write-backs go on, and can be let go and taken up again.
 #[test]
 fn a_long_transaction_by_its_handle() {
-    with_lane_1_logged(|store| {
+    let test = |store: &mut Store| {
         assert!(store.resume().is_none());
         let mut long = store.long(0, &adds(40)).expect("taken").expect("writes");
         let mut seen = vec![];
@@ -821,16 +944,20 @@ fn a_long_transaction_by_its_handle() {
         }
         assert_eq!((seen, long.lane(), long.stamp(), long.left()), (vec![40, 40, 24, 24], 0, 4, 8));
         // the first two parts show
-        assert_eq!(long.store().cache[1..5], [8, 8, 8, 8]);
+        assert_eq!(long.store().words(), [8, 8, 8, 8]);
         assert_eq!(store.redo(1), Err(Refusal::Locked));
         let mut long = store.resume().expect("held");
         assert_eq!((long.lane(), long.stamp(), long.left()), (0, 4, 8));
         assert_eq!(long.step(), Ok(Progress { left: 8, stamp: 4 }));
         assert_eq!(long.finish(), Ok(4));
-        assert_eq!(store.cache[1..5], [10, 10, 10, 10]);
+        assert_eq!(store.words(), [10, 10, 10, 10]);
         assert!(store.resume().is_none());
         assert_eq!(store.long(0, &adds(1)).expect("taken").expect("writes").finish(), Ok(6));
-        assert_eq!(store.cache[1], 11);
+        assert_eq!(store.words()[0], 11);
+    };
+    with_lane_1_logged(|store| {
+        store.started(test).expect("a store that has started");
+        assert_eq!(store.cache[1..5], [11, 10, 10, 10]);
     });
 }
 
@@ -865,7 +992,7 @@ fn the_lock_stops_other_steps() {
     });
     with_lane_1_logged(|store| {
         assert!(matches!(store.lock(0, &adds(20)), Ok(Lock::Taken(_))));
-        assert_eq!(store.recover_read(GREATEST_LAG, usize::MAX), finished(None, 0));
+        assert_eq!(store.recover(GREATEST_LAG), finished(None, 0));
         assert!(store.record[LOCK_WORD..].iter().all(|&word| word == 0));
         assert_eq!(store.proceed(0), Err(Refusal::Idle));
         assert!(matches!(store.lock(0, &adds(20)), Ok(Lock::Taken(_))));
@@ -878,8 +1005,8 @@ fn the_lock_stops_other_steps() {
 #[test]
 fn a_long_transaction_without_writes() {
     with_lane_1_logged(|store| {
-        let passes = [&[5, 0, 0, 15][..], &adds(15)].concat();
-        assert!(store.long(0, &passes.repeat(2)).expect("taken").is_none());
+        let passes = [&[SkipIfZero { word: 0, count: 15 }][..], &adds(15)].concat();
+        assert_eq!(store.started(|store| store.long(0, &passes.repeat(2)).expect("taken").is_none()), Ok(true));
         assert_eq!(store.lock(0, &passes), Ok(Lock::NoWrites));
         assert_eq!((store.record[0], lock_words(store)), (2, [0; 6]));
         assert_eq!(store.lock(0, &passes.repeat(3)), Err(Refusal::TooLong));
@@ -929,11 +1056,14 @@ fn a_cut_takes_all_parts_back() {
     for steps in 0..6 {
         with_store(LONG, |store| {
             assert_eq!(store.format(GREATEST_LAG, &[1, 2, 3, 4]), Ok(()));
-            let mut long = store.long(0, &adds(40)).expect("taken").expect("writes");
-            for _ in 0..steps {
-                assert!(long.step().is_ok());
-            }
-            for word in 0..image_words(LONG) {
+            let run = |store: &mut Store| {
+                let mut long = store.long(0, &adds(40)).expect("taken").expect("writes");
+                for _ in 0..steps {
+                    assert!(long.step().is_ok());
+                }
+            };
+            assert_eq!(store.started(run), Ok(()));
+            for word in 0..LONG.image_words() {
                 assert_eq!(store.write_back(word), Ok(()));
             }
             let (boundary, undone) = [(None, 0), (Some(2), 16), (Some(2), 16), (Some(2), 32), (Some(2), 32), (Some(2), 40)][steps];
@@ -953,16 +1083,296 @@ fn parts_around_the_end_of_the_log() {
                 mark(store, 0, 2 * number);
             }
             assert_eq!(store.drain(0), Ok(()));
-            let mut long = store.long(0, &adds(40)).expect("taken").expect("writes");
-            while long.left() > 8 {
+            let run = |store: &mut Store| {
+                let mut long = store.long(0, &adds(40)).expect("taken").expect("writes");
+                while long.left() > 8 {
+                    assert!(long.step().is_ok());
+                }
                 assert!(long.step().is_ok());
-            }
-            assert!(long.step().is_ok());
-            for word in 0..image_words(LONG) {
+            };
+            assert_eq!(store.started(run), Ok(()));
+            for word in 0..LONG.image_words() {
                 assert_eq!(store.write_back(word), Ok(()));
             }
             cut_and_recover(store, Some(2 * marks + 2), 40);
             assert_eq!(store.nvm[1..5], [1, 2, 3, 4], "{marks} marks");
         });
     }
+}
+
+// ---- The types that calls take ----
+
+/// As the library itself checks them, at both ends of each range.
+#[test]
+fn sizes_in_range() {
+    for words in [0, 1, 2, 1023, 1024, 1025] {
+        for lanes in [0, 1, 8, 9] {
+            for slots in [0, 33, 34, 256, 257] {
+                let length = image_words(words, lanes, slots);
+                let (mut cache, mut nvm, mut flags) = (vec![0; length], vec![0; length], vec![0; length]);
+                let number = raw::format(words, lanes, slots, 2, &vec![0; words], &mut cache, &mut nvm, &mut flags, &mut [0; RECORD_WORDS]);
+                match Sizes::new(words, lanes, slots) {
+                    Ok(sizes) => {
+                        assert_eq!((sizes.words(), sizes.lanes(), sizes.slots(), number), (words, lanes, slots, 0));
+                        assert_eq!((sizes.image_words(), sizes.former_words()), (length, former_words(words, lanes, slots)));
+                    }
+                    Err(refusal) => assert_eq!(refusal.number(), number, "W {words}, T {lanes}, N {slots}"),
+                }
+            }
+        }
+    }
+}
+
+#[test]
+fn instructions_have_their_words() {
+    let txn =
+        [Set { to: 1, value: 7 }, Copy { to: 2, from: 1 }, Add { to: 3, from: 2, value: u64::MAX }, SkipIfZero { word: 0, count: 1 }, Set { to: 3, value: 0 }];
+    assert_eq!(txn.map(Instruction::to_words), [[1, 1, 0, 7], [2, 2, 1, 0], [3, 3, 2, u64::MAX], [5, 0, 0, 1], [1, 3, 0, 0]]);
+    with_store(LONG, |store| {
+        assert_eq!(store.format(GREATEST_LAG, &[0; 4]), Ok(()));
+        assert_eq!(store.started(|store| store.commit(0, &txn)), Ok(Ok(Some(4))));
+        assert_eq!(store.cache[1..5], [0, 7, 7, 6]);
+    });
+}
+
+/// The library refuses them, with nothing touched: more instructions than the most, however many, words that are no data words, and skips out of range.
+#[test]
+fn what_is_no_transaction() {
+    assert_eq!((MAX_INSTRUCTIONS, MAX_TXN_WORDS, MAX_LONG_INSTRUCTIONS, MAX_LONG_TXN_WORDS), (16, 64, 64, 256));
+    with_store(sizes(4, 2, 85), |store| {
+        assert_eq!(store.format(GREATEST_LAG, &[1; 4]), Ok(()));
+        assert_eq!(store.log(1, &adds(16)), Ok(Log::Logged { count: 16, stamp: 2 }));
+        let before = all_words(store);
+        for count in [17, 18, 64, 65, 66, 1_000] {
+            assert_eq!((store.log(0, &adds(count)), store.validate(1, &adds(count))), (Err(Refusal::Txn), Err(Refusal::Txn)));
+            assert_eq!(store.started(|store| store.commit(0, &adds(count))), Ok(Err(Refusal::Txn)));
+        }
+        for count in [65, 66, 1_000] {
+            assert_eq!(store.lock(0, &adds(count)), Err(Refusal::Txn));
+        }
+        for word in [4, 5, usize::MAX] {
+            let no_words = [
+                Set { to: word, value: 1 },
+                Copy { to: word, from: 0 },
+                Copy { to: 0, from: word },
+                Add { to: word, from: 0, value: 1 },
+                Add { to: 0, from: word, value: 1 },
+                SkipIfZero { word, count: 1 },
+            ];
+            for instruction in no_words {
+                let txn = [instruction, Set { to: 0, value: 1 }];
+                assert_eq!((store.log(0, &txn), store.lock(0, &txn)), (Err(Refusal::Txn), Err(Refusal::Txn)), "{txn:?}");
+            }
+        }
+        for count in [0, 2, 16, u64::MAX] {
+            let txn = [SkipIfZero { word: 0, count }, Set { to: 0, value: 1 }];
+            assert_eq!((store.log(0, &txn), store.lock(0, &txn)), (Err(Refusal::Txn), Err(Refusal::Txn)), "{txn:?}");
+        }
+        assert!(all_words(store) == before);
+        assert!(matches!(store.lock(0, &adds(64)), Ok(Lock::Taken(Progress { left: 64, .. }))));
+    });
+}
+
+#[test]
+fn refusals_say_their_number() {
+    let texts = REFUSALS.map(|refusal| {
+        let text = refusal.to_string();
+        text.strip_prefix(&format!("refused {}: ", refusal.number())).expect("the number first").to_string()
+    });
+    let distinct: std::collections::BTreeSet<&str> = texts.iter().map(|text| text.trim()).filter(|text| !text.is_empty()).collect();
+    assert_eq!(distinct.len(), REFUSALS.len());
+    let error: Box<dyn std::error::Error> = Refusal::Trailer.into();
+    assert_eq!(error.to_string(), "refused 14: the image tells no sizes that agree with its length");
+    assert!(Refusal::Unknown(13).to_string().starts_with("refused 13: "));
+}
+
+// ---- Starts ----
+
+/// A refused start leaves the buffers, and all that is in them, to the next one.
+#[test]
+fn a_refused_start_hands_the_buffers_back() {
+    with_store(SIZES, |lent| {
+        let mut buffers = lent.buffers();
+        assert_eq!(Store::format(&mut buffers, SIZES, 3, &[5, 6]).expect_err("odd"), Refusal::LagRange);
+        assert_eq!(Store::recover(&mut buffers, GREATEST_LAG).expect_err("zeros"), Refusal::Trailer);
+        assert!(buffers.nvm.iter().all(|&word| word == 0));
+        let store = Store::format(&mut buffers, SIZES, LEAST_LAG, &[5, 6]).expect("format");
+        assert_eq!((store.words(), store.max_lag()), (&[5, 6][..], 2));
+        let (store, recovery) = Store::recover(&mut buffers, 8).expect("recovery");
+        assert_eq!((store.words(), store.max_lag(), recovery), (&[5, 6][..], 8, Recovery { boundary: None, undone: 0, torn: 0 }));
+        let before = buffers.nvm.to_vec();
+        buffers.nvm[142] += 1;
+        assert_eq!(Store::recover(&mut buffers, 8).expect_err("spoiled"), Refusal::Trailer);
+        buffers.nvm[142] -= 1;
+        assert_eq!(buffers.nvm, before);
+        assert_eq!(Store::recover_former(&mut buffers, SIZES, 8).expect_err("with a trailer"), Refusal::Size);
+    });
+}
+
+/// Part by part, of an image of each form.
+#[test]
+fn recovery_part_by_part() {
+    for former in [false, true] {
+        with_length(SIZES, if former { SIZES.former_words() } else { SIZES.image_words() }, |store| {
+            // word 0 was changed from 7 to 9 by a transaction with timestamp 2
+            store.nvm[1] = 9;
+            store.nvm[3..7].copy_from_slice(&[11, 7, 32_777, 3]);
+            if !former {
+                store.nvm[139..].copy_from_slice(&[2, 2, 34, 139]);
+            }
+            let mut within = |limit: usize| if former { store.recover_former_within(8, limit) } else { store.recover_within(8, limit) };
+            assert_eq!((within(0), within(1)), (Ok(None), Ok(None)));
+            assert_eq!(within(2), Ok(None));
+            // word 0 has its old value, and the base word is the clock: nothing is left to undo. The base word again, and of two slots three words are cleared
+            assert_eq!(within(4), Ok(None));
+            assert_eq!(within(usize::MAX), Ok(Some(Recovery { boundary: None, undone: 0, torn: 1 })));
+            assert_eq!((&store.nvm[..7], store.cache[1], store.record[LAG_WORD]), (&[2, 7, 0, 0, 0, 0, 0][..], 7, 8));
+        });
+    }
+}
+
+/// A store that was dropped goes on where it was. No step is possible without a start, or with buffers that do not fit.
+#[test]
+fn a_store_is_taken_up_again() {
+    with_store(SIZES, |lent| {
+        let before = all_words(lent);
+        assert_eq!(Store::attach(&mut lent.buffers(), SIZES).expect_err("no start"), Refusal::Record);
+        assert_eq!((lent.mark(0), lent.write_back(0)), (Err(Refusal::Record), Err(Refusal::Record)));
+        assert!(all_words(lent) == before);
+        assert_eq!(lent.format(GREATEST_LAG, &[0, 0]), Ok(()));
+        assert_eq!(lent.log(0, &SET_0_TO_2), Ok(Log::Logged { count: 1, stamp: 2 }));
+        let before = all_words(lent);
+        for other in [sizes(2, 2, 36), sizes(2, 1, 34), sizes(1, 2, 34)] {
+            assert_eq!(Store::attach(&mut lent.buffers(), other).expect_err("other sizes"), Refusal::Size);
+        }
+        assert_eq!(lent.started(|store| store.holds(0)), Ok(true));
+        assert!(all_words(lent) == before);
+        lent.flags.pop();
+        assert_eq!(lent.redo(0), Err(Refusal::Size));
+        lent.flags.push(0);
+        assert_eq!(lent.redo(0), Ok(Redo::Committed { stamp: 4 }));
+        cut_power(lent);
+        assert_eq!(lent.redo(0), Err(Refusal::Record));
+    });
+}
+
+// ---- What a store tells, and when a commit is safe ----
+
+#[test]
+fn what_the_record_tells() {
+    with_lane_1_logged(|lent| {
+        let tells = |store: &mut Store| (store.clock(), store.last_commit(), [0, 1, 2].map(|lane| store.floor(lane)), [0, 1, 2].map(|lane| store.holds(lane)));
+        assert_eq!(lent.started(tells), Ok((2, 0, [None, Some(2), None], [false, true, false])));
+        commit(lent, 0, &SET_0_TO_5, 6);
+        assert_eq!(lent.started(tells), Ok((6, 6, [Some(4), Some(2), None], [false, true, false])));
+        assert_eq!((floor(lent, 0), floor(lent, 1)), (Some(4), Some(2)));
+        assert_eq!(lent.started(|store| (store.words().to_vec(), store.max_lag(), store.locked())), Ok((vec![5, 0, 0, 0], GREATEST_LAG, None)));
+        assert!(matches!(lent.lock(0, &adds(20)), Ok(Lock::Taken(_))));
+        assert_eq!(lent.started(|store| store.locked()), Ok(Some(Locked { lane: 0, stamp: 8, left: 20 })));
+        assert!(lent.proceed(0).is_ok() && lent.proceed(0).is_ok());
+        assert_eq!(lent.started(|store| store.locked()), Ok(Some(Locked { lane: 0, stamp: 8, left: 4 })));
+        assert_eq!(lent.started(|store| store.words().to_vec()), Ok(vec![9, 4, 4, 4]));
+        assert_eq!(
+            lent.started(|store| format!("{store:?}")).unwrap(),
+            "Store { sizes: Sizes { words: 4, lanes: 2, slots: 64 }, clock: 8, last_commit: 6, .. }"
+        );
+    });
+}
+
+/// Log, Redo, Drain and a cut: the commit is undone. Log, Redo, Settle, Drain and a cut: it is kept. And without the last Drain it is undone.
+#[test]
+fn a_drain_alone_keeps_no_commit() {
+    type Steps = fn(&mut Store);
+    let ways: [(Steps, bool); 4] = [
+        (|store| assert_eq!(store.drain(0), Ok(())), false),
+        (|store| assert_eq!((store.drain(0), store.drain(0)), (Ok(()), Ok(()))), false),
+        (|store| assert_eq!(store.settle(0), Ok(6)), false),
+        (|store| assert_eq!((store.settle(0), store.drain(0)), (Ok(6), Ok(()))), true),
+    ];
+    for (steps, kept) in ways {
+        with_store(sizes(2, 1, 34), |lent| {
+            assert_eq!(lent.format(GREATEST_LAG, &[1, 1]), Ok(()));
+            let run = |store: &mut Store| {
+                assert_eq!(store.log(0, &[Set { to: 0, value: 2 }, Set { to: 1, value: 2 }]), Ok(Log::Logged { count: 2, stamp: 2 }));
+                assert_eq!(store.redo(0), Ok(Redo::Committed { stamp: 4 }));
+                steps(store);
+                assert_eq!((store.words(), store.is_safe(4)), (&[2, 2][..], kept));
+            };
+            assert_eq!(lent.started(run), Ok(()));
+            if kept {
+                cut_and_recover(lent, None, 0);
+                assert_eq!(lent.nvm[1..3], [2, 2]);
+            } else {
+                cut_and_recover(lent, Some(4), 2);
+                assert_eq!(lent.nvm[1..3], [1, 1]);
+            }
+        });
+    }
+}
+
+/// Each premise by itself: not above the clock, below the lock's timestamp while it is held, below each floor.
+#[test]
+fn when_a_commit_is_safe() {
+    with_store(LONG, |lent| {
+        assert_eq!(lent.format(GREATEST_LAG, &[0; 4]), Ok(()));
+        let safe = |lent: &mut Lent, stamps: [u64; 3]| lent.started(|store| stamps.map(|stamp| store.is_safe(stamp))).unwrap();
+        // no floor, no lock, and the clock at 0
+        assert_eq!(safe(lent, [0, 1, 2]), [true, false, false]);
+        commit(lent, 0, &SET_0_TO_2, 4);
+        // the floor is the Log's
+        assert_eq!((floor(lent, 0), safe(lent, [0, 2, 4])), (Some(2), [true, false, false]));
+        assert_eq!(lent.drain(0), Ok(()));
+        assert_eq!((floor(lent, 0), safe(lent, [2, 4, 6])), (Some(4), [true, false, false]));
+        assert_eq!(lent.started(|store| store.persist(0)), Ok(Ok(6)));
+        assert_eq!((floor(lent, 0), safe(lent, [4, 6, 8])), (None, [true, true, false]));
+        // lane 1's floor, at 8
+        assert_eq!(lent.log(1, &SET_1_TO_7), Ok(Log::Logged { count: 1, stamp: 8 }));
+        assert_eq!(safe(lent, [6, 8, 10]), [true, false, false]);
+        assert_eq!((lent.mark(1), lent.drain(1)), (Ok(Mark { stamp: 10, dropped: true }), Ok(())));
+        assert_eq!(safe(lent, [8, 10, 12]), [true, true, false]);
+        // the lock's timestamp is the clock's, no lane has a floor, and the commit with it is still to come
+        assert!(matches!(lent.lock(0, &adds(1)), Ok(Lock::Taken(Progress { left: 1, stamp: 12 }))));
+        assert_eq!((floor(lent, 0), floor(lent, 1), safe(lent, [10, 11, 12])), (None, None, [true, true, false]));
+        assert_eq!((lent.proceed(0).map(|progress| progress.left), lent.proceed(0).map(|progress| progress.left)), (Ok(1), Ok(0)));
+        assert_eq!(safe(lent, [10, 12, 14]), [true, false, false]);
+        assert_eq!(lent.started(|store| store.persist(0)), Ok(Ok(14)));
+        assert_eq!(safe(lent, [12, 14, 16]), [true, true, false]);
+    });
+}
+
+/// What they leave where they are refused: all as it was, but where the clock gives out between Log and Redo.
+#[test]
+fn commit_and_persist_by_one_call() {
+    with_store(SIZES, |lent| {
+        assert_eq!(lent.format(6, &[0, 5]), Ok(()));
+        let commit = |lent: &mut Lent, lane: usize, txn: &[Instruction]| lent.started(|store| store.commit(lane, txn)).unwrap();
+        let persist = |lent: &mut Lent, lane: usize| lent.started(|store| store.persist(lane)).unwrap();
+        assert_eq!(commit(lent, 0, &SET_0_TO_2), Ok(Some(4)));
+        assert_eq!(lent.log(1, &SET_1_TO_7), Ok(Log::Logged { count: 1, stamp: 6 }));
+        let before = all_words(lent);
+        assert_eq!(
+            (commit(lent, 0, &[]), commit(lent, 2, &SET_0_TO_2), commit(lent, 1, &SET_0_TO_2)),
+            (Err(Refusal::Txn), Err(Refusal::Lane), Err(Refusal::Logged))
+        );
+        assert_eq!((persist(lent, 2), persist(lent, 1)), (Err(Refusal::Lane), Err(Refusal::Logged)));
+        assert!(all_words(lent) == before);
+        assert_eq!(commit(lent, 0, &SET_0_TO_5), Ok(Some(10)));
+        // lane 1's floor is 6, and the next timestamps 12 and 14
+        assert_eq!(persist(lent, 0), Ok(12));
+        let before = all_words(lent);
+        assert_eq!((commit(lent, 0, &SET_0_TO_2), persist(lent, 0)), (Err(Refusal::LagPassed), Err(Refusal::LagPassed)));
+        assert!(all_words(lent) == before);
+        assert_eq!(commit(lent, 0, &[SkipIfZero { word: 0, count: 1 }, Copy { to: 0, from: 0 }]), Err(Refusal::LagPassed));
+        assert_eq!((lent.mark(1), persist(lent, 1)), (Ok(Mark { stamp: 14, dropped: true }), Ok(16)));
+        assert_eq!(commit(lent, 1, &[Set { to: 0, value: 0 }]), Ok(Some(20)));
+        assert_eq!((commit(lent, 0, &PASS_OVER), lent.record[0]), (Ok(None), 20));
+        // the last timestamp but one is taken, and the lane holds the transaction
+        lent.record[0] = u64::MAX - 3;
+        lent.record[LAG_WORD] = GREATEST_LAG;
+        assert_eq!(persist(lent, 1), Err(Refusal::LagPassed));
+        assert_eq!(lent.started(|store| (store.mark(1).is_ok(), store.drain(1), store.holds(0))), Ok((true, Ok(()), false)));
+        lent.record[0] = u64::MAX - 3;
+        assert_eq!(commit(lent, 0, &SET_0_TO_2), Err(Refusal::Spent));
+        assert_eq!(lent.started(|store| (store.clock(), store.holds(0), store.words()[0])), Ok((u64::MAX - 1, true, 0)));
+    });
 }

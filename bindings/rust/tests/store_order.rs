@@ -6,8 +6,7 @@ mod common;
 
 use common::states::every_outcome;
 use common::stores::{traced, Image, Store};
-use common::{Call, World, LIBRARY};
-use vandzulge::{images, plain, Sizes};
+use common::{images, plain, Call, Sizes, World, LIBRARY};
 
 /// Do the stores of a call that answered this number keep to the order? `before` is what it was lent.
 fn ordered(before: &World, call: &Call, number: u64, stores: &[Store]) -> Result<(), String> {

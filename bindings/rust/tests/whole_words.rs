@@ -5,10 +5,9 @@
 mod common;
 
 use common::states::every_outcome;
-use common::{Call, Calls, World, LIBRARY};
+use common::{images, plain, Call, Calls, Sizes, World, LIBRARY};
 use std::sync::atomic::{AtomicUsize, Ordering::Relaxed};
 use std::sync::Mutex;
-use vandzulge::{images, plain, Sizes};
 
 /// `memset`, `memcpy` and `memmove` of the whole program, the library included.
 mod own {

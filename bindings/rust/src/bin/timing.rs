@@ -8,12 +8,11 @@
 #[path = "../../tests/common/mod.rs"]
 mod common;
 
-use common::{Call, Calls, World, LIBRARY, PLAIN};
+use common::images::{self, Logs};
+use common::{Call, Calls, Sizes, World, LIBRARY, PLAIN};
 use std::hint::black_box;
 use std::sync::OnceLock;
 use std::time::{Duration, Instant};
-use vandzulge::images::{self, Logs};
-use vandzulge::Sizes;
 
 /// How long a case is measured, in rounds and in time: it ends with whichever comes first, but not before the least number of rounds.
 const LEAST_ROUNDS: usize = 41;

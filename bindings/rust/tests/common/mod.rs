@@ -1,13 +1,29 @@
-//! What the tests share: both implementations as tables of calls, a store's buffers, and a small generator of pseudo-random numbers.
+//! What the tests and timing share: both implementations as tables of calls, a store's sizes and buffers, and a small generator of pseudo-random numbers.
 #![allow(dead_code)]
 
+pub mod images;
+pub mod plain;
 pub mod states;
 #[cfg(all(target_arch = "x86_64", target_os = "linux"))]
 pub mod stores;
 pub mod trailers;
 
 use std::mem::take;
-use vandzulge::{plain, raw, ANSWER_WORDS, GREATEST_LAG, RECORD_WORDS};
+use vandzulge::raw::{self, ANSWER_WORDS};
+use vandzulge::{GREATEST_LAG, RECORD_WORDS};
+
+/// Data words, lanes and log slots a lane, in range or not.
+#[derive(Debug, Clone, Copy, PartialEq, Eq)]
+pub struct Sizes {
+    pub words: usize,
+    pub lanes: usize,
+    pub slots: usize,
+}
+
+/// The words of an image before its trailer, which are all of one of the former length.
+pub fn former_words(sizes: Sizes) -> usize {
+    vandzulge::former_words(sizes.words, sizes.lanes, sizes.slots)
+}
 
 type Step = fn(usize, usize, usize, &mut [u64], &mut [u64], &mut [u8], &mut [u64], &mut [u64], usize) -> u64;
 type TxnStep = fn(usize, usize, usize, &mut [u64], &mut [u64], &mut [u8], &mut [u64], &mut [u64], usize, &[u64]) -> u64;

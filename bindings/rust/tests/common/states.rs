@@ -1,8 +1,9 @@
 //! Pseudo-random states and calls, valid and damaged, and the outcomes that calls on them have.
 
-use super::{trailers, Call, Random, World};
+use super::{images, trailers, Call, Random, Sizes, World};
 use std::collections::BTreeMap;
-use vandzulge::{images, Sizes, GREATEST_LAG, LAG_WORD, LOCK_WORD};
+use vandzulge::raw::{LAG_WORD, LOCK_WORD};
+use vandzulge::GREATEST_LAG;
 
 /// Lag limits out of range.
 pub const BAD_LAGS: [u64; 10] = [0, 1, 3, 41, GREATEST_LAG - 1, GREATEST_LAG + 1, GREATEST_LAG + 2, 1 << 63, u64::MAX - 1, u64::MAX];

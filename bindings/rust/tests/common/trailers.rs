@@ -1,7 +1,6 @@
 //! Last four words for an image of a given length: those that agree with it, and those that do not.
 
-use super::Random;
-use vandzulge::Sizes;
+use super::{Random, Sizes};
 
 fn in_range([words, lanes, slots]: [u64; 3]) -> bool {
     (1..=1024).contains(&words) && (1..=8).contains(&lanes) && (34..=256).contains(&slots)

@@ -1,6 +1,6 @@
 //! Images for recovery, the worst and the best, for tests and timing: words of non-volatile memory with given logs.
 
-use crate::{former_words, Sizes};
+use super::{former_words, Sizes};
 
 /// What the logs of an image hold. All slots have wrap bit 1.
 #[derive(Debug, Clone, Copy, PartialEq, Eq)]
