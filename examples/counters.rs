@@ -1,10 +1,6 @@
-//! Two counters that survive `kill -9`: `counters FILE [COUNT]` adds 1 to both in one transaction,
-//! COUNT times or for ever, and prints `kept N` once a kill can no longer take that back.
-//! In bindings/rust: `cargo run --offline --example counters -- FILE`; kill it, and start it again.
-//!
-//! The file is mapped and stands for the non-volatile memory. A killed process leaves its stores in
-//! the page cache, in order; to survive a power cut it must be persistent memory, as
-//! docs/INTEGRATION.md says. One process at a time may have the file. x86-64 Linux.
+//! Two counters that survive `kill -9`: `counters FILE [COUNT]` adds 1 to both in one transaction, COUNT times or for ever, and prints `kept N` once no kill can take that back.
+//! In bindings/rust: `cargo run --offline --example counters -- FILE`; kill it, and start it again. The file is mapped and stands for the non-volatile memory: of a process that is
+//! killed the kernel keeps all stores, in order. For power cuts it must be persistent memory: docs/INTEGRATION.md. One process at a time may have the file. x86-64 Linux.
 
 use std::error::Error;
 use std::fs::{self, File, OpenOptions};
@@ -19,38 +15,20 @@ const SIZES: Sizes = match Sizes::new(16, 1, 64) {
     Err(_) => panic!("sizes out of range"),
 };
 
-const ADD_TO_BOTH: [Instruction; 2] = [
-    Instruction::Add {
-        to: 0,
-        from: 0,
-        value: 1,
-    },
-    Instruction::Add {
-        to: 1,
-        from: 1,
-        value: 1,
-    },
-];
+const ADD_TO_BOTH: [Instruction; 2] = [Instruction::Add { to: 0, from: 0, value: 1 }, Instruction::Add { to: 1, from: 1, value: 1 }];
 
 fn main() -> ExitCode {
-    let arguments: Vec<String> = std::env::args().collect();
-    let told = match &arguments[..] {
-        [_, path] => Some((path, u64::MAX)),
-        [_, path, count] => count.parse().ok().map(|count| (path, count)),
-        _ => None,
-    };
-    let Some((path, count)) = told else {
+    let mut arguments = std::env::args().skip(1);
+    let told = (arguments.next(), arguments.next().map_or(Ok(u64::MAX), |count| count.parse()), arguments.next());
+    let (Some(path), Ok(count), None) = told else {
         eprintln!("usage: counters FILE [COUNT]");
         return ExitCode::from(2);
     };
-    match run(path, count) {
-        Ok(()) => ExitCode::SUCCESS,
-        Err(error) => {
-            // a refusal says its number itself
-            eprintln!("{error}");
-            ExitCode::FAILURE
-        }
+    if let Err(error) = run(&path, count) {
+        eprintln!("{error}"); // a refusal says its number itself
+        return ExitCode::FAILURE;
     }
+    ExitCode::SUCCESS
 }
 
 fn run(path: &str, count: u64) -> Result<(), Box<dyn Error>> {
@@ -58,37 +36,18 @@ fn run(path: &str, count: u64) -> Result<(), Box<dyn Error>> {
     let found = fs::exists(path)?;
     // Format is made in another file, which gets the name when it is whole
     let new_path = &format!("{path}.new");
-    let file = OpenOptions::new()
-        .read(true)
-        .write(true)
-        .create(!found)
-        .truncate(!found)
-        .open(if found { path } else { new_path })?;
+    let file = OpenOptions::new().read(true).write(true).create(!found).truncate(!found).open(if found { path } else { new_path })?;
     if !found {
         file.set_len(8 * SIZES.image_words() as u64)?;
     }
     let nvm = map(&file)?;
-    let (mut cache, mut flags, mut record) =
-        (vec![0; nvm.len()], vec![0; nvm.len()], [0; RECORD_WORDS]);
-    let mut buffers = Buffers {
-        cache: &mut cache,
-        nvm,
-        flags: &mut flags,
-        record: &mut record,
-    };
+    let (mut cache, mut flags, mut record) = (vec![0; nvm.len()], vec![0; nvm.len()], [0; RECORD_WORDS]);
+    let mut buffers = Buffers { cache: &mut cache, nvm, flags: &mut flags, record: &mut record };
     let mut store = if found {
         let (store, recovery) = Store::recover(&mut buffers, GREATEST_LAG)?;
         match recovery.boundary {
-            Some(boundary) => writeln!(
-                out,
-                "recovered: boundary {boundary}, {} entries undone, {} slots torn",
-                recovery.undone, recovery.torn
-            )?,
-            None => writeln!(
-                out,
-                "recovered: nothing to undo, {} slots torn",
-                recovery.torn
-            )?,
+            Some(boundary) => writeln!(out, "recovered: boundary {boundary}, {} entries undone, {} slots torn", recovery.undone, recovery.torn)?,
+            None => writeln!(out, "recovered: nothing to undo, {} slots torn", recovery.torn)?,
         }
         store
     } else {
@@ -121,14 +80,7 @@ fn run(path: &str, count: u64) -> Result<(), Box<dyn Error>> {
 /// The whole words of a file, shared with it until the process ends.
 fn map(file: &File) -> io::Result<&'static mut [u64]> {
     extern "C" {
-        fn mmap(
-            address: *mut u8,
-            bytes: usize,
-            protection: i32,
-            flags: i32,
-            file: i32,
-            offset: i64,
-        ) -> *mut u8;
+        fn mmap(address: *mut u8, bytes: usize, protection: i32, flags: i32, file: i32, offset: i64) -> *mut u8;
     }
     const READ_WRITE: i32 = 3;
     const SHARED: i32 = 1;
@@ -136,17 +88,9 @@ fn map(file: &File) -> io::Result<&'static mut [u64]> {
     if words == 0 {
         return Ok(&mut []);
     }
-    // SAFETY: the pages are new, aligned, of this length, and never unmapped. That no one else
-    // writes or shortens the file is the user's part.
+    // SAFETY: the pages are new, aligned, of this length, and never unmapped. That no one else writes or shortens the file is the user's part.
     unsafe {
-        let pages = mmap(
-            std::ptr::null_mut(),
-            8 * words,
-            READ_WRITE,
-            SHARED,
-            file.as_raw_fd(),
-            0,
-        );
+        let pages = mmap(std::ptr::null_mut(), 8 * words, READ_WRITE, SHARED, file.as_raw_fd(), 0);
         if pages as isize == -1 {
             return Err(io::Error::last_os_error());
         }

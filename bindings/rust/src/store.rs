@@ -329,7 +329,7 @@ impl Store<'_> {
     }
 
     /// Can no cut lose a commit with this timestamp any more? So it is, and stays, where the timestamp is not above the clock, below the lock's while the lock is held, and below the
-    /// floor of each lane that has one. Every commit up to it is then safe too.
+    /// floor of each lane that has one. Every commit up to it is then safe too. Of commits since the last start only: of one that a recovery has undone it says nothing.
     ///
     /// Proved of stores from Format on; and all stores to `nvm` so far must be persistent by now, which is the platform's to see to.
     pub fn is_safe(&self, stamp: u64) -> bool {

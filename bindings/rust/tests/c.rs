@@ -26,7 +26,7 @@ fn compile_and_run(name: &str) {
             .arg("-I")
             .arg(repository().join("include"))
             .arg(Path::new(env!("CARGO_MANIFEST_DIR")).join("tests/c").join(name).with_extension("c"))
-            .arg(repository().join("target/staticlib/libvandzulge.a"))
+            .arg(Path::new(env!("VANDZULGE_LIB_DIR")).join("libvandzulge.a"))
             .arg("-o")
             .arg(&program),
     );

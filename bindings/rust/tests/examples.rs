@@ -314,7 +314,10 @@ fn the_examples_refuse_damaged_files() {
             let Output { status, stdout, stderr } = run(program, &file, "3");
             let said = String::from_utf8_lossy(&stderr);
             let place = format!("{name}, {} bytes: {status}, {said}", bytes.len());
-            assert!(status.code() == Some(1) && said.starts_with(&format!("refused {number}: ")) && stdout.is_empty(), "{place}");
+            // the C program looks at the length itself, since its buffers have one
+            let told = said.starts_with(&format!("refused {number}: "))
+                || bytes.len() != whole.len() && said.ends_with(": no store of counters, which has 1192 bytes\n");
+            assert!(status.code() == Some(1) && told && stdout.is_empty(), "{place}");
             assert!(fs::read(&file).expect("the damaged file") == bytes, "{place}");
         }
     }
