@@ -43,7 +43,8 @@ fn list_given(
     requires { ⌜ Blanks (imageWords SizesAt.Start (now input)) (now cache) (now nvm) (now flags) ⌝ }
     requires { ⌜ listingRoom ≤ length (now output) ⌝ }
     ensures few { λ r. ⌜ r ≤ listingRoom ⌝ }
-    ensures printed { λ r. ⌜ Put 0 (listed SizesAt.Start (now (input .entry))) (now (output .entry)) r (now (output .exit)) ⌝ }
+    ensures printed { λ r. ⌜ Put 0 (listed SizesAt.Start (now (input .entry))) (now (output .entry)) r
+        (now (output .exit)) ⌝ }
 {
     let sizes = reading::sizes_in(input);
     reading::decode(input, 3, nvm);
@@ -59,7 +60,8 @@ fn list_told(input: &[u8], cache: &[u64], nvm: &mut [u64], flags: &[u8], output:
     requires { ⌜ Blanks (imageWords SizesAt.End (now input)) (now cache) (now nvm) (now flags) ⌝ }
     requires { ⌜ listingRoom ≤ length (now output) ⌝ }
     ensures few { λ r. ⌜ r ≤ listingRoom ⌝ }
-    ensures printed { λ r. ⌜ Put 0 (listed SizesAt.End (now (input .entry))) (now (output .entry)) r (now (output .exit)) ⌝ }
+    ensures printed { λ r. ⌜ Put 0 (listed SizesAt.End (now (input .entry))) (now (output .entry)) r
+        (now (output .exit)) ⌝ }
 {
     reading::decode(input, 0, nvm);
     if recovery::recover_read_refusal(record::MAX_LAG, cache, nvm, flags) != 0 {

@@ -48,7 +48,9 @@ returns-2 c = let q = c .before .before in
     let big : inspectionRoom ≤ length (now (s .args .output)) = omega (arith, l .before .before .if1 .left) in
     let long = put-long (x .1) in
     let few : l .list .result ≤ length (l .list .last .1 .1 .0) = omega (arith, x .0) in
-    let rest = length-take-le (length (l .list .last .1 .1 .0) - l .list .result) (drop (l .list .result) (l .list .last .1 .1 .0)) (omega (arith, length-drop (l .list .result) (l .list .last .1 .1 .0))) in
+    let at = l .list .result in
+    let printed = l .list .last .1 .1 .0 in
+    let rest = length-take-le (length printed - at) (drop at printed) (omega (arith, length-drop at printed)) in
     let w = put-then (x .1) (put-part _ _ _ _ _ _ few refl (search needs) (y .0 .0) (y .1 .0 ∙ sym (printed-all _ _ _ (omega (arith, x .0)))) (y .1 .1)) in
     (put-counts w, (put-shows w ∙ inspected-all _ _ _ big, put-keeps w))
 

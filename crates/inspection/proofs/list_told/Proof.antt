@@ -38,7 +38,8 @@ returns c = let r = c .before in
     let s = d .before .before .before .before .before .before .before in (
       omega arith,
       put-same
-          (listed-stopped _ _ (s .pre .0) _ (told-refusal _ _ _ _ _ (s .pre .0) (s .pre .1 .0) (d .decode .ensures) _ (r .recover-read-refusal .ensures)) (c .if1 .taken))
+          (listed-stopped _ _ (s .pre .0) _
+          (told-refusal _ _ _ _ _ (s .pre .0) (s .pre .1 .0) (d .decode .ensures) _ (r .recover-read-refusal .ensures)) (c .if1 .taken))
           (put-none _ _ (omega arith)),
     )
 
@@ -68,7 +69,8 @@ returns-2 c = let w = c .before .before in
     let s = d .before .before .before .before .before .before .before in (
       w .list-image .ensures .0,
       put-same
-          (told-listed _ _ _ _ _ (s .pre .0) (s .pre .1 .0) (d .decode .ensures) _ _ (z .sizes-at-end .ensures) (r .recover-read-refusal .ensures) (e .if1 .left))
+          (told-listed _ _ _ _ _ (s .pre .0) (s .pre .1 .0) (d .decode .ensures) _ _ (z .sizes-at-end .ensures) (r .recover-read-refusal .ensures)
+          (e .if1 .left))
           (w .list-image .ensures .1),
     )
 

@@ -103,8 +103,8 @@ module _ (p : SizesAt) (input : List ℕ) where
   inspected-all size h = rw (le-leb inspectionRoom size h)
 
 -- the inspection of what was read, in a buffer with room for any inspection
-pub inspected : (p : SizesAt) (input : List ℕ) (size r : ℕ) (output : List ℕ) → length input ≤ longest p + 1 → inspectionRoom ≤ size → r ≡ length (take r output)
-    → take r output ≡ inspectedOf p size input → Inspected p r
+pub inspected : (p : SizesAt) (input : List ℕ) (size r : ℕ) (output : List ℕ) → length input ≤ longest p + 1 → inspectionRoom ≤ size
+    → r ≡ length (take r output) → take r output ≡ inspectedOf p size input → Inspected p r
 unfolding inspectionOf
 inspected p input size r output few big counts shown =
     record { input = input; read = few; printed = counts ∙ ap length (shown ∙ sym (inspected-all p input size big)) }

@@ -18,7 +18,8 @@ use Rattle.log.specs.declared.Latest.{Latest}
 use Rattle.log.specs.declared.Latest.the-variants.{Nothing, Is}
 use Rattle.recovery.specs.Recovery.{undone}
 use Rattle.inspection.specs.Inspection.{baseText, slotText, entryText, timestampText, sequenceText, newestText, undoText}
-use Rattle.inspection.specs.Inspection.{named, lineOf, contentText, slotLine, slotLines, sequenceLine, sequenceLines, newestLine, laneText, lanesText, listing}
+use Rattle.inspection.specs.Inspection.{named, lineOf, contentText, slotLine, slotLines, sequenceLine, sequenceLines, newestLine}
+use Rattle.inspection.specs.Inspection.{laneText, lanesText, listing}
 use Rattle.inspection.specs.Inspection.{contentRoom, slotRoom, lineRoom, laneRoom}
 use Rattle.inspection.specs.inner.InspectionFacts.{closedText, undoLines}
 use Rattle.recovery.specs.inner.UndoWords.{undoWords}
@@ -114,7 +115,8 @@ module _ (z : Sizes) (image : List ℕ) where
   unfolding laneText completeIn
   lane-short L h =
       rw (
-        length-append (slotLines (z .words) (logOf z L image) L (z .slots) ++ sequenceLines sequenceText (completeIn z image L)) (newestLine L (latestIn z image L)),
+        length-append (slotLines (z .words) (logOf z L image) L (z .slots) ++ sequenceLines sequenceText (completeIn z image L))
+            (newestLine L (latestIn z image L)),
         length-append (slotLines (z .words) (logOf z L image) L (z .slots)) (sequenceLines sequenceText (completeIn z image L)),
       )
       (omega (

@@ -28,7 +28,14 @@ put-sequences-requires c κs = let p = c .before .before .before .before in
     let q = p .put-slots .ensures in
     let log = now (g .log-part .result) in (
       g .log-part .ensures .1,
-      omega (arith, s .pre .1 .1, sizes-in _ (s .pre .0 .sizes-ok) .slots-high, q .ends, put-long q, slots-short (a .sizes .words) log (a .lane) (a .sizes .slots)),
+      omega (
+        arith,
+        s .pre .1 .1,
+        sizes-in _ (s .pre .0 .sizes-ok) .slots-high,
+        q .ends,
+        put-long q,
+        slots-short (a .sizes .words) log (a .lane) (a .sizes .slots),
+      ),
     )
 
 latest-in-requires : tie.Need-latest-in-requires

@@ -29,7 +29,14 @@ put-lane-requires c κs = let l = c .before .before .loop in
       s .pre .0,
       (
         search needs,
-        omega (arith, s .pre .1, r .lanes-high, l .inv .1 .ends, put-long (l .inv .1), lanes-short (s .args .sizes) (s .args .nvm .now) (l .lane) (r .slots-high)),
+        omega (
+          arith,
+          s .pre .1,
+          r .lanes-high,
+          l .inv .1 .ends,
+          put-long (l .inv .1),
+          lanes-short (s .args .sizes) (s .args .nvm .now) (l .lane) (r .slots-high),
+        ),
       ),
     )
 

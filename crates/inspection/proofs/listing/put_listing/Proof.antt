@@ -103,7 +103,8 @@ returns c = let w = c .before .before in
         z .lanes-high,
         lanes-short (s .args .sizes) (now (s .args .nvm)) (s .args .sizes .lanes) (z .slots-high),
         v .ends,
-        undo-short (take (4 * u .undo-order .result) (u .undo-order .last .1 .1 .0)) (u .undo-order .result) (omega (arith, length-take-le (4 * u .undo-order .result) (u .undo-order .last .1 .1 .0) e)),
+        undo-short (take (4 * u .undo-order .result) (u .undo-order .last .1 .1 .0)) (u .undo-order .result)
+            (omega (arith, length-take-le (4 * u .undo-order .result) (u .undo-order .last .1 .1 .0) e)),
       ),
       put-same (listing-parts _ _ _ _ _ refl e (u .undo-order .ensures .1)) (put-then (put-then x y) v),
     )

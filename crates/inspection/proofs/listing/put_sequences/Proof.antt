@@ -16,7 +16,8 @@ use Rattle.inspection.proofs.listing.put_sequences.Statement.{statement
 use Rattle.inspection.proofs.listing.put_sequences.Tie as tie
 
 abbrev Inv-loop : tie.InvT-loop
-Inv-loop output₀ at sizes log lane base next₀ j₀ j-end output next j = (j ≤ j-end) × Put at (sequenceLines sequenceText (completeBelow (sizes .words) (sizes .slots) base log lane j)) output₀ next output
+Inv-loop output₀ at sizes log lane base next₀ j₀ j-end output next j = (j ≤ j-end)
+    × Put at (sequenceLines sequenceText (completeBelow (sizes .words) (sizes .slots) base log lane j)) output₀ next output
 
 abbrev μ-loop : tie.MeasureT-loop
 μ-loop output₀ at sizes log lane base next₀ j₀ j-end output next j = j-end - j
@@ -45,7 +46,8 @@ loop-again c = let p = c .before .before in
     let a = c .before .before .before .before .before .before .before .before .before .args in (
       search needs,
       put-same
-          (ap (λ x. sequenceLines sequenceText (completeBelow (a .sizes .words) (a .sizes .slots) (a .base) (a .log .now) (a .lane) (l .j)) ++ closedText (a .lane) x)
+          (ap
+          (λ x. sequenceLines sequenceText (completeBelow (a .sizes .words) (a .sizes .slots) (a .base) (a .log .now) (a .lane) (l .j)) ++ closedText (a .lane) x)
           (p .before .before .closed-at .ensures)
           ∙ below-more _ _ _ _ _ _)
           (put-then (l .inv .1) (p .put-closed .ensures)),

@@ -41,7 +41,9 @@ loop-again c = let p = c .before .before in
     let l = c .before .before .before .before .before .before .loop in
     let a = c .before .before .before .before .before .before .before .before .before .args in (
       search needs,
-      put-same (ap (λ x. slotLines (a .sizes .words) (a .log .now) (a .lane) (l .j) ++ slotLine (a .lane) (l .j) x) (p .before .slot-at .ensures) ∙ slots-more _ _ _ _)
+      put-same
+          (ap (λ x. slotLines (a .sizes .words) (a .log .now) (a .lane) (l .j) ++ slotLine (a .lane) (l .j) x) (p .before .slot-at .ensures)
+          ∙ slots-more _ _ _ _)
           (put-then (l .inv .1) (p .put-slot .ensures)),
     )
 
