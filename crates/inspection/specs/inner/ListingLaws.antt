@@ -147,10 +147,6 @@ module _ (z : Sizes) (image : List ℕ) where
   lanes-short (suc k) h = rw (length-append (lanesText z image k) (laneText z image k)) (omega (arith, lanes-short k h, lane-short k h))
 
 -- ---- what recovery undoes
-take-none : (l : List ℕ) → take 0 l ≡ []
-take-none [] = refl
-take-none (x ∷ l) = refl
-
 module _ (words : List ℕ) where
   -- a group of four words, as it is lent
   lent : (n : ℕ) → take (4 * n + 4 - 4 * n) (drop (4 * n) words) ≡ take 4 (drop (4 * n) words)
@@ -182,8 +178,7 @@ module _ (words : List ℕ) where
 undo-first : (a b c d : ℕ) (words : List ℕ) (n : ℕ)
     → undoLines (a ∷ b ∷ c ∷ d ∷ words) (suc n) ≡ lineOf undoText (a ∷ b ∷ c ∷ d ∷ []) ++ undoLines words n
 unfolding undoLines
-undo-first a b c d words zero =
-    ap (λ l. lineOf undoText (a ∷ b ∷ c ∷ d ∷ l)) (take-none words) ∙ sym (append-nil (lineOf undoText (a ∷ b ∷ c ∷ d ∷ [])))
+undo-first a b c d words zero = sym (append-nil (lineOf undoText (a ∷ b ∷ c ∷ d ∷ [])))
 undo-first a b c d words (suc n) =
     ap (λ l. undoLines (a ∷ b ∷ c ∷ d ∷ words) (suc n) ++ lineOf undoText (take 4 l))
     (ap (λ k. drop k (a ∷ b ∷ c ∷ d ∷ words)) (let e : 4 * suc n ≡ suc (suc (suc (suc (4 * n)))) = omega arith in e))
