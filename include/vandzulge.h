@@ -179,7 +179,7 @@ enum vandzulge_refusal {
     VANDZULGE_REFUSED_TXN = 5,         /* transaction not as txn is to be, or empty and not for Log. The caller's fault; more than 16 instructions are for Lock */
     VANDZULGE_REFUSED_LOGGED = 6,      /* Log or Lock on a lane that holds a transaction. Redo or Validate that one, or drop it by Mark; or take another lane */
     VANDZULGE_REFUSED_IDLE = 7,        /* Redo or Validate on an idle lane: Log first. Continue while the lock is free: the long transaction is committed, or none was begun */
-    VANDZULGE_REFUSED_SPENT = 8,       /* the clock is spent: of 2^63 timestamps none is left. Format a new store with the data words as start words; they begin again */
+    VANDZULGE_REFUSED_SPENT = 8,       /* the clock is spent: of 2^63 - 1 timestamps none is left. Format a new store with the data words as start words; they begin again */
     VANDZULGE_REFUSED_OVERWRITE = 9,   /* the append would overwrite a sequence that recovery may need. Mark and Drain the lane with the least floor, as on 15 */
     VANDZULGE_REFUSED_ODD_BASE = 10,   /* recovery finds an odd base word. nvm is damaged, no image of this store, or of other sizes than those given. Nothing was stored to it */
     VANDZULGE_REFUSED_LOCKED = 11,     /* Log, Redo, Validate, Mark or Lock while the lock is held, or Continue on another lane than the lock's. Continue till it is free */
@@ -265,7 +265,8 @@ uint64_t vandzulge_continue(size_t words, size_t lanes, size_t slots,
 
 /* Recovery with sizes given, after a power cut, of an image of the former length: from nvm alone, with at most `limit` stores to it, the words at one boundary; the record's old
  * words are not read, and a finished one has the lag limit given.
- * Answer: 0, 0, 0, 0 where stores remain (cut; the record is untouched and lost: recover again, or format); 1, 0, 0, torn where no lane gave a boundary, and this call undid
+ * Answer: 0, 0, 0, 0 where stores remain (cut; the record is untouched and lost: recover again, or format; each recovery begins anew and counts from its first
+ * store, so that the same limit leads no further); 1, 0, 0, torn where no lane gave a boundary, and this call undid
  * nothing (one that was cut before it may have); 2, boundary, undone, torn. undone: how many log entries were undone. torn: how many of the TN log slots were torn in nvm as this
  * call found it: they held something, but no whole entry or timestamp. A cut leaves a torn slot where one of its two words had not reached the memory, and so does a recovery cut
  * short between two words of a slot that it clears; by itself it is no sign of damage. A log word that is 0 already counts as stored. Refusals 1, 16, 10. One pass over the logs, one
@@ -317,7 +318,7 @@ struct vz_progress {
 };
 
 struct vz_recovered {
-    bool finished;     /* false: the limit cut it, stores remain; recover again. The rest is then false and 0 */
+    bool finished;     /* false: the limit cut it, stores remain; recover again, with a greater limit or none. The rest is then false and 0 */
     bool has_boundary; /* false: this call undid nothing (one that was cut before it may have) */
     uint64_t boundary; /* commits with this timestamp or a greater one are undone; 0 where there is none */
     uint64_t undone;   /* log entries undone */
