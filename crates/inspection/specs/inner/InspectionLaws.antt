@@ -92,6 +92,22 @@ module _ (input cache nvm flags image : List ℕ) where
         ap (λ z. listing z image) (s ∙ ap sizesAtEnd (end-read input cache nvm flags image t b m)) ∙ ap (listing (sizesIn End input)) told-image
         ∙ listed-all End input t (sym (told-refusal number e) ∙ h)
 
+-- ---- the rules for programs `inspect` and `inspect_read`
+-- bad input gets the lines of `recover` and `recover_read`, and nothing else, whether it is refused by itself or by recovery; all other input the listing first
+module _ (p : SizesAt) (input : List ℕ) where
+  pub refused-alike : inputRefusal p input ≢ 0 → inspectionOf p input ≡ reportOf p input
+  unfolding inspectionOf
+  refused-alike h = ap (λ l. l ++ reportOf p input) (sym (listed-refused p input (inputRefusal p input) refl h))
+
+  module _ (t : inputRefusal p input ≡ 0) where
+    pub stopped-alike : recoveryRefusal p input ≢ 0 → inspectionOf p input ≡ reportOf p input
+    unfolding inspectionOf
+    stopped-alike h = ap (λ l. l ++ reportOf p input) (sym (listed-stopped p input t (recoveryRefusal p input) refl h))
+
+    pub taken-first : recoveryRefusal p input ≡ 0 → inspectionOf p input ≡ listing (sizesIn p input) (imageIn p input) ++ reportOf p input
+    unfolding inspectionOf
+    taken-first e = ap (λ l. l ++ reportOf p input) (sym (listed-all p input t e))
+
 -- ---- the report after the listing
 module _ (p : SizesAt) (input : List ℕ) where
   pub inspected-none : (size : ℕ) → size < inspectionRoom → [] ≡ inspectedOf p size input
