@@ -71,7 +71,8 @@
 //!
 //! # The platform
 //! The library calls nothing but `memcpy` and `memset`, to which only Format hands a part of `nvm`; every other store to `nvm` is one aligned 64-bit word. What is left to the
-//! platform: such a store is whole, also where power fails, and the stores reach the memory in the code's order. The library has no fences.
+//! platform: such a store is whole, also where power fails, and the stores reach the memory in the code's order. The library has no fences. `docs/INTEGRATION.md` says what a board
+//! needs, and what to do where the memory does not keep that order.
 #![no_std]
 
 mod instruction;
