@@ -7,10 +7,12 @@
 #define _XOPEN_SOURCE 700
 #include "vandzulge.h"
 
+#include <errno.h>
 #include <fcntl.h>
 #include <inttypes.h>
 #include <stdio.h>
 #include <stdlib.h>
+#include <string.h>
 #include <sys/mman.h>
 #include <sys/stat.h>
 #include <unistd.h>
@@ -25,9 +27,9 @@ static void check(enum vandzulge_refusal refusal)
     }
 }
 
-static void fail(const char *what)
+static void stop(const char *name, const char *why)
 {
-    perror(what);
+    fprintf(stderr, "%s: %s\n", name, why);
     exit(1);
 }
 
@@ -38,14 +40,12 @@ static uint64_t *map(const char *name, bool is_new)
     void *memory;
     const int file = open(name, is_new ? O_RDWR | O_CREAT : O_RDWR, 0666);
     if (file < 0 || lockf(file, F_TLOCK, 0) != 0 || (is_new && ftruncate(file, BYTES) != 0) || fstat(file, &status) != 0)
-        fail(name);
-    if (status.st_size != BYTES) {
-        fprintf(stderr, "%s: no store of counters, which has %d bytes\n", name, BYTES);
-        exit(1);
-    }
+        stop(name, strerror(errno));
+    if (status.st_size != BYTES)
+        stop(name, "no store of counters");
     memory = mmap(NULL, BYTES, PROT_READ | PROT_WRITE, MAP_SHARED, file, 0);
     if (memory == MAP_FAILED)
-        fail(name);
+        stop(name, strerror(errno));
     return memory;
 }
 
@@ -66,23 +66,25 @@ int main(int argc, char **argv)
     setvbuf(stdout, NULL, _IOLBF, BUFSIZ); /* each line goes out before the next transaction begins */
     if (access(argv[1], F_OK) != 0) {      /* a new store; a Format that is cut short leaves none, so the file has its name only when Format is done */
         store.nvm = map(fresh, true);
+        if (access(argv[1], F_OK) == 0) /* looked at again with the lock in hand */
+            stop(argv[1], "another process has just made it");
         check(vz_format(&store, VANDZULGE_LAG_MAX, start));
         if (rename(fresh, argv[1]) != 0)
-            fail(argv[1]);
+            stop(argv[1], strerror(errno));
         puts("formatted");
     } else { /* cache, flags and record of the last process are gone: recovery makes them anew from nvm, and undoes what is not safe */
         store.nvm = map(argv[1], false);
         check(vz_recover_read(&store, VANDZULGE_LAG_MAX, VANDZULGE_NO_LIMIT, &found));
+        if (store.words != WORDS || store.lanes != LANES || store.slots != SLOTS) /* what the trailer says */
+            stop(argv[1], "no store of counters");
         if (found.has_boundary)
             printf("recovered: boundary %" PRIu64 ", %" PRIu64 " entries undone, %" PRIu64 " slots torn\n", found.boundary, found.undone, found.torn);
         else
             printf("recovered: nothing to undo, %" PRIu64 " slots torn\n", found.torn);
     }
     printf("counters %" PRIu64 " %" PRIu64 "\n", vz_word(&store, 0), vz_word(&store, 1));
-    if (vz_word(&store, 0) != vz_word(&store, 1)) {
-        fputs("the two counters differ\n", stderr);
-        return 1;
-    }
+    if (vz_word(&store, 0) != vz_word(&store, 1))
+        stop(argv[1], "the two counters differ");
     for (; argc == 2 || left > 0; left--) {
         check(vz_log(&store, 0, add, VZ_LENGTH(add), NULL));
         check(vz_redo(&store, 0, &commit)); /* with one lane never stale: there was no commit since the Log */

@@ -45,6 +45,9 @@ fn run(path: &str, count: u64) -> Result<(), Box<dyn Error>> {
     let mut buffers = Buffers { cache: &mut cache, nvm, flags: &mut flags, record: &mut record };
     let mut store = if found {
         let (store, recovery) = Store::recover(&mut buffers, GREATEST_LAG)?;
+        if store.sizes() != SIZES {
+            return Err("no store of counters".into());
+        }
         match recovery.boundary {
             Some(boundary) => writeln!(out, "recovered: boundary {boundary}, {} entries undone, {} slots torn", recovery.undone, recovery.torn)?,
             None => writeln!(out, "recovered: nothing to undo, {} slots torn", recovery.torn)?,
@@ -56,9 +59,7 @@ fn run(path: &str, count: u64) -> Result<(), Box<dyn Error>> {
         writeln!(out, "formatted")?;
         store
     };
-    let &[first, second, ..] = store.words() else {
-        return Err("the store has no two words".into());
-    };
+    let (first, second) = (store.words()[0], store.words()[1]);
     writeln!(out, "counters {first} {second}")?;
     out.flush()?;
     if first != second {
@@ -82,15 +83,13 @@ fn map(file: &File) -> io::Result<&'static mut [u64]> {
     extern "C" {
         fn mmap(address: *mut u8, bytes: usize, protection: i32, flags: i32, file: i32, offset: i64) -> *mut u8;
     }
-    const READ_WRITE: i32 = 3;
-    const SHARED: i32 = 1;
     let words = file.metadata()?.len() as usize / 8;
     if words == 0 {
         return Ok(&mut []);
     }
     // SAFETY: the pages are new, aligned, of this length, and never unmapped. That no one else writes or shortens the file is the user's part.
     unsafe {
-        let pages = mmap(std::ptr::null_mut(), 8 * words, READ_WRITE, SHARED, file.as_raw_fd(), 0);
+        let pages = mmap(std::ptr::null_mut(), 8 * words, 3 /* read, write */, 1 /* shared */, file.as_raw_fd(), 0);
         if pages as isize == -1 {
             return Err(io::Error::last_os_error());
         }

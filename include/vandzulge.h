@@ -38,7 +38,7 @@
  * ==== On a board
  * cache, flags and record are plain RAM, and lost with power. nvm is mapped so that an aligned 64-bit store to it is whole, also where power fails (the memory has the old word
  * or the new one), and such stores reach the memory in the code's order: an uncached, device or strongly ordered mapping. Every store to nvm but Format's is one aligned 64-bit
- * store; Format hands parts of nvm to memcpy and memset. The order: a step stores the words that its lane has flushed before it changes the cache; recovery stores the entries
+ * store; Format hands parts of nvm to memcpy and memset. The order: a step stores the words whose flag bit of its lane is set, before it changes the cache; recovery stores the entries
  * undone, then the base word, then the log words in rising order, each only where it is not 0 yet, and then changes the cache. It stores to no trailer.
  * The library has no fences and flushes no processor cache. Where a processor cache or a buffer stands in between, the caller flushes and fences:
  *   - All stores of a call are to be persistent before the next call begins, and before a commit counts as safe. Within one step, drain or write-back any order will do: it
@@ -49,7 +49,7 @@
  *     earlier stores anew, so that a word which is undone twice has for a moment the first of these two values again, and the base word, behind which nothing is undone any more,
  *     may become persistent in that moment.
  * Format is not safe against power cuts: have a sign of your own that one is complete, as the example has in the name of its file. A trailer is no sign.
- * The library uses less than 32 KB of stack. docs/PERFORMANCE.md has the time that each call takes.
+ * Stack: 27 KB for recovery and Lock, 19 for Continue, 13 to 16 for the other steps and Drain, 7 for Format. docs/PERFORMANCE.md has the time that each call takes.
  *
  * ==== What the caller owes
  * At every power-up recovery comes first, until it has finished, before any other call but Format. Every call gets the sizes and buffers as the last one left them: nobody else
@@ -178,7 +178,8 @@ enum vandzulge_refusal {
     VANDZULGE_REFUSED_WORD = 4,        /* word not in the image. The caller's fault */
     VANDZULGE_REFUSED_TXN = 5,         /* transaction not as txn is to be, or empty and not for Log. The caller's fault; more than 16 instructions are for Lock */
     VANDZULGE_REFUSED_LOGGED = 6,      /* Log or Lock on a lane that holds a transaction. Redo or Validate that one, or drop it by Mark; or take another lane */
-    VANDZULGE_REFUSED_IDLE = 7,        /* Redo or Validate on an idle lane: Log first. Continue while the lock is free: the long transaction is committed, or none was begun */
+    VANDZULGE_REFUSED_IDLE = 7,        /* Redo or Validate on an idle lane: nothing was logged (a Log of count 0 writes nothing), or it is committed, changed or dropped.
+                                        * Continue while the lock is free: the long transaction is committed, or none was begun */
     VANDZULGE_REFUSED_SPENT = 8,       /* the clock is spent: of 2^63 - 1 timestamps none is left. Format a new store with the data words as start words; they begin again */
     VANDZULGE_REFUSED_OVERWRITE = 9,   /* the append would overwrite a sequence that recovery may need. Mark and Drain the lane with the least floor, as on 15 */
     VANDZULGE_REFUSED_ODD_BASE = 10,   /* recovery finds an odd base word. nvm is damaged, no image of this store, or of other sizes than those given. Nothing was stored to it */
@@ -304,7 +305,7 @@ struct vz_logged {
 
 struct vz_commit {
     bool committed; /* false: Redo is stale, and the lane keeps the transaction; or Validate finds it changed, and the lane is idle */
-    uint64_t stamp; /* of the commit, for vz_is_safe; 0 where there is none */
+    uint64_t stamp; /* of the commit, for vz_is_safe; 0, which is not safe, where there is none */
 };
 
 struct vz_marked {
@@ -342,7 +343,7 @@ static inline const char *vz_refusal_text(uint64_t number)
     case VANDZULGE_REFUSED_ODD_BASE: return "an odd base word: damaged, or no image";
     case VANDZULGE_REFUSED_LOCKED: return "a long transaction holds the lock";
     case VANDZULGE_REFUSED_TOO_LONG: return "the long transaction does not fit the lane's log";
-    case VANDZULGE_REFUSED_TRAILER: return "no trailer that agrees with the length: not formatted, damaged, or of the former length";
+    case VANDZULGE_REFUSED_TRAILER: return "no trailer that agrees with the length given: another length, not formatted, damaged, or of the former length";
     case VANDZULGE_REFUSED_LAG_PASSED: return "the lag limit is reached: mark and drain the lane with the least floor";
     case VANDZULGE_REFUSED_LAG_RANGE: return "a lag limit out of range, or odd";
     default: return "unknown number";
@@ -376,7 +377,7 @@ static inline enum vandzulge_refusal vz_drain(struct vz_store *store, size_t lan
         store->cache, store->length, store->nvm, store->length, store->flags, store->length, store->record, VANDZULGE_RECORD_WORDS, lane);
 }
 
-/* As vandzulge_log; txn has txn_len words, four an instruction. With none it settles, as vz_settle does. */
+/* As vandzulge_log; txn_len counts words, four an instruction, not instructions: VZ_LENGTH(txn) of an array. With none it settles, as vz_settle does. */
 static inline enum vandzulge_refusal vz_log(struct vz_store *store, size_t lane, const uint64_t *txn, size_t txn_len, struct vz_logged *logged)
 {
     uint64_t answer[VANDZULGE_ANSWER_WORDS];
@@ -415,7 +416,7 @@ static inline enum vandzulge_refusal vz_redo(struct vz_store *store, size_t lane
     return refusal;
 }
 
-/* As vandzulge_validate, with the transaction that was logged. Look at commit->committed. */
+/* As vandzulge_validate, with the transaction that was logged; txn_len counts words. Look at commit->committed. */
 static inline enum vandzulge_refusal vz_validate(struct vz_store *store, size_t lane, const uint64_t *txn, size_t txn_len, struct vz_commit *commit)
 {
     uint64_t answer[VANDZULGE_ANSWER_WORDS];
@@ -443,7 +444,7 @@ static inline enum vandzulge_refusal vz_mark(struct vz_store *store, size_t lane
     return refusal;
 }
 
-/* As vandzulge_lock. Where progress->left is not 0, call vz_continue on this lane until it is. */
+/* As vandzulge_lock; txn_len counts words. Where progress->left is not 0, call vz_continue on this lane until it is. */
 static inline enum vandzulge_refusal vz_lock(struct vz_store *store, size_t lane, const uint64_t *txn, size_t txn_len, struct vz_progress *progress)
 {
     uint64_t answer[VANDZULGE_ANSWER_WORDS];
@@ -493,7 +494,8 @@ static inline enum vandzulge_refusal vz_recover(struct vz_store *store, uint64_t
     return refusal;
 }
 
-/* As vandzulge_recover_read, of an image with a trailer. Where it was taken, the handle's sizes are those of the trailer, whatever they were before. */
+/* As vandzulge_recover_read, of an image with a trailer. Where it was taken, the handle's sizes are those of the trailer, whatever they were before: compare
+ * them with those that you want, since a store of other sizes can have the same length. */
 static inline enum vandzulge_refusal vz_recover_read(struct vz_store *store, uint64_t max_lag, size_t limit, struct vz_recovered *recovered)
 {
     uint64_t answer[VANDZULGE_ANSWER_WORDS];
@@ -566,15 +568,31 @@ static inline bool vz_floor(const struct vz_store *store, size_t lane, uint64_t 
     return true;
 }
 
+/* The lane with the least floor, of equal ones the lower, which holds the others back; false where no lane has a floor. On refusals 9 and 15 this is the lane to Mark and Drain,
+ * after a Drain of the lane of that call, so that the floors are those that count; Mark drops a transaction that it holds. */
+static inline bool vz_least_floor(const struct vz_store *store, size_t *lane)
+{
+    uint64_t least = 0, floor;
+    bool found = false;
+    size_t i;
+    for (i = 0; i < VANDZULGE_LANES_MAX; i++)
+        if (vz_floor(store, i, &floor) && (!found || floor < least)) {
+            found = true;
+            least = floor;
+            *lane = i;
+        }
+    return found;
+}
+
 /* Can the commit with this timestamp, and every earlier one, no longer be lost? To be asked of commits made since the last start (Format, or a finished recovery): of those before
  * it recovery has decided. It is so, and stays so until the next Format, if the timestamp is not above the clock, while the lock is held below the lock's, and below the floor of
- * each lane that has one. For this all stores to nvm so far must be persistent. Proved of stores from Format on (docs/THEOREM.md, "When a commit can no longer be lost"), not of
+ * each lane that has one. 0, the timestamp of no commit, is not safe. For this all stores to nvm so far must be persistent. Proved of stores from Format on (docs/THEOREM.md, "When a commit can no longer be lost"), not of
  * those that began as an image of the former length. */
 static inline bool vz_is_safe(const struct vz_store *store, uint64_t stamp)
 {
     uint64_t bound;
     size_t lane;
-    if (stamp > vz_clock(store) || (vz_locked(store, NULL, &bound) && stamp >= bound))
+    if (stamp == 0 || stamp > vz_clock(store) || (vz_locked(store, NULL, &bound) && stamp >= bound))
         return false;
     for (lane = 0; lane < VANDZULGE_LANES_MAX; lane++)
         if (vz_floor(store, lane, &bound) && stamp >= bound)

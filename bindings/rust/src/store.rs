@@ -76,7 +76,7 @@ pub struct Recovery {
     pub torn: u64,
 }
 
-/// A store that has started, by [`Store::format`] or a recovery that finished. After a refusal all is as it was before the call.
+/// A store that has started, by [`Store::format`] or a recovery that finished, or was taken up by [`Store::attach`]. After a refusal all is as it was before the call.
 ///
 /// ```
 /// # use vandzulge::{Buffers, Instruction, Log, Redo, Refusal, Sizes, Store, Validate, GREATEST_LAG, RECORD_WORDS};
@@ -136,7 +136,8 @@ impl<'a> Store<'a> {
         Ok((Store::lent(buffers, sizes), Recovery::of(answer)))
     }
 
-    /// The same with at most so many stores to the non-volatile memory, as if power failed after them. None where stores remain: then only a recovery or a Format may follow.
+    /// The same with at most so many stores to the non-volatile memory, as if power failed after them. None where stores remain: then the record is zeros, and only a recovery or a
+    /// Format may follow.
     /// Each recovery begins anew, and what is stored already counts: with the same limit it gets no further.
     ///
     /// ```
@@ -174,7 +175,8 @@ impl<'a> Store<'a> {
     }
 
     /// Takes up a store that was dropped, with its [`Store::sizes`] and the buffers as it left them: for those who keep the buffers and not the store. No start, and not for after a
-    /// power cut, which loses the record. Lengths and record are checked, and refused with [`Refusal::Size`] and [`Refusal::Record`]; a record of zeros is none.
+    /// power cut, which loses the record, nor after a recovery that was cut, which leaves a record of zeros. Lengths and record are checked, and refused with [`Refusal::Size`] and
+    /// [`Refusal::Record`]; a record of zeros is none. That nothing else was done to the buffers is the caller's word: no check could tell.
     pub fn attach(buffers: &'a mut Buffers<'_>, sizes: Sizes) -> Result<Store<'a>, Refusal> {
         let mut store = Store::lent(buffers, sizes);
         // a drain of a lane that no store has: the lane is looked at last, and nothing is touched
@@ -220,7 +222,8 @@ impl Store<'_> {
 
     /// Runs a transaction of 1 to 16 instructions without leaving a change, and logs its writes; the empty one settles the lane, as [`Store::settle`] does.
     ///
-    /// Where it is refused with [`Refusal::LagPassed`], drain this lane, mark and drain the lane with the least floor, and try again; each time a floor ends.
+    /// Where it is refused with [`Refusal::LagPassed`] or [`Refusal::Overwrite`], drain this lane, mark and drain that of [`Store::least_floor`], and try again; each time a floor ends.
+    /// The mark drops a transaction that that lane holds.
     pub fn log(&mut self, lane: usize, txn: &[Instruction]) -> Result<Log, Refusal> {
         // of a longer one so much that the library refuses it
         let txn = Encoded::<{ MAX_INSTRUCTIONS + 1 }>::new(txn);
@@ -246,7 +249,7 @@ impl Store<'_> {
         })
     }
 
-    /// Commits the given transaction with its present values, if its writes are those that were logged.
+    /// Commits the given transaction with its present values, if it would write the words that were logged, over the values that were logged; what it writes may be another value by now.
     pub fn validate(&mut self, lane: usize, txn: &[Instruction]) -> Result<Validate, Refusal> {
         let txn = Encoded::<{ MAX_INSTRUCTIONS + 1 }>::new(txn);
         Ok(match self.txn_step(raw::validate, lane, txn.words())? {
@@ -323,18 +326,25 @@ impl Store<'_> {
         (words[6] != 0).then_some(words[7])
     }
 
+    /// The lane with the least floor, of equal ones the lower, which holds the others back, and that floor; none where no lane has one. Where a call is refused with
+    /// [`Refusal::Overwrite`] or [`Refusal::LagPassed`], drain its lane, then mark and drain this one, and try again: each time a floor ends. Mark drops a transaction that it holds.
+    pub fn least_floor(&self) -> Option<(usize, u64)> {
+        (0..self.sizes.lanes()).filter_map(|lane| Some((lane, self.floor(lane)?))).min_by_key(|&(lane, floor)| (floor, lane))
+    }
+
     /// Whether the lane holds a logged transaction.
     pub fn holds(&self, lane: usize) -> bool {
         self.lane_words(lane).is_some_and(|words| words[0] != 0)
     }
 
     /// Can no cut lose a commit with this timestamp any more? So it is, and stays, where the timestamp is not above the clock, below the lock's while the lock is held, and below the
-    /// floor of each lane that has one. Every commit up to it is then safe too. Of commits since the last start only: of one that a recovery has undone it says nothing.
+    /// floor of each lane that has one. Every commit up to it is then safe too. 0, the timestamp of no commit, is not. Of commits since the last start only: of one that a recovery has
+    /// undone it says nothing.
     ///
     /// Proved of stores from Format on; and all stores to `nvm` so far must be persistent by now, which is the platform's to see to.
     pub fn is_safe(&self, stamp: u64) -> bool {
         let above = |floor: Option<u64>| floor.is_none_or(|floor| floor > stamp);
-        stamp <= self.clock() && above(self.locked().map(|lock| lock.stamp)) && (0..self.sizes.lanes()).all(|lane| above(self.floor(lane)))
+        (1..=self.clock()).contains(&stamp) && above(self.locked().map(|lock| lock.stamp)) && (0..self.sizes.lanes()).all(|lane| above(self.floor(lane)))
     }
 
     fn lane_words(&self, lane: usize) -> Option<&[u64]> {
@@ -360,6 +370,7 @@ fn recover_stores(buffers: &mut Buffers<'_>, max_lag: u64, limit: usize) -> Resu
     let Buffers { cache, nvm, flags, record } = buffers;
     let mut answer = [0; ANSWER_WORDS];
     Refusal::taken(raw::recover_read(max_lag, cache, nvm, flags, *record, &mut answer, limit))?;
+    forget(answer, record);
     // the library has found a trailer and its sizes in range, and recovery does not store to it
     let &[words, lanes, slots, _] = nvm.last_chunk::<TRAILER_WORDS>().ok_or(Refusal::Trailer)?;
     Ok((Sizes::new(words as usize, lanes as usize, slots as usize)?, answer))
@@ -369,5 +380,13 @@ fn recover_former_stores(buffers: &mut Buffers<'_>, sizes: Sizes, max_lag: u64, 
     let Buffers { cache, nvm, flags, record } = buffers;
     let mut answer = [0; ANSWER_WORDS];
     Refusal::taken(raw::recover(sizes.words(), sizes.lanes(), sizes.slots(), max_lag, cache, nvm, flags, *record, &mut answer, limit))?;
+    forget(answer, record);
     Ok(answer)
+}
+
+/// A recovery that is cut leaves the words of the record as they were, though they are none any more: with zeros there no one takes up the store that they were of.
+fn forget(answer: Answer, record: &mut [u64; RECORD_WORDS]) {
+    if answer[0] == 0 {
+        record.fill(0);
+    }
 }

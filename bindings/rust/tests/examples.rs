@@ -315,8 +315,7 @@ fn the_examples_refuse_damaged_files() {
             let said = String::from_utf8_lossy(&stderr);
             let place = format!("{name}, {} bytes: {status}, {said}", bytes.len());
             // the C program looks at the length itself, since its buffers have one
-            let told = said.starts_with(&format!("refused {number}: "))
-                || bytes.len() != whole.len() && said.ends_with(": no store of counters, which has 1192 bytes\n");
+            let told = said.starts_with(&format!("refused {number}: ")) || bytes.len() != whole.len() && said.ends_with(": no store of counters\n");
             assert!(status.code() == Some(1) && told && stdout.is_empty(), "{place}");
             assert!(fs::read(&file).expect("the damaged file") == bytes, "{place}");
         }

@@ -731,9 +731,9 @@ fn each_start_is_given_a_lag_limit() {
         commit(store, 0, &SET_0_TO_2, 4);
         assert_eq!(lag_limit(store), 6);
         assert_eq!(store.recover(3), Err(Refusal::LagRange));
-        // where stores remain, the record is as it was
+        // where stores remain there is no record
         assert_eq!(store.recover_within(8, 0), Ok(None));
-        assert_eq!(lag_limit(store), 6);
+        assert!(store.record.iter().all(|&word| word == 0));
         assert_eq!(store.recover(8), finished(Some(2), 1));
         assert_eq!(lag_limit(store), 8);
         store.record[LAG_WORD] = 7;
@@ -1256,7 +1256,43 @@ fn a_store_is_taken_up_again() {
     });
 }
 
+/// The record's words are there still where a recovery is cut, and would pass for a store's.
+#[test]
+fn a_store_is_not_taken_up_after_a_recovery_that_was_cut() {
+    with_store(SIZES, |lent| {
+        assert_eq!(lent.format(GREATEST_LAG, &[0, 0]), Ok(()));
+        commit(lent, 0, &SET_0_TO_2, 4);
+        assert_eq!(lent.drain(0), Ok(()));
+        assert_eq!(lent.recover_within(GREATEST_LAG, 1), Ok(None));
+        assert_eq!(Store::attach(&mut lent.buffers(), SIZES).expect_err("no record"), Refusal::Record);
+        assert_eq!(lent.mark(0), Err(Refusal::Record));
+        assert_eq!(lent.recover(GREATEST_LAG), finished(Some(4), 1));
+        assert_eq!(lent.mark(0).map(|mark| mark.dropped), Ok(false));
+    });
+}
+
 // ---- What a store tells, and when a commit is safe ----
+
+/// Of equal floors, which no run of calls leaves, the lower lane's.
+#[test]
+fn the_lane_that_holds_the_others_back() {
+    with_store(SIZES, |lent| {
+        let least = |lent: &mut Lent| lent.started(|store| store.least_floor()).unwrap();
+        assert_eq!(lent.format(GREATEST_LAG, &[0, 0]), Ok(()));
+        assert_eq!(least(lent), None);
+        assert_eq!(lent.log(1, &SET_0_TO_2), Ok(Log::Logged { count: 1, stamp: 2 }));
+        assert_eq!(least(lent), Some((1, 2)));
+        assert_eq!(lent.log(0, &SET_0_TO_2), Ok(Log::Logged { count: 1, stamp: 4 }));
+        assert_eq!(least(lent), Some((1, 2)));
+        assert_eq!((lent.mark(1).map(|mark| mark.dropped), lent.drain(1)), (Ok(true), Ok(())));
+        assert_eq!(least(lent), Some((0, 4)));
+        // lane 1's floor, set and made equal
+        lent.record[2 + raw::LANE_WORDS + 6..][..2].copy_from_slice(&[1, 4]);
+        assert_eq!(least(lent), Some((0, 4)));
+        lent.record[2 + raw::LANE_WORDS + 7] = 2;
+        assert_eq!(least(lent), Some((1, 2)));
+    });
+}
 
 #[test]
 fn what_the_record_tells() {
@@ -1317,10 +1353,10 @@ fn when_a_commit_is_safe() {
         assert_eq!(lent.format(GREATEST_LAG, &[0; 4]), Ok(()));
         let safe = |lent: &mut Lent, stamps: [u64; 3]| lent.started(|store| stamps.map(|stamp| store.is_safe(stamp))).unwrap();
         // no floor, no lock, and the clock at 0
-        assert_eq!(safe(lent, [0, 1, 2]), [true, false, false]);
+        assert_eq!(safe(lent, [0, 1, 2]), [false, false, false]);
         commit(lent, 0, &SET_0_TO_2, 4);
-        // the floor is the Log's
-        assert_eq!((floor(lent, 0), safe(lent, [0, 2, 4])), (Some(2), [true, false, false]));
+        // the floor is the Log's; 0 is the timestamp of no commit
+        assert_eq!((floor(lent, 0), safe(lent, [0, 1, 2])), (Some(2), [false, true, false]));
         assert_eq!(lent.drain(0), Ok(()));
         assert_eq!((floor(lent, 0), safe(lent, [2, 4, 6])), (Some(4), [true, false, false]));
         assert_eq!(lent.started(|store| store.persist(0)), Ok(Ok(6)));

@@ -108,10 +108,11 @@ static int two_lanes(void)
     struct vz_commit commit, late;
     struct vz_marked marked;
     uint64_t floor;
+    size_t least;
 
     EXPECT(vz_log(&store, 1, copy, VZ_LENGTH(copy), NULL) == VANDZULGE_TAKEN);
     EXPECT(vz_log(&store, 0, add, VZ_LENGTH(add), NULL) == VANDZULGE_TAKEN && vz_redo(&store, 0, &commit) == VANDZULGE_TAKEN && commit.committed);
-    EXPECT(vz_redo(&store, 1, &late) == VANDZULGE_TAKEN && !late.committed && late.stamp == 0 && vz_holds(&store, 1));
+    EXPECT(vz_redo(&store, 1, &late) == VANDZULGE_TAKEN && !late.committed && late.stamp == 0 && vz_holds(&store, 1) && !vz_is_safe(&store, late.stamp));
     EXPECT(vz_validate(&store, 1, copy, VZ_LENGTH(copy), &late) == VANDZULGE_TAKEN && late.committed && late.stamp == commit.stamp + 2);
     EXPECT(vz_log(&store, 1, copy, VZ_LENGTH(copy), NULL) == VANDZULGE_TAKEN);
     EXPECT(vz_validate(&store, 1, other, VZ_LENGTH(other), &late) == VANDZULGE_TAKEN && !late.committed && !vz_holds(&store, 1));
@@ -124,9 +125,18 @@ static int two_lanes(void)
     EXPECT(vz_log(&store, 0, add, VZ_LENGTH(add), NULL) == VANDZULGE_TAKEN && vz_redo(&store, 0, &commit) == VANDZULGE_TAKEN);
     EXPECT(vz_settle(&store, 0, NULL) == VANDZULGE_TAKEN && vz_drain(&store, 0) == VANDZULGE_TAKEN);
     EXPECT(!vz_floor(&store, 0, &floor) && vz_floor(&store, 1, &floor) && floor < commit.stamp && !vz_is_safe(&store, commit.stamp));
+    EXPECT(vz_least_floor(&store, &least) && least == 1);
+    record[VANDZULGE_RECORD_LANE(0) + 6] = 1; /* lane 0's floor, equal to lane 1's, and greater, and gone again */
+    record[VANDZULGE_RECORD_LANE(0) + 7] = floor;
+    EXPECT(vz_least_floor(&store, &least) && least == 0);
+    record[VANDZULGE_RECORD_LANE(0) + 7] = floor + 2;
+    EXPECT(vz_least_floor(&store, &least) && least == 1);
+    record[VANDZULGE_RECORD_LANE(0) + 6] = record[VANDZULGE_RECORD_LANE(0) + 7] = 0;
     EXPECT(vz_settle(&store, 1, NULL) == VANDZULGE_REFUSED_LOGGED);
     EXPECT(vz_mark(&store, 1, &marked) == VANDZULGE_TAKEN && marked.dropped && marked.stamp == vz_clock(&store));
     EXPECT(vz_drain(&store, 1) == VANDZULGE_TAKEN && vz_is_safe(&store, commit.stamp));
+    least = 99;
+    EXPECT(!vz_least_floor(&store, &least) && least == 99);
     EXPECT(vz_mark(&store, 1, &marked) == VANDZULGE_TAKEN && !marked.dropped && vz_mark(&store, 1, NULL) == VANDZULGE_TAKEN);
     EXPECT(vz_drain(&store, 1) == VANDZULGE_TAKEN);
     return 0;
@@ -203,16 +213,9 @@ static int untouched(void)
 /* Where Log or Lock is refused with 9 or 15: drains its lane, and then marks and drains the lane with the least floor. False where no lane has a floor. */
 static bool make_room(size_t lane)
 {
-    uint64_t least = UINT64_MAX, floor;
-    size_t i, marked = LANES;
-    if (vz_drain(&store, lane) != VANDZULGE_TAKEN)
-        return false;
-    for (i = 0; i < LANES; i++)
-        if (vz_floor(&store, i, &floor) && floor < least) {
-            least = floor;
-            marked = i;
-        }
-    return marked < LANES && vz_mark(&store, marked, NULL) == VANDZULGE_TAKEN && vz_drain(&store, marked) == VANDZULGE_TAKEN;
+    size_t least;
+    return vz_drain(&store, lane) == VANDZULGE_TAKEN && vz_least_floor(&store, &least) && vz_mark(&store, least, NULL) == VANDZULGE_TAKEN
+        && vz_drain(&store, least) == VANDZULGE_TAKEN;
 }
 
 static int room(void)
