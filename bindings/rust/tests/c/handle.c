@@ -1,5 +1,6 @@
 /* The handle of the header: every wrapper and accessor, when a commit can no longer be lost, what a refusal leaves, what to do on 9 and 15, and recovery of copies.
  * CARGO_PKG_VERSION is given by the test that compiles it. Prints the line that failed, or `ok`. */
+#include "expect.h"
 #include "vandzulge.h"
 
 #include <stdio.h>
@@ -13,13 +14,6 @@
 #define LAG VANDZULGE_LAG_MAX
 #define ALL VANDZULGE_NO_LIMIT
 
-#define EXPECT(what)                                       \
-    do {                                                   \
-        if (!(what)) {                                     \
-            printf("line %d: %s\n", __LINE__, #what);      \
-            return 1;                                      \
-        }                                                  \
-    } while (0)
 #define RUN(part)            \
     do {                     \
         if ((part) != 0)     \

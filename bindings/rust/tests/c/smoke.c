@@ -1,6 +1,7 @@
 /* Every call from C, with the header: the two-lane scenario of the specification, a mark, a drain, the lag limit, a settled lane, a long transaction, an image of the former length
  * taken over, and a few refusals.
  * Prints the line that failed, or `ok`. */
+#include "expect.h"
 #include "vandzulge.h"
 
 #include <stdio.h>
@@ -31,14 +32,6 @@ static uint8_t flags[LENGTH];
 #define FORMER_BUFFERS cache, FORMER, nvm, FORMER, flags, FORMER
 #define RECORD record, VANDZULGE_RECORD_WORDS
 #define ANSWER answer, VANDZULGE_ANSWER_WORDS
-
-#define EXPECT(what)                                       \
-    do {                                                   \
-        if (!(what)) {                                     \
-            printf("line %d: %s\n", __LINE__, #what);      \
-            return 1;                                      \
-        }                                                  \
-    } while (0)
 
 static int answers(uint64_t a, uint64_t b, uint64_t c, uint64_t d)
 {
