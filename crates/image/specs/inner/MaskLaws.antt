@@ -1,10 +1,10 @@
 -- Inner: how the code goes, need not be believed. Lane masks: the law of a table of them, and the code's bit operators with a mask, which are test, set and
 -- clear of a lane's bit; by recursion on the lane. Assumes nothing.
 use mathlib.Core.Path.{_≡_, refl}
-use mathlib.Core.Logic.{⊎-elim}
+use mathlib.Core.Logic.{⊎-elim, _≢_}
 use mathlib.Core.Bool.{Bool, true, false, cond, not, _&&_}
 use mathlib.Core.List.{List}
-use Prim.Native.Nat.{ℕ, zero, suc, _+_, _-_, _*_, _/_, _%_, _^_, _≤_, _<_, min}
+use Prim.Native.Nat.{ℕ, zero, suc, _+_, _-_, _*_, _/_, _%_, _^_, _≤_, _<_, min, max}
 use native.Mathlib.Omega.{arith}
 use native.Mathlib.Nat.{le-of-suc-le-suc, not-suc-le-zero, eq-or-lt-of-le, mod-eq-of-lt}
 use lib.Bits.{bitAnd, bitOr, and-step, or-step, and-zero-r, or-zero-r, and-mask}
@@ -48,6 +48,17 @@ pub or-mask : (L f : ℕ) → bitOr f (2 ^ L) ≡ flush L f
 unfolding flush
 or-mask zero f = rw (or-step f 1, or-zero-r (f / 2)) (omega arith)
 or-mask (suc L) f = rw (or-step f (2 ^ suc L), double L, even L, or-mask L (f / 2)) (omega arith)
+
+-- a bit that is clear in the or of two bytes is clear in both
+pub flushed-or : (L a b : ℕ) → flushed L (bitOr a b) ≡ false → (flushed L a ≡ false) × (flushed L b ≡ false)
+unfolding flushed
+flushed-or zero a b h =
+    let odd : (bitOr (a / 2) (b / 2) * 2 + max (a % 2) (b % 2)) % 2 ≢ 1 = eqb-false _ 1 (rw (or-step a b) at h) in
+    (ne-eqb (a % 2) 1 (λ e. omega arith), ne-eqb (b % 2) 1 (λ e. omega arith))
+flushed-or (suc L) a b h = flushed-or L (a / 2) (b / 2) (rw (or-step a b, upper) at h)
+  where
+    upper : (bitOr (a / 2) (b / 2) * 2 + max (a % 2) (b % 2)) / 2 ≡ bitOr (a / 2) (b / 2)
+    upper = omega arith
 
 -- what the mask leaves of the flag byte
 masked : (L f : ℕ) → bitAnd f (2 ^ L) ≡ cond (flushed L f) (2 ^ L) 0
