@@ -63,8 +63,9 @@ pub fn slot_at(log: &[u64], words: usize, j: usize) -> Content
 }
 
 // Can slot j hold a timestamp? The address words of empty slots and entries are below every timestamp's, so one
-// comparison passes over most slots. It is the one look at a log's words that tells anything of a slot past the slot
-// reader, and it saves time alone: what it passes over reads as no timestamp (`SearchLaws.not-high`).
+// comparison passes over most slots. Past the slot reader, words tell something of a slot only here and in the searches
+// of search.rt, and that saves time alone: what is passed over reads as no timestamp (`SearchLaws.not-high`), or as one
+// that does not matter.
 fn stamp_high(log: &[u64], j: usize) -> bool
     requires { ⌜ 2 * j + 1 < length (now log) ⌝ }
     ensures { λ r. ⌜ r ≡ stampHigh (now (log .entry)) j ⌝ }

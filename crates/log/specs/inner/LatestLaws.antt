@@ -49,7 +49,7 @@ pub latest-none : (qs : List Complete) → latest qs ≡ Nothing → qs ≡ []
 latest-none [] e = refl
 latest-none (q ∷ qs) e = absurd (none-in (q ∷ qs) e here)
 
-is-one : {q r : Sequence} → Is q ≡ Is r → q ≡ r
+pub is-one : {q r : Sequence} → Is q ≡ Is r → q ≡ r
 is-one p = cc
 
 member : (qs : List Complete) → All (λ q. In q qs) (ordered qs qs)

@@ -1,15 +1,15 @@
--- Inner: how the code goes, need not be believed. How the search for complete sequences goes: one slot, the order in which timestamps are tried, one
--- slot's hit. Assumes nothing.
-use Prim.Native.Nat.{ℕ, zero, suc, _+_, _*_}
-use mathlib.Core.Bool.{Bool, false, cond, not, _&&_}
+-- Inner: how the code goes, need not be believed. How the search for complete sequences goes: one slot, the slot of the greatest
+-- timestamp, every slot, one slot's hit. Assumes nothing.
+use Prim.Native.Nat.{ℕ, zero, suc, _+_, _*_, _/_}
+use mathlib.Core.Bool.{Bool, false, cond, not, _&&_, _||_}
 use mathlib.Core.List.{List}
 use lib.Dec.{leb, ltb, eqb}
 use lib.ListN.{length, getD}
 use Rattle.slot.specs.Slot.{tag}
 use Rattle.slot.specs.declared.Content.{Content}
 use Rattle.slot.specs.declared.Content.the-variants.{Empty, Torn, Entry, Stamp}
-use Rattle.image.specs.Image.{maxSlots}
 use Rattle.log.specs.declared.Latest.{Latest}
+use Rattle.log.specs.declared.Latest.the-variants.{Nothing, Is}
 use Rattle.log.specs.declared.Sequence.{Sequence}
 use Rattle.log.specs.declared.search.Candidate.{Candidate}
 use Rattle.log.specs.Log.{slotAt, back, backWrap, entriesBack, closes, firstOf, hitsFrom}
@@ -38,27 +38,66 @@ wholeBack W N log j p n = eqb (length (entriesBack W N log j p n)) n
 unfoldable pub closedAt : (W N base : ℕ) → List ℕ → (j : ℕ) → Latest
 closedAt W N base log j = firstOf (closes W N base log 0 j (slotAt W log j))
 
+-- are the words of slot j as high as those of a timestamp at or above b
+unfoldable pub stampFrom : List ℕ → (j b : ℕ) → Bool
+stampFrom log j b = stampHigh log j && leb b (getD log (2 * j + 1) 0)
+
 -- would writing m slots from slot k on hit a slot of the sequence that slot j closes, if it is stamped at or above b
 unfoldable pub hitAt : (W N base : ℕ) → List ℕ → (k m b j : ℕ) → Bool
 hitAt W N base log k m b j = hitsFrom N k m b (closes W N base log 0 j (slotAt W log j))
 
--- ---- the order of trying: the greatest timestamp first, of equal ones the higher slot
-abbrev pub rank : (s j : ℕ) → ℕ
-rank s j = s * maxSlots + j
+-- ---- the slot of the greatest timestamp
+-- half of the value word of slot j
+unfoldable pub halfAt : List ℕ → (j : ℕ) → ℕ
+halfAt log j = getD log (2 * j + 1) 0 / 2
 
--- the higher of a candidate and slot j, where those from timestamp t at slot k up have been tried: a whole timestamp above the base, of equal
--- ones the second
-unfoldable pub higher : (base t k j : ℕ) → Content → Candidate → Candidate
-higher base t k j Empty a = a
-higher base t k j Torn a = a
-higher base t k j (Entry i v p) a = a
-higher base t k j (Stamp n s p) a =
-    cond (ltb base s && leb (a .stamp) s && ltb (rank s j) (rank t k)) (record { stamp = s; count = n; slot = j; wrap = p; again = eqb (a .stamp) s }) a
+-- the higher of a candidate and slot j of a log of N slots, if that can hold a timestamp; where they are equal, slot N
+unfoldable pub higher : (N : ℕ) → List ℕ → (j : ℕ) → Candidate → Candidate
+higher N log j a =
+    cond (stampHigh log j && leb (a .half) (halfAt log j)) (record { half = halfAt log j; slot = cond (eqb (halfAt log j) (a .half)) N j }) a
 
--- the highest candidate in the slots below i of a log of N; where there is none, slot N at the base
-unfoldable pub candidateBelow : (W N base : ℕ) → List ℕ → (t k i : ℕ) → Candidate
-candidateBelow W N base log t k zero = record { stamp = base; count = 0; slot = N; wrap = 0; again = false }
-candidateBelow W N base log t k (suc i) = higher base t k i (slotAt W log i) (candidateBelow W N base log t k i)
+-- the highest of a candidate and n slots from slot j on
+unfoldable pub candidateOver : (N : ℕ) → List ℕ → (j n : ℕ) → Candidate → Candidate
+candidateOver N log j zero a = a
+candidateOver N log j (suc n) a = higher N log (j + n) (candidateOver N log j n a)
+
+-- how many slots are passed over at once
+abbrev pub group : ℕ
+group = 4
+
+-- is one of their address words as high as a timestamp's
+unfoldable pub anyHigh : List ℕ → (j : ℕ) → Bool
+anyHigh log j = (stampHigh log j || stampHigh log (j + 1)) || (stampHigh log (j + 2) || stampHigh log (j + 3))
+
+-- the highest candidate in the slots below i; where there is none, slot N at the base
+unfoldable pub candidateBelow : (N base : ℕ) → List ℕ → (i : ℕ) → Candidate
+candidateBelow N base log zero = record { half = base / 2; slot = N }
+candidateBelow N base log (suc i) = higher N log i (candidateBelow N base log i)
+
+-- what slot j closes, if there is a slot j
+unfoldable pub candidateClosed : (W N base : ℕ) → List ℕ → (j : ℕ) → Latest
+candidateClosed W N base log j = cond (leb N j) Nothing (closedAt W N base log j)
+
+-- can slot j, another than slot k, hold a timestamp at or above b
+unfoldable pub rival : List ℕ → (k b j : ℕ) → Bool
+rival log k b j = stampFrom log j b && not (eqb j k)
+
+-- can one of n slots from slot j on
+unfoldable pub rivalOver : List ℕ → (k b j n : ℕ) → Bool
+rivalOver log k b j zero = false
+rivalOver log k b j (suc n) = rivalOver log k b j n || rival log k b (j + n)
+
+-- ---- every slot
+-- the sequence with the greater timestamp, of equal ones the second
+unfoldable pub greater : Latest → Latest → Latest
+greater a Nothing = a
+greater Nothing (Is r) = Is r
+greater (Is q) (Is r) = cond (ltb (r .stamp) (q .stamp)) (Is q) (Is r)
+
+-- the greatest of those that the slots below k close
+unfoldable pub greatestBelow : (W N base : ℕ) → List ℕ → (k : ℕ) → Latest
+greatestBelow W N base log zero = Nothing
+greatestBelow W N base log (suc k) = greater (greatestBelow W N base log k) (closedAt W N base log k)
 
 -- ---- the lap over the wrap
 -- what slot k closes, if that is a complete sequence stamped s with another wrap bit than p; else `best`

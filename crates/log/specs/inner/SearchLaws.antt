@@ -1,6 +1,6 @@
--- Inner: how the code goes, need not be believed. Laws of the search: what one slot closes, the highest candidate, and that the first complete one from
--- the top is the latest. Assumes nothing.
-use Prim.Native.Nat.{ℕ, zero, suc, _+_, _-_, _*_, _^_, _≤_, _<_}
+-- Inner: how the code goes, need not be believed. Laws of the search: what one slot closes, which is the latest, by the slot of the
+-- greatest timestamp and by every slot, and hits. Assumes nothing.
+use Prim.Native.Nat.{ℕ, zero, suc, _+_, _-_, _*_, _/_, _%_, _≤_, _<_}
 use mathlib.Core.Path.{_≡_, refl, sym, ap, ap₂, subst, _∙_}
 use mathlib.Core.Bool.{Bool, true, false, cond, not, _&&_, _||_, and-true, and-false, or-true, or-false}
 use mathlib.Core.List.{List, [], _∷_}
@@ -10,8 +10,9 @@ use native.Mathlib.Nat.{eq-or-lt-of-le}
 use native.Mathlib.Numerals.{add-one}
 use lib.Dec.{leb, ltb, eqb}
 use lib.ListN.{length, getD}
+use lib.Bits.{bitOr, or-lt, or-add-and, and-le-l, and-le-r}
 use borrow.Author.Tests.{ltb-true, ltb-false, leb-true, leb-false, eqb-true, eqb-false, eq-eqb, ne-eqb, lt-ltb, le-ltb, le-leb, lt-leb}
-use Rattle.laws.specs.inner.Tests.{split, clash, and-left, and-right}
+use Rattle.laws.specs.inner.Tests.{split, clash, and-left, and-right, or-left, or-right}
 use Rattle.laws.specs.inner.Members.{In, here, in-cases, In-left, In-right, In-append}
 use denote.Enum.Declared.{tagOf}
 use types.Run.{OneOf, miss}
@@ -19,21 +20,21 @@ use Rattle.slot.proofs.Content.{the-type}
 use Rattle.slot.specs.Slot.{tag, maxEntries, stampOf}
 use Rattle.slot.specs.declared.Content.{Content}
 use Rattle.slot.specs.declared.Content.the-variants.{Empty, Torn, Entry, Stamp}
-use Rattle.image.specs.Image.{maxSlots}
 use Rattle.log.specs.declared.Timestamp.{Timestamp}
 use Rattle.log.specs.declared.Timestamp.the-variants.{None, At}
 use Rattle.log.specs.declared.Sequence.{Sequence}
 use Rattle.log.specs.declared.Latest.{Latest}
 use Rattle.log.specs.declared.Latest.the-variants.{Nothing, Is}
 use Rattle.log.specs.declared.search.Candidate.{Candidate}
-use Rattle.log.specs.Log.{slotAt, Complete, entriesBack, closes, completeBelow, topWrap, afterWrap, undoneBefore, ordered}
+use Rattle.log.specs.Log.{slotAt, Complete, entriesBack, closes, completeBelow, topWrap, afterWrap, ordered}
 use Rattle.log.specs.Log.{sequenceOf, firstOf, latest, ahead, overlaps, hitsFrom, hits}
 use Rattle.log.specs.inner.LogLaws.{stamp-in, back-bad, closes-low, closes-short, closes-all, hits-append, overlaps-ahead, back-le}
-use Rattle.log.specs.inner.OrderLaws.{Before, stamp, wrap, slot, before-is, Rising, rising-one, below-rising, Top, absent, is, top, side-before}
+use Rattle.log.specs.inner.OrderLaws.{Before, stamp, wrap, slot, Rising, rising-one, below-rising, Top, absent, is, top, side-before}
 use Rattle.log.specs.inner.OrderLaws.{side-after}
-use Rattle.log.specs.inner.LatestLaws.{latest-first}
+use Rattle.log.specs.inner.LatestLaws.{is-one, latest-first}
 use Rattle.log.specs.Append.{circular}
-use Rattle.log.specs.inner.Search.{entryBack, wholeBack, closedAt, hitAt, stampHigh, rank, higher, candidateBelow, lapOver, lappedBelow}
+use Rattle.log.specs.inner.Search.{entryBack, wholeBack, closedAt, hitAt, stampFrom, stampHigh, halfAt, higher, candidateOver, group, anyHigh}
+use Rattle.log.specs.inner.Search.{candidateBelow, candidateClosed, rival, rivalOver, greater, greatestBelow, lapOver, lappedBelow}
 
 -- ---- the sequence that a slot closes
 -- does a slot hold a whole timestamp
@@ -61,6 +62,15 @@ not-high W log j h = by (slotAt W log j) refl
     by Torn e = refl
     by (Entry i v p) e = refl
     by (Stamp n s p) e = let f = stamp-in W log j n s p e .address in absurd (omega (arith, leb-false (8 * tag) (getD log (2 * j) 0) h))
+
+-- as the tests of a word after it tell
+pub not-from : (log : List ℕ) (j b : ℕ) → stampHigh log j ≡ false → false ≡ stampFrom log j b
+unfolding stampFrom
+not-from log j b h = rw h
+
+pub from-value : (log : List ℕ) (j b : ℕ) → stampHigh log j ≡ true → leb b (getD log (2 * j + 1) 0) ≡ stampFrom log j b
+unfolding stampFrom
+from-value log j b h = rw h
 
 -- the entries before it, by the first bad one
 module _ (W N : ℕ) (log : List ℕ) (j p : ℕ) where
@@ -489,277 +499,431 @@ module _ (W N base : ℕ) (log : List ℕ) (j : ℕ) (low : j < N) (s : Sequence
       by {r} (moved k b a n) = latest-first qs (its k b r a n) (its-in k b r a n) (its-first k b r a n)
           ∙ ap Is (closed-as W N base log 0 k r (lapping k b r a n))
 
--- ---- the highest candidate
--- the place of slot j in the order, from 1 on; 0 where it is no whole timestamp above the base
-unfoldable pub place : (base j : ℕ) → Content → ℕ
-place base j Empty = 0
-place base j Torn = 0
-place base j (Entry i v p) = 0
-place base j (Stamp n s p) = cond (ltb base s) (rank s j + 1) 0
+-- ---- the slot of the greatest timestamp
+-- a slot that closes a sequence can hold a timestamp, and has it in its value word
+pub closed-half : (W N base : ℕ) (log : List ℕ) (j : ℕ) (q : Sequence) → closedAt W N base log j ≡ Is q
+    → (stampHigh log j ≡ true) × (q .stamp ≡ 2 * halfAt log j)
+unfolding stampHigh halfAt stampOf
+closed-half W N base log j q e =
+    let c = closed-from W N base log j q e in
+    let f = stamp-in W log j (q .count) (q .stamp) (c .wrap) (c .reads) in
+    (le-leb (8 * tag) (getD log (2 * j) 0) (omega (arith, f .address)), omega (arith, f .even, f .wrap, f .value))
 
-pub place-stamp : (base j : ℕ) {c : Content} {n s p : ℕ} → c ≡ Stamp n s p → base < s → place base j c ≡ rank s j + 1
-unfolding place
-place-stamp base j {s = s} e h = rw (e, lt-ltb base s h)
+-- one slot, as the code's tests tell
+module _ (N : ℕ) (log : List ℕ) (j : ℕ) (a : Candidate) where
+  pub higher-low : stampHigh log j ≡ false → a ≡ higher N log j a
+  unfolding higher
+  higher-low h = rw h
 
--- a candidate is the highest of the slots below n among the places up to a limit
-pub record Best (W base : ℕ) (log : List ℕ) (limit n : ℕ) (c : Candidate) : Type 0 where
-  pub low : c .slot < n
-  pub reads : slotAt W log (c .slot) ≡ Stamp (c .count) (c .stamp) (c .wrap)
-  pub above : base < c .stamp
-  pub within : rank (c .stamp) (c .slot) < limit
-  pub most : (i : ℕ) → i < n → place base i (slotAt W log i) ≤ limit → place base i (slotAt W log i) ≤ rank (c .stamp) (c .slot) + 1
-  -- where it is not told that another has the same timestamp, those below it in the log have lower ones
-  pub sole : c .again ≡ false → (i : ℕ) → i < c .slot → place base i (slotAt W log i) ≤ limit → place base i (slotAt W log i) ≤ c .stamp * maxSlots
+  module _ (high : stampHigh log j ≡ true) {h : ℕ} (e : h ≡ halfAt log j) where
+    pub higher-less : h < a .half → a ≡ higher N log j a
+    unfolding higher
+    higher-less l = rw (high, ← e, lt-leb (a .half) h l)
 
--- there is none
-pub record Lacking (W N base : ℕ) (log : List ℕ) (limit n : ℕ) (c : Candidate) : Type 0 where
-  pub slot : c .slot ≡ N
-  pub stamp : c .stamp ≡ base
-  pub least : (i : ℕ) → i < n → place base i (slotAt W log i) ≤ limit → place base i (slotAt W log i) ≡ 0
+    pub higher-tied : h ≡ a .half → record { half = h; slot = N } ≡ higher N log j a
+    unfolding higher
+    higher-tied t = rw (high, ← e, le-leb (a .half) h (omega arith), eq-eqb h (a .half) t)
 
-unfoldable pub Good : (W N base : ℕ) → List ℕ → (limit n : ℕ) → Candidate → Type 0
-Good W N base log limit n c = Lacking W N base log limit n c ⊎ Best W base log limit n c
+    pub higher-is : a .half ≤ h → h ≢ a .half → record { half = h; slot = j } ≡ higher N log j a
+    unfolding higher
+    higher-is l d = rw (high, ← e, le-leb (a .half) h l, ne-eqb h (a .half) d)
 
-module _ (W N base : ℕ) (log : List ℕ) where
+-- some slots
+pub over-none : (N : ℕ) (log : List ℕ) (j : ℕ) (a : Candidate) → a ≡ candidateOver N log j 0 a
+unfolding candidateOver
+over-none N log j a = refl
+
+pub over-more : (N : ℕ) (log : List ℕ) (j : ℕ) (a : Candidate) (i : ℕ) (b r : Candidate)
+    → b ≡ candidateOver N log j i a → r ≡ higher N log (j + i) b → r ≡ candidateOver N log j (i + 1) a
+unfolding candidateOver
+over-more N log j a i b r e h = h ∙ rw (e, add-one i)
+
+-- a group of which no slot can hold a timestamp
+or-high : (a b : ℕ) → leb (8 * tag) (bitOr a b) ≡ (leb (8 * tag) a || leb (8 * tag) b)
+or-high a b =
+    split (leb (8 * tag) a)
+    (λ h. rw h (le-leb (8 * tag) (bitOr a b) (omega (arith, leb-true (8 * tag) a h, or-add-and a b, and-le-r a b))))
+    (λ h. split (leb (8 * tag) b)
+    (λ g. rw (h, g) (le-leb (8 * tag) (bitOr a b) (omega (arith, leb-true (8 * tag) b g, or-add-and a b, and-le-l a b))))
+    (λ g. rw (h, g) (lt-leb (8 * tag) (bitOr a b) (or-lt 15 a b (leb-false (8 * tag) a h) (leb-false (8 * tag) b g)))))
+
+pub any-high : (log : List ℕ) (j : ℕ)
+    → leb (8 * tag)
+    (bitOr (bitOr (getD log (2 * j) 0) (getD log (2 * (j + 1)) 0)) (bitOr (getD log (2 * (j + 2)) 0) (getD log (2 * (j + 3)) 0)))
+    ≡ anyHigh log j
+unfolding anyHigh stampHigh
+any-high log j =
+    or-high (bitOr (getD log (2 * j) 0) (getD log (2 * (j + 1)) 0)) (bitOr (getD log (2 * (j + 2)) 0) (getD log (2 * (j + 3)) 0))
+    ∙ ap₂ _||_ (or-high (getD log (2 * j) 0) (getD log (2 * (j + 1)) 0)) (or-high (getD log (2 * (j + 2)) 0) (getD log (2 * (j + 3)) 0))
+
+pub over-low : (N : ℕ) (log : List ℕ) (j : ℕ) (a : Candidate) → anyHigh log j ≡ false → a ≡ candidateOver N log j group a
+unfolding anyHigh candidateOver higher
+over-low N log j a h =
+    let first = or-left (stampHigh log j || stampHigh log (j + 1)) _ h in
+    let last = or-right (stampHigh log j || stampHigh log (j + 1)) _ h in
+    let at : stampHigh log (j + 0) ≡ false = ap (stampHigh log) (let e : j + 0 ≡ j = omega arith in e) ∙ or-left (stampHigh log j) _ first in
+    rw (or-right (stampHigh log (j + 2)) _ last, or-left (stampHigh log (j + 2)) _ last, or-right (stampHigh log j) _ first, at)
+
+-- the groups, and the slots after them
+pub candidate-none : (N base : ℕ) (log : List ℕ) → record { half = base / 2; slot = N } ≡ candidateBelow N base log 0
+unfolding candidateBelow
+candidate-none N base log = refl
+
+candidate-over : (N base : ℕ) (log : List ℕ) (j n : ℕ) → candidateOver N log j n (candidateBelow N base log j) ≡ candidateBelow N base log (j + n)
+unfolding candidateOver candidateBelow
+candidate-over N base log j zero = ap (candidateBelow N base log) (let e : j ≡ j + 0 = omega arith in e)
+candidate-over N base log j (suc n) =
+    ap (higher N log (j + n)) (candidate-over N base log j n) ∙ ap (candidateBelow N base log) (let e : suc (j + n) ≡ j + suc n = omega arith in e)
+
+pub candidate-more : (N base : ℕ) (log : List ℕ) (j n k : ℕ) (b r : Candidate) → b ≡ candidateBelow N base log j → r ≡ candidateOver N log j n b
+    → j + n ≡ k → r ≡ candidateBelow N base log k
+candidate-more N base log j n k b r e h f = h ∙ rw e (candidate-over N base log j n ∙ ap (candidateBelow N base log) f)
+
+-- what a candidate is of the slots below n: none is above it, and where it has a slot, no other has its timestamp
+pub record Highest (N : ℕ) (log : List ℕ) (n : ℕ) (c : Candidate) : Type 0 where
+  pub most : (i : ℕ) → i < n → stampHigh log i ≡ true → halfAt log i ≤ c .half
+  pub value : c .slot < N → halfAt log (c .slot) ≡ c .half
+  pub sole : c .slot < N → (i : ℕ) → i < n → stampHigh log i ≡ true → halfAt log i ≡ c .half → i ≡ c .slot
+
+module _ (N : ℕ) (log : List ℕ) where
   -- slot n changes nothing
-  best-keeps : (limit n : ℕ) (c : Candidate) → Best W base log limit n c
-      → (place base n (slotAt W log n) ≤ limit → place base n (slotAt W log n) ≤ rank (c .stamp) (c .slot) + 1) → Best W base log limit (suc n) c
-  best-keeps limit n c b h = record {
-    low = let l = b .low in omega arith;
-    reads = b .reads;
-    above = b .above;
-    within = b .within;
-    sole = b .sole;
-    most = λ i l g. ⊎-elim (λ (e : i ≡ n). rw e (h (rw e at g))) (λ (q : i < n). b .most i q g) (eq-or-lt-of-le {n = i} {m = n} (omega arith));
+  highest-keeps : (n : ℕ) (c : Candidate) → Highest N log n c → (stampHigh log n ≡ true → halfAt log n < c .half) → Highest N log (suc n) c
+  highest-keeps n c g h = record {
+    most = λ i l t.
+        ⊎-elim (λ (e : i ≡ n). rw e (omega (arith, h (rw e at t)))) (λ (d : i < n). g .most i d t) (eq-or-lt-of-le {n = i} {m = n} (omega arith));
+    value = g .value;
+    sole = λ s i l t v.
+        ⊎-elim (λ (e : i ≡ n). absurd (omega (arith, h (rw e at t), ap (halfAt log) e))) (λ (d : i < n). g .sole s i d t v)
+        (eq-or-lt-of-le {n = i} {m = n} (omega arith));
   }
 
-  good-keeps : (limit n : ℕ) (c : Candidate) → Good W N base log limit n c → (place base n (slotAt W log n) ≤ limit → place base n (slotAt W log n) ≡ 0)
-      → Good W N base log limit (suc n) c
-  unfolding Good
-  good-keeps limit n c g h =
-      ⊎-elim
-      (λ (a : Lacking W N base log limit n c). inl
-      (record {
-        slot = a .slot;
-        stamp = a .stamp;
-        least = λ i l q. ⊎-elim (λ (e : i ≡ n). rw e (h (rw e at q))) (λ (d : i < n). a .least i d q) (eq-or-lt-of-le {n = i} {m = n} (omega arith));
-      }))
-      (λ (b : Best W base log limit n c). inr (best-keeps limit n c b (λ l. omega (arith, h l))))
-      g
+  -- slot n is as high, and the candidate has no slot
+  highest-tied : (n : ℕ) (c : Candidate) → Highest N log n c → c .half ≡ halfAt log n
+      → Highest N log (suc n) (record { half = halfAt log n; slot = N })
+  highest-tied n c g h = record {
+    most = λ i l t.
+        ⊎-elim (λ (e : i ≡ n). omega (arith, ap (halfAt log) e)) (λ (d : i < n). omega (arith, g .most i d t)) (eq-or-lt-of-le {n = i} {m = n} (omega arith));
+    value = λ s. absurd (omega arith);
+    sole = λ s i l t v. absurd (omega arith);
+  }
 
-  module _ (t k n : ℕ) (low : n < maxSlots) (c : Candidate) (g : Good W N base log (rank t k) n c) {m s p : ℕ}
-      (e : slotAt W log n ≡ Stamp m s p) (above : base < s) where
-    -- slot n comes before the candidate
-    good-less : s < c .stamp → Good W N base log (rank t k) (suc n) c
-    unfolding Good
-    good-less h =
-        ⊎-elim
-        (λ (a : Lacking W N base log (rank t k) n c). absurd (omega (arith, a .stamp)))
-        (λ (b : Best W base log (rank t k) n c). inr (best-keeps (rank t k) n c b (λ _. omega (arith, place-stamp base n e above))))
-        g
+  -- slot n is the highest
+  highest-takes : (n : ℕ) (c : Candidate) → Highest N log n c → c .half < halfAt log n
+      → Highest N log (suc n) (record { half = halfAt log n; slot = n })
+  highest-takes n c g h = record {
+    most = λ i l t.
+        ⊎-elim (λ (e : i ≡ n). omega (arith, ap (halfAt log) e)) (λ (d : i < n). omega (arith, g .most i d t)) (eq-or-lt-of-le {n = i} {m = n} (omega arith));
+    value = λ s. refl;
+    sole = λ s i l t v.
+        ⊎-elim (λ (e : i ≡ n). e) (λ (d : i < n). absurd (omega (arith, g .most i d t))) (eq-or-lt-of-le {n = i} {m = n} (omega arith));
+  }
 
-    -- slot n is the highest
-    good-takes : c .stamp ≤ s → rank s n < rank t k
-        → Good W N base log (rank t k) (suc n) (record { stamp = s; count = m; slot = n; wrap = p; again = eqb (c .stamp) s })
-    unfolding Good
-    good-takes h l =
-        inr
-        (record {
-          low = omega arith;
-          reads = e;
-          above = above;
-          within = l;
-          sole = λ d i q r.
-              ⊎-elim
-              (λ (a : Lacking W N base log (rank t k) n c). omega (arith, a .least i q r))
-              (λ (b : Best W base log (rank t k) n c). omega (arith, b .most i q r, b .low, eqb-false (c .stamp) s d))
-              g;
-          most = λ i q r.
-              ⊎-elim (λ (d : i ≡ n). rw d (omega (arith, place-stamp base n e above))) (λ (d : i < n). under i d r)
-              (eq-or-lt-of-le {n = i} {m = n} (omega arith));
-        })
-      where
-        under : (i : ℕ) → i < n → place base i (slotAt W log i) ≤ rank t k → place base i (slotAt W log i) ≤ rank s n + 1
-        under i d r =
-            ⊎-elim
-            (λ (a : Lacking W N base log (rank t k) n c). omega (arith, a .least i d r))
-            (λ (b : Best W base log (rank t k) n c). omega (arith, b .most i d r, b .low))
-            g
-
-  good-step : (t k n : ℕ) → n < maxSlots → (a : Candidate) → Good W N base log (rank t k) n a → (c : Content) → slotAt W log n ≡ c
-      → Good W N base log (rank t k) (suc n) (higher base t k n c a)
-  unfolding higher place
-  good-step t k n low a g Empty e = good-keeps (rank t k) n a g (λ _. ap (place base n) e)
-  good-step t k n low a g Torn e = good-keeps (rank t k) n a g (λ _. ap (place base n) e)
-  good-step t k n low a g (Entry i v p) e = good-keeps (rank t k) n a g (λ _. ap (place base n) e)
-  good-step t k n low a g (Stamp m s p) e =
-      split (ltb base s)
-      (λ d. let above = ltb-true base s d in
-      split (leb (a .stamp) s)
-      (λ h. split (ltb (rank s n) (rank t k))
-      (λ f. rw (d, h, f) (good-takes t k n low a g e above (leb-true (a .stamp) s h) (ltb-true (rank s n) (rank t k) f)))
-      (λ f. rw (d, h, f) (good-keeps (rank t k) n a g (λ l. absurd (omega (arith, place-stamp base n e above, ltb-false (rank s n) (rank t k) f))))))
-      (λ h. rw (d, h) (good-less t k n low a g e above (leb-false (a .stamp) s h))))
-      (λ d. rw d (good-keeps (rank t k) n a g (λ _. ap (place base n) e ∙ rw d)))
-
-  pub good-all : (t k n : ℕ) → n ≤ maxSlots → Good W N base log (rank t k) n (candidateBelow W N base log t k n)
-  unfolding candidateBelow Good
-  good-all t k zero h = inl (record { slot = refl; stamp = refl; least = λ i l g. absurd (omega arith) })
-  good-all t k (suc n) h =
-      good-step t k n (omega arith) (candidateBelow W N base log t k n) (good-all t k n (omega arith)) (slotAt W log n) refl
-
--- ---- one slot of the search
-pub rank-less : (s t j k : ℕ) → j < maxSlots → s < t → true ≡ ltb (rank s j) (rank t k)
-rank-less s t j k l h = sym (lt-ltb (rank s j) (rank t k) (omega arith))
-
-pub rank-more : (s t j k : ℕ) → k ≤ maxSlots → t < s → false ≡ ltb (rank s j) (rank t k)
-rank-more s t j k l h = sym (le-ltb (rank s j) (rank t k) (omega arith))
-
--- equal timestamps go by their slots
-pub rank-slots : (s t j k : ℕ) → s ≡ t → ltb j k ≡ ltb (rank s j) (rank t k)
-rank-slots s t j k e =
-    split (ltb j k)
-    (λ d. rw d (sym (lt-ltb (rank s j) (rank t k) (omega (arith, ltb-true j k d)))))
-    (λ d. rw d (sym (le-ltb (rank s j) (rank t k) (omega (arith, ltb-false j k d)))))
-
-module _ (W base : ℕ) (log : List ℕ) (t k j : ℕ) (a : Candidate) where
-  pub higher-other : (c : Content) → c ≡ slotAt W log j → isStamp c ≡ false → a ≡ higher base t k j (slotAt W log j) a
-  unfolding higher isStamp
-  higher-other Empty e h = rw (sym e)
-  higher-other Torn e h = rw (sym e)
-  higher-other (Entry i v p) e h = rw (sym e)
-  higher-other (Stamp n s p) e h = absurd (let z : _≡_ {A = ℕ} 0 1 = cc in omega arith)
-
-  module _ {c : Content} {n s p : ℕ} (r : c ≡ slotAt W log j) (e : c ≡ Stamp n s p) where
-    pub higher-base : s ≤ base → a ≡ higher base t k j (slotAt W log j) a
-    unfolding higher
-    higher-base h = rw (sym r ∙ e, le-ltb base s h)
-
-    pub higher-less : s < a .stamp → a ≡ higher base t k j (slotAt W log j) a
-    unfolding higher
-    higher-less h = rw (sym r ∙ e, lt-leb (a .stamp) s h, and-false (ltb base s))
-
-    pub higher-tried : ltb (rank s j) (rank t k) ≡ false → a ≡ higher base t k j (slotAt W log j) a
-    unfolding higher
-    higher-tried h = rw (sym r ∙ e, h, and-false (ltb base s && leb (a .stamp) s))
-
-    pub higher-is : base < s → a .stamp ≤ s → ltb (rank s j) (rank t k) ≡ true
-        → record { stamp = s; count = n; slot = j; wrap = p; again = eqb (a .stamp) s } ≡ higher base t k j (slotAt W log j) a
-    unfolding higher
-    higher-is h g f = rw (sym r ∙ e, lt-ltb base s h, le-leb (a .stamp) s g, f)
-
--- ---- the loop over the slots
-pub candidate-none : (W N base : ℕ) (log : List ℕ) (t k : ℕ)
-    → record { stamp = base; count = 0; slot = N; wrap = 0; again = false } ≡ candidateBelow W N base log t k 0
-unfolding candidateBelow
-candidate-none W N base log t k = refl
-
-pub candidate-more : (W N base : ℕ) (log : List ℕ) (t k i : ℕ) (b r : Candidate)
-    → b ≡ candidateBelow W N base log t k i → r ≡ higher base t k i (slotAt W log i) b → r ≡ candidateBelow W N base log t k (i + 1)
-unfolding candidateBelow
-candidate-more W N base log t k i b r e h = h ∙ rw (e, add-one i)
-
--- ---- the loop over the timestamps: every complete sequence stands below the place of the last one tried
-unfoldable pub AllUnder : (W N base : ℕ) → List ℕ → (limit : ℕ) → Type 0
-AllUnder W N base log limit = (i : ℕ) → i < N → (q : Sequence) → closedAt W N base log i ≡ Is q → rank (q .stamp) i < limit
+  pub highest-all : (base n : ℕ) → Highest N log n (candidateBelow N base log n)
+  unfolding candidateBelow higher
+  highest-all base zero = record { most = λ i l t. absurd (omega arith); value = λ s. absurd (omega arith); sole = λ s i l t v. absurd (omega arith) }
+  highest-all base (suc n) =
+      let c = candidateBelow N base log n in
+      let g = highest-all base n in
+      split (stampHigh log n)
+      (λ t. split (leb (c .half) (halfAt log n))
+      (λ l. split (eqb (halfAt log n) (c .half))
+      (λ e. rw (t, l, e) (highest-tied n c g (sym (eqb-true _ _ e))))
+      (λ e. rw (t, l, e) (highest-takes n c g (omega (arith, leb-true (c .half) (halfAt log n) l, eqb-false (halfAt log n) (c .half) e)))))
+      (λ l. rw (t, l) (highest-keeps n c g (λ _. leb-false _ _ l))))
+      (λ t. rw t (highest-keeps n c g (λ u. clash _ u t)))
 
 -- which it is
 known : (x : Latest) → (x ≡ Nothing) ⊎ ((q : Sequence) × (x ≡ Is q))
 known Nothing = inl refl
 known (Is q) = inr (q, refl)
 
-module _ (W N base : ℕ) (log : List ℕ) (small : N ≤ maxSlots) where
-  pub under-start : ((i : ℕ) → getD log i 0 < 2 ^ 64) → AllUnder W N base log (rank (2 ^ 64 - 1) maxSlots)
-  unfolding AllUnder stampOf
-  under-start fits i l q e =
-      let c = closed-from W N base log i q e in
-      let f = stamp-in W log i (q .count) (q .stamp) (c .wrap) (c .reads) in
-      omega (arith, f .value, fits (2 * i + 1))
+-- the slot of a candidate, as the code's test tells
+module _ (W N base : ℕ) (log : List ℕ) (j : ℕ) where
+  pub slotless : N ≤ j → Nothing ≡ candidateClosed W N base log j
+  unfolding candidateClosed
+  slotless h = rw (le-leb N j h)
 
-  module _ (t k : ℕ) (u : AllUnder W N base log (rank t k)) {c : Candidate} (e : c ≡ candidateBelow W N base log t k N) where
-    -- which it is
-    good : Good W N base log (rank t k) N c
-    good = rw e (good-all W N base log t k N small)
+  pub slotted : j < N → {r : Latest} → r ≡ closedAt W N base log j → r ≡ candidateClosed W N base log j
+  unfolding candidateClosed
+  slotted h e = rw (lt-leb N j h) e
 
-    -- all have been tried
-    pub nothing-left : c .slot ≡ N → Nothing ≡ latest (completeBelow W N base log 0 N)
-    unfolding AllUnder Good
-    nothing-left f =
-        ⊎-elim
-        (λ (a : Lacking W N base log (rank t k) N c). sym (latest-none W N base log N (each (a .least))))
-        (λ (b : Best W base log (rank t k) N c). absurd (omega (arith, b .low)))
-        good
+  from-closed : {q : Sequence} → candidateClosed W N base log j ≡ Is q → (j < N) × (closedAt W N base log j ≡ Is q)
+  unfolding candidateClosed
+  from-closed e = split (leb N j) (λ t. never (rw t at e)) (λ t. (leb-false N j t, rw t at e))
+
+pub highest-is : (N base : ℕ) (log : List ℕ) {c : Candidate} → c ≡ candidateBelow N base log N → Highest N log N c
+highest-is N base log e = rw e (highest-all N log base N)
+
+module _ (W N base : ℕ) (log : List ℕ) {c : Candidate} (highest : Highest N log N c) where
+  -- none is above the base
+  pub candidate-lacks : c .half ≡ base / 2 → Nothing ≡ latest (completeBelow W N base log 0 N)
+  candidate-lacks h = sym (latest-none W N base log N each)
+    where
+      each : (i : ℕ) → i < N → closedAt W N base log i ≡ Nothing
+      each i l =
+          ⊎-elim (λ (n : closedAt W N base log i ≡ Nothing). n)
+          (λ n.
+          let q = n .0 in
+          let d = closed-half W N base log i q (n .1) in
+          let above = closed-from W N base log i q (n .1) .above in
+          absurd (omega (arith, highest .most i l (d .0), d .1)))
+          (known (closedAt W N base log i))
+
+  -- its slot closes a complete sequence
+  pub candidate-latest : {x : Latest} {q : Sequence} → x ≡ candidateClosed W N base log (c .slot) → x ≡ Is q → Is q ≡ latest (completeBelow W N base log 0 N)
+  candidate-latest {q = q} r f = sym (latest-first qs mine mine-in first ∙ ap Is (closed-as W N base log 0 (c .slot) q closed))
+    where
+      at : (c .slot < N) × (closedAt W N base log (c .slot) ≡ Is q)
+      at = from-closed W N base log (c .slot) (sym r ∙ f)
+
+      closed : Closed W N base log (c .slot) q
+      closed = closed-from W N base log (c .slot) q (at .1)
+
+      qs : List Complete
+      qs = completeBelow W N base log 0 N
+
+      mine : Complete
+      mine = closedAs W N base log 0 (c .slot) q closed
+
+      mine-in : In mine qs
+      mine-in = slot-in W N base log 0 (c .slot) N (at .0) q closed
+
+      first : (p : Complete) → In p qs → (p ≡ mine) ⊎ Before qs mine p
+      first p i =
+          let from = in-slot W N base log 0 N p i in
+          let m = closed-half W N base log (c .slot) q (at .1) in
+          let d = closed-half W N base log (from .at) (from .by) (from .is) in
+          let same : p .stamp ≡ from .by .stamp = ap (λ (p : Complete). p .stamp) (from .same) in
+          split (ltb (p .stamp) (q .stamp))
+          (λ t. inr (stamp (ltb-true _ _ t)))
+          (λ t.
+          let half : halfAt log (from .at) ≡ c .half = omega (
+            arith,
+            ltb-false (p .stamp) (q .stamp) t,
+            m .1,
+            d .1,
+            highest .value (at .0),
+            highest .most (from .at) (from .low) (d .0),
+          ) in
+          inl (rising-one (below-rising W N base log 0 N) i mine-in (ap (λ (p : Complete). p .lane) (from .same))
+          (ap (λ (p : Complete). p .slot) (from .same) ∙ highest .sole (at .0) (from .at) (from .low) (d .0) half)))
+
+-- ---- a slot looked at first
+-- one slot, as the code's tests tell
+module _ (log : List ℕ) (k b j : ℕ) where
+  pub rival-less : getD log (2 * j + 1) 0 < b → false ≡ rival log k b j
+  unfolding rival stampFrom
+  rival-less h = rw (lt-leb b (getD log (2 * j + 1) 0) h, and-false (stampHigh log j))
+
+  pub rival-own : j ≡ k → false ≡ rival log k b j
+  unfolding rival
+  rival-own e = rw (eq-eqb j k e) (sym (and-false (stampFrom log j b)))
+
+  pub rival-high : b ≤ getD log (2 * j + 1) 0 → j ≢ k → stampHigh log j ≡ rival log k b j
+  unfolding rival stampFrom
+  rival-high h d = rw (le-leb b (getD log (2 * j + 1) 0) h, ne-eqb j k d, and-true (stampHigh log j)) (sym (and-true (stampHigh log j)))
+
+-- some slots
+module _ (log : List ℕ) (k b : ℕ) where
+  pub rivals-zero : (j : ℕ) → rivalOver log k b j 0 ≡ false
+  unfolding rivalOver
+  rivals-zero j = refl
+
+  pub rivals-more : (j i : ℕ) → rivalOver log k b j i ≡ false → rival log k b (j + i) ≡ false → rivalOver log k b j (i + 1) ≡ false
+  unfolding rivalOver
+  rivals-more j i h g = rw (add-one i, h, g)
+
+  pub rivals-found : (j i n : ℕ) → i < n → rival log k b (j + i) ≡ true → rivalOver log k b j n ≡ true
+  unfolding rivalOver
+  rivals-found j i zero l h = absurd (omega arith)
+  rivals-found j i (suc n) l h =
+      ⊎-elim
+      (λ (e : i ≡ n). let g : rival log k b (j + n) ≡ true = rw e at h in rw g (or-true (rivalOver log k b j n)))
+      (λ (e : i < n). rw (rivals-found j i n e h))
+      (eq-or-lt-of-le {n = i} {m = n} (omega arith))
+
+  rivals-none : (i n : ℕ) → i < n → rivalOver log k b 0 n ≡ false → rival log k b i ≡ false
+  rivals-none i n l h =
+      let e : 0 + i ≡ i = omega arith in
+      split (rival log k b i) (λ t. clash _ (rivals-found 0 i n l (ap (rival log k b) e ∙ t)) h) (λ t. t)
+
+  -- a group of which no slot can hold a timestamp
+  pub rivals-low : (j : ℕ) → anyHigh log j ≡ false → false ≡ rivalOver log k b j group
+  unfolding anyHigh rivalOver rival stampFrom
+  rivals-low j h =
+      let first = or-left (stampHigh log j || stampHigh log (j + 1)) _ h in
+      let last = or-right (stampHigh log j || stampHigh log (j + 1)) _ h in
+      let at : stampHigh log (j + 0) ≡ false = ap (stampHigh log) (let e : j + 0 ≡ j = omega arith in e) ∙ or-left (stampHigh log j) _ first in
+      rw (or-right (stampHigh log (j + 2)) _ last, or-left (stampHigh log (j + 2)) _ last, or-right (stampHigh log j) _ first, at)
+
+  -- slots, and slots after them
+  pub rivals-after : (m n : ℕ) → rivalOver log k b 0 m ≡ false → rivalOver log k b 0 (m + n) ≡ rivalOver log k b m n
+  unfolding rivalOver
+  rivals-after m zero h = ap (rivalOver log k b 0) (let e : m + 0 ≡ m = omega arith in e) ∙ h
+  rivals-after m (suc n) h =
+      ap (rivalOver log k b 0) (let e : m + suc n ≡ suc (m + n) = omega arith in e)
+      ∙ ap₂ _||_ (rivals-after m n h) (ap (rival log k b) (let e : 0 + (m + n) ≡ m + n = omega arith in e))
+
+  rivals-wide : (m n : ℕ) → m ≤ n → rivalOver log k b 0 m ≡ true → rivalOver log k b 0 n ≡ true
+  unfolding rivalOver
+  rivals-wide m zero l h = ap (rivalOver log k b 0) (let e : 0 ≡ m = omega arith in e) ∙ h
+  rivals-wide m (suc n) l h =
+      ⊎-elim (λ (e : m ≡ suc n). rw e at h) (λ (e : m < suc n). rw (rivals-wide m n (omega arith) h))
+      (eq-or-lt-of-le {n = m} {m = suc n} l)
+
+  pub rivals-next : (m n p : ℕ) → m + n ≡ p → rivalOver log k b 0 m ≡ false → rivalOver log k b m n ≡ false → rivalOver log k b 0 p ≡ false
+  rivals-next m n p e h g = rw (← e) (rivals-after m n h ∙ g)
+
+  pub rivals-in : (m n p : ℕ) → m + n ≤ p → rivalOver log k b 0 m ≡ false → rivalOver log k b m n ≡ true → true ≡ rivalOver log k b 0 p
+  rivals-in m n p l h g = sym (rivals-wide (m + n) p l (rivals-after m n h ∙ g))
+
+  pub rivals-last : (m n p : ℕ) → m + n ≡ p → rivalOver log k b 0 m ≡ false → rivalOver log k b m n ≡ rivalOver log k b 0 p
+  rivals-last m n p e h = rw (← e) (sym (rivals-after m n h))
+
+rival-below : (log : List ℕ) (k b j : ℕ) → b ≡ 2 * halfAt log k → stampHigh log j ≡ true → j ≢ k → rival log k b j ≡ false → halfAt log j < halfAt log k
+unfolding rival stampFrom halfAt
+rival-below log k b j e t d h =
+    split (leb b (getD log (2 * j + 1) 0))
+    (λ u. clash true refl (rw (t, u, ne-eqb j k d) at h))
+    (λ u. let less = leb-false b (getD log (2 * j + 1) 0) u in omega arith)
+
+-- no other slot can hold a timestamp as high as that of the sequence that slot k closes
+pub near-latest : (W N base : ℕ) (log : List ℕ) (k : ℕ) {x : Latest} {q : Sequence} → x ≡ candidateClosed W N base log k → x ≡ Is q
+    → rivalOver log k (q .stamp) 0 N ≡ false → Is q ≡ latest (completeBelow W N base log 0 N)
+near-latest W N base log k {q = q} r f h = candidate-latest W N base log {c = record { half = halfAt log k; slot = k }} highest r f
+  where
+    half : q .stamp ≡ 2 * halfAt log k
+    half = closed-half W N base log k q (from-closed W N base log k (sym r ∙ f) .1) .1
+
+    below : (i : ℕ) → i < N → stampHigh log i ≡ true → i ≢ k → halfAt log i < halfAt log k
+    below i l t d = rival-below log k (q .stamp) i half t d (rivals-none log k (q .stamp) i N l h)
+
+    highest : Highest N log N (record { half = halfAt log k; slot = k })
+    highest = record {
+      most = λ i l t. split (eqb i k) (λ e. rw (eqb-true i k e) (omega arith)) (λ e. omega (arith, below i l t (eqb-false i k e)));
+      value = λ s. refl;
+      sole = λ s i l t v. split (eqb i k) (λ e. eqb-true i k e) (λ e. absurd (omega (arith, below i l t (eqb-false i k e))));
+    }
+
+-- ---- every slot
+-- the greater of two, as the code's tests tell
+module _ {a b : Latest} where
+  pub greater-none : b ≡ Nothing → a ≡ greater a b
+  unfolding greater
+  greater-none e = rw e
+
+  module _ {r : Sequence} (e : b ≡ Is r) where
+    pub greater-first : a ≡ Nothing → Is r ≡ greater a b
+    unfolding greater
+    greater-first f = rw (e, f)
+
+    module _ {q : Sequence} (f : a ≡ Is q) where
+      pub greater-less : r .stamp < q .stamp → Is q ≡ greater a b
+      unfolding greater
+      greater-less l = rw (e, f, lt-ltb (r .stamp) (q .stamp) l)
+
+      pub greater-is : q .stamp ≤ r .stamp → Is r ≡ greater a b
+      unfolding greater
+      greater-is l = rw (e, f, le-ltb (r .stamp) (q .stamp) l)
+
+-- the loop over the slots
+pub greatest-none : (W N base : ℕ) (log : List ℕ) → Nothing ≡ greatestBelow W N base log 0
+unfolding greatestBelow
+greatest-none W N base log = refl
+
+pub greatest-more : (W N base : ℕ) (log : List ℕ) (k : ℕ) (b x r : Latest) → b ≡ greatestBelow W N base log k → x ≡ closedAt W N base log k
+    → r ≡ greater b x → r ≡ greatestBelow W N base log (k + 1)
+unfolding greatestBelow
+greatest-more W N base log k b x r e f h = h ∙ rw (e, f, add-one k)
+
+-- what it is: of the sequences that the slots below k close, the highest of the greatest timestamp
+pub record Greatest (W N base : ℕ) (log : List ℕ) (k : ℕ) (q : Sequence) : Type 0 where
+  pub low : q .slot < k
+  pub is : closedAt W N base log (q .slot) ≡ Is q
+  pub most : (i : ℕ) → i < k → (r : Sequence) → closedAt W N base log i ≡ Is r → r .stamp ≤ q .stamp
+  pub high : (i : ℕ) → q .slot < i → i < k → (r : Sequence) → closedAt W N base log i ≡ Is r → r .stamp < q .stamp
+
+abbrev pub NoneClosed : (W N base : ℕ) (log : List ℕ) (k : ℕ) → Type 0
+NoneClosed W N base log k = (i : ℕ) → i < k → closedAt W N base log i ≡ Nothing
+
+pub data GreatestIs (W N base : ℕ) (log : List ℕ) (k : ℕ) (x : Latest) : Type 0 where
+  lacking : x ≡ Nothing → NoneClosed W N base log k → GreatestIs W N base log k x
+  found : (q : Sequence) → x ≡ Is q → Greatest W N base log k q → GreatestIs W N base log k x
+
+module _ (W N base : ℕ) (log : List ℕ) where
+  -- slot k closes a sequence that is not below the others
+  greatest-takes : (k : ℕ) (r : Sequence) → closedAt W N base log k ≡ Is r
+      → ((i : ℕ) → i < k → (q : Sequence) → closedAt W N base log i ≡ Is q → q .stamp ≤ r .stamp) → Greatest W N base log (suc k) r
+  greatest-takes k r e h =
+      let s : r .slot ≡ k = closed-from W N base log k r e .slot in
+      record {
+        low = omega arith;
+        is = ap (closedAt W N base log) s ∙ e;
+        most = λ i l q f.
+            ⊎-elim
+            (λ (d : i ≡ k). omega (arith, ap (λ (q : Sequence). q .stamp) (is-one (sym f ∙ ap (closedAt W N base log) d ∙ e))))
+            (λ (d : i < k). h i d q f)
+            (eq-or-lt-of-le {n = i} {m = k} (omega arith));
+        high = λ i g l q f. absurd (omega arith);
+      }
+
+  -- slot k changes nothing
+  greatest-keeps : (k : ℕ) (q : Sequence) → Greatest W N base log k q
+      → ((r : Sequence) → closedAt W N base log k ≡ Is r → r .stamp < q .stamp) → Greatest W N base log (suc k) q
+  greatest-keeps k q g h = record {
+    low = omega (arith, g .low);
+    is = g .is;
+    most = λ i l r f.
+        ⊎-elim (λ (d : i ≡ k). omega (arith, h r (rw d at f))) (λ (d : i < k). g .most i d r f) (eq-or-lt-of-le {n = i} {m = k} (omega arith));
+    high = λ i a l r f.
+        ⊎-elim (λ (d : i ≡ k). h r (rw d at f)) (λ (d : i < k). g .high i a d r f) (eq-or-lt-of-le {n = i} {m = k} (omega arith));
+  }
+
+  greatest-step : (k : ℕ) (a x : Latest) → closedAt W N base log k ≡ x → GreatestIs W N base log k a → GreatestIs W N base log (suc k) (greater a x)
+  unfolding greater
+  greatest-step k a Nothing e (lacking f n) =
+      lacking f (λ i l. ⊎-elim (λ (d : i ≡ k). rw d e) (λ (d : i < k). n i d) (eq-or-lt-of-le {n = i} {m = k} (omega arith)))
+  greatest-step k a Nothing e (found q f g) = found q f (greatest-keeps k q g (λ r h. never (sym e ∙ h)))
+  greatest-step k a (Is r) e (lacking f n) =
+      found r (rw f) (greatest-takes k r e (λ i l q h. never (sym (n i l) ∙ h)))
+  greatest-step k a (Is r) e (found q f g) =
+      split (ltb (r .stamp) (q .stamp))
+      (λ t. found q (rw (f, t))
+      (greatest-keeps k q g (λ p h. omega (arith, ltb-true (r .stamp) (q .stamp) t, ap (λ (q : Sequence). q .stamp) (is-one (sym e ∙ h))))))
+      (λ t. found r (rw (f, t)) (greatest-takes k r e (λ i l p h. omega (arith, ltb-false (r .stamp) (q .stamp) t, g .most i l p h))))
+
+  pub greatest-all : (k : ℕ) → GreatestIs W N base log k (greatestBelow W N base log k)
+  unfolding greatestBelow
+  greatest-all zero = lacking refl (λ i l. absurd (omega arith))
+  greatest-all (suc k) = greatest-step k _ _ refl (greatest-all k)
+
+  module _ {x : Latest} (e : x ≡ greatestBelow W N base log N) where
+    -- there is none
+    pub all-none : x ≡ Nothing → Nothing ≡ latest (completeBelow W N base log 0 N)
+    all-none h = by (greatest-all N)
       where
-        each : ((i : ℕ) → i < N → place base i (slotAt W log i) ≤ rank t k → place base i (slotAt W log i) ≡ 0)
-            → (i : ℕ) → i < N → closedAt W N base log i ≡ Nothing
-        each least i l =
-            ⊎-elim (λ (h : closedAt W N base log i ≡ Nothing). h)
-            (λ h.
-            let q = h .0 in
-            let d = closed-from W N base log i q (h .1) in
-            let p = place-stamp base i (d .reads) (d .above) in
-            let g = u i l q (h .1) in
-            absurd (omega (arith, least i l (omega arith))))
-            (known (closedAt W N base log i))
+        by : GreatestIs W N base log N (greatestBelow W N base log N) → Nothing ≡ latest (completeBelow W N base log 0 N)
+        by (lacking f n) = sym (latest-none W N base log N n)
+        by (found q f g) = never (sym h ∙ e ∙ f)
 
-    module _ (some : c .slot ≡ N → ⊥) where
-      -- the one to be tried
-      pub next-best : Best W base log (rank t k) N c
-      unfolding Good
-      next-best = ⊎-elim (λ (a : Lacking W N base log (rank t k) N c). absurd (some (a .slot))) (λ (b : Best W base log (rank t k) N c). b) good
+    module _ {q : Sequence} (h : x ≡ Is q) where
+      pub all-greatest : Greatest W N base log N q
+      all-greatest = by (greatest-all N)
+        where
+          by : GreatestIs W N base log N (greatestBelow W N base log N) → Greatest W N base log N q
+          by (lacking f n) = never (sym f ∙ sym e ∙ h)
+          by (found r f g) = rw (is-one (sym h ∙ e ∙ f)) g
 
-      -- no complete sequence stands above it
-      under-next : (i : ℕ) → i < N → (q : Sequence) → closedAt W N base log i ≡ Is q → rank (q .stamp) i ≤ rank (c .stamp) (c .slot)
-      unfolding AllUnder
-      under-next i l q h =
-          let d = closed-from W N base log i q h in
-          let p = place-stamp base i (d .reads) (d .above) in
-          let g = u i l q h in
-          let most = next-best .most i l (omega arith) in
-          omega arith
-
-      -- it is not complete
-      pub next-under : Nothing ≡ closedAt W N base log (c .slot) → AllUnder W N base log (rank (c .stamp) (c .slot))
-      unfolding AllUnder
-      next-under h i l q g =
-          ⊎-elim
-          (λ (d : rank (q .stamp) i ≡ rank (c .stamp) (c .slot)).
-          let low = next-best .low in
-          let same : i ≡ c .slot = omega arith in
-          never (h ∙ (rw same at g)))
-          (λ (d : rank (q .stamp) i < rank (c .stamp) (c .slot)). d)
-          (eq-or-lt-of-le (under-next i l q g))
-
-      -- it is complete, and another may have its timestamp
-      module _ (h : Is (record { stamp = c .stamp; count = c .count; slot = c .slot }) ≡ closedAt W N base log (c .slot)) where
-        found : Sequence
-        found = record { stamp = c .stamp; count = c .count; slot = c .slot }
-
-        lapped-found : latest (completeBelow W N base log 0 N) ≡ Is (lappedBelow W N log (c .stamp) (c .wrap) found (c .slot))
-        unfolding found
-        lapped-found =
-            let low = next-best .low in
-            latest-lapped W N base log (c .slot) low found (sym h)
-            (λ i l q g. omega (arith, under-next i l q g))
-            (λ i d l q g. omega (arith, under-next i l q g))
-            (c .wrap) (next-best .reads)
-
-        pub next-lapped : (r : Sequence)
-            → r ≡ lappedBelow W N log (c .stamp) (c .wrap) (record { stamp = c .stamp; count = c .count; slot = c .slot }) (c .slot)
-            → Is r ≡ latest (completeBelow W N base log 0 N)
-        unfolding found
-        next-lapped r d = ap Is d ∙ sym lapped-found
-
-        -- no other has
-        pub next-latest : c .again ≡ false → Is (record { stamp = c .stamp; count = c .count; slot = c .slot }) ≡ latest (completeBelow W N base log 0 N)
-        unfolding found
-        next-latest d = sym (lapped-found ∙ ap Is (by (lapped-is W N log (c .stamp) (c .wrap) found (c .slot))))
-          where
-            by : {r : Sequence} → LappedIs W N log (c .stamp) (c .wrap) found (c .slot) r → r ≡ found
-            by (kept f n) = f
-            by (moved j l a n) =
-                let p = place-stamp base j (a .reads) (next-best .above) in
-                absurd (omega (arith, next-best .sole d j l (omega (arith, next-best .within))))
+      -- there is one, and others may have its timestamp
+      pub all-latest : {r : Sequence} → r ≡ lappedBelow W N log (q .stamp) (getD log (2 * q .slot) 0 % 2) q (q .slot)
+          → Is r ≡ latest (completeBelow W N base log 0 N)
+      unfolding stampOf
+      all-latest d =
+          let g = all-greatest in
+          let c = closed-from W N base log (q .slot) q (g .is) in
+          let f = stamp-in W log (q .slot) (q .count) (q .stamp) (c .wrap) (c .reads) in
+          let w : c .wrap ≡ getD log (2 * q .slot) 0 % 2 = omega (arith, f .address, f .wrap) in
+          ap Is d ∙ sym (latest-lapped W N base log (q .slot) (g .low) q (g .is) (g .most) (g .high) _ (rw (← w) (c .reads)))
 
 -- ---- hits
 -- slot numbers, circularly
@@ -816,7 +980,27 @@ module _ (W N base : ℕ) (log : List ℕ) (k m b : ℕ) where
       by (Entry i v p) e = hit-not j (Entry i v p) e refl
       by (Stamp n s p) e = hit-distant j n s p e h g l (omega (arith, stamp-in W log j n s p e .count))
 
+  -- one whose words are not as high as those of a timestamp at or above b
+  hit-early : (j : ℕ) → k < N → j < N → 1 ≤ m → stampFrom log j b ≡ false → hitAt W N base log k m b j ≡ false
+  unfolding isStamp stampFrom stampHigh stampOf
+  hit-early j h g l f = by (slotAt W log j) refl
+    where
+      by : (c : Content) → slotAt W log j ≡ c → hitAt W N base log k m b j ≡ false
+      by Empty e = hit-not j Empty e refl
+      by Torn e = hit-not j Torn e refl
+      by (Entry i v p) e = hit-not j (Entry i v p) e refl
+      by (Stamp n s p) e =
+          let t = stamp-in W log j n s p e in
+          let high : leb (8 * tag) (getD log (2 * j) 0) ≡ true = le-leb (8 * tag) (getD log (2 * j) 0) (omega (arith, t .address)) in
+          let less : getD log (2 * j + 1) 0 < b = leb-false b (getD log (2 * j + 1) 0) (rw high at f) in
+          hit-stamp j n s p e h g l
+          ∙ rw (lt-leb b s (omega (arith, t .value))) (and-false (ltb base s && wholeBack W N log j p n))
+
   -- the slot d places after slot k
+  pub hit-passed : (d j : ℕ) → j ≡ circular N (k + d) → k < N → d < N → 1 ≤ m → stampFrom log j b ≡ false
+      → false ≡ hitAt W N base log k m b (circular N (k + d))
+  hit-passed d j at h g l f = rw (← at) (sym (hit-early j h (rw at (circular-low N (k + d) (omega arith))) l f))
+
   module _ (d j : ℕ) (at : j ≡ circular N (k + d)) {c : Content} (r : c ≡ slotAt W log j) where
     pub hit-other : isStamp c ≡ false → false ≡ hitAt W N base log k m b (circular N (k + d))
     hit-other h = rw (← at) (sym (hit-not j c (sym r) h))

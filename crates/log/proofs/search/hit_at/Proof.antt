@@ -2,11 +2,11 @@
 use borrow.Author.Needs.{needs}
 use Prim.Native.Nat.{_+_, _<_}
 use borrow.Author.Tests.{not-true}
-use mathlib.Core.Path.{refl, sym, _∙_}
+use mathlib.Core.Path.{sym, _∙_}
 use native.Mathlib.Omega.{arith}
 use denote.Ref.{now}
 use Rattle.log.specs.inner.LogLaws.{stamp-in}
-use Rattle.log.specs.inner.SearchLaws.{not-stamp, not-high, circular-low, hit-other, hit-base, hit-low, hit-far, hit-near}
+use Rattle.log.specs.inner.SearchLaws.{not-stamp, circular-low, hit-passed, hit-other, hit-base, hit-low, hit-far, hit-near}
 use Rattle.log.proofs.search.hit_at.Statement.{statement}
 use Rattle.log.proofs.search.hit_at.Tie as tie
 
@@ -20,12 +20,14 @@ circular-requires c κs = search needs
 below : (c : tie.After-circular) → c .circular .result < c .before .before .args .slots
 below c = let a = c .before .before .args in rw (c .circular .ensures) (circular-low (a .slots) (a .next + a .distance) (omega arith))
 
-stamp-high-requires : tie.Need-stamp-high-requires
-stamp-high-requires c κs = omega (arith, below c)
+stamp-from-requires : tie.Need-stamp-from-requires
+stamp-from-requires c κs = omega (arith, below c)
 
 returns : tie.Need-returns
-returns c = let h = c .before in
-    hit-other _ _ _ _ _ _ _ _ _ (h .before .circular .ensures) refl (not-high _ _ _ (sym (h .stamp-high .ensures) ∙ not-true _ (c .if1 .taken)))
+returns c =
+    let h = c .before in
+    let p = h .before .before .before .pre .1 in
+    hit-passed _ _ _ _ _ _ _ _ _ (h .before .circular .ensures) (p .0) (p .1 .1 .1) (p .1 .0) (sym (h .stamp-from .ensures) ∙ not-true _ (c .if1 .taken))
 
 slot-at-requires : tie.Need-slot-at-requires
 slot-at-requires c κs = omega (arith, below (c .before .before))
@@ -92,5 +94,5 @@ returns-6 c =
 pub hit-at-spec : {M : Type 1} → statement M
 hit-at-spec =
     tie.close
-    (tie.spec add-circular circular-requires stamp-high-requires returns slot-at-requires enum-known-content returns-2
+    (tie.spec add-circular circular-requires stamp-from-requires returns slot-at-requires enum-known-content returns-2
     returns-3 returns-4 add-if4 returns-5 entries-whole-requires returns-6)
