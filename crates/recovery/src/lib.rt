@@ -207,11 +207,12 @@ fn recover_by(
 // Recovers an image of the former length from non-volatile memory alone, making at most `limit` stores to it; cache and
 // flags are not read. The record that it returns has the lag limit that it is given.
 // One pass over all slots counts the torn ones and makes an array of timestamps with a winner tree for each lane (up to
-// 20 KB of stack). Each lane's are tried from the greatest down, up to its latest sequence; then all from the boundary
-// on are taken from the greatest down. Each one tried or taken costs the reading of its sequence, a step for each level
-// of its tree, at most 8, and where it is taken a look at each lane. A store is made for each entry undone, one for the
-// base and one for each log word that is not 0 already, all of them whole words in this order, and where it finishes
-// the image is passed over once.
+// 20 KB of stack); a timestamp without its last entry is left out. Each lane's are tried from the greatest down, up to
+// its latest sequence; then all from the boundary on are taken from the greatest down. Each one tried or taken costs
+// the reading of its sequence, a step for each level of its tree, at most 8, and where it is taken a look at each lane,
+// unless its lane has the timestamp that was taken before it. A store is made for each entry undone, one for the base
+// and one for each log word that is not 0 already, all of them whole words in this order, and where it finishes the
+// image is passed over once.
 pub fn recover(
     sizes: Sizes,
     lag: u64,

@@ -6,11 +6,11 @@ ghost use lib.ListN.{length};
 ghost use Rattle.winners.specs.inner.Winners.{Tournament};
 ghost use Rattle.image.specs.Image.{logOf};
 ghost use Rattle.image.specs.inner.Facts.{IsImage, IsLog};
-ghost use Rattle.log.specs.Log.{latestIn, contribution};
+ghost use Rattle.log.specs.Log.{slotAt, latestIn, contribution};
 ghost use Rattle.record.specs.Record.{lesser};
 ghost use Rattle.recovery.specs.Recovery.{boundary as boundaryOf, wholeStamp, greatestBelow, newBase};
 ghost use Rattle.recovery.specs.Recovery.{oneIfTorn, tornBelow, tornIn};
-ghost use Rattle.recovery.specs.inner.Picking.{countOf, wrapOf, offered as offeredOf, Offers, LaneRoom, Offering};
+ghost use Rattle.recovery.specs.inner.Picking.{countOf, wrapOf, lacksLast, offerAt, Offers, LaneRoom, Offering};
 ghost use Rattle.recovery.specs.inner.Picking.{Tournaments, lapAt, lapBelow};
 use image::Sizes;
 use log::Sequence;
@@ -84,11 +84,35 @@ fn greater(a: u64, b: u64) -> u64
     if a < b { b } else { a }
 }
 
-// A whole timestamp above the base, 0 for any other.
-fn offered(base: u64, stamp: u64) -> u64
-    ensures { λ r. ⌜ r ≡ offeredOf base stamp ⌝ }
+// Does slot j close entries, with this wrap bit, though the slot before it is not the last of them?
+fn lacks(sizes: Sizes, log: &[u64], j: usize, count: usize, wrap: u64) -> bool
+    requires { ⌜ IsLog (sizes .slots) (now log) ⌝ }
+    requires { ⌜ j < sizes .slots ⌝ }
+    requires { ⌜ wrap ≤ 1 ⌝ }
+    ensures { λ r. ⌜ r ≡ lacksLast (sizes .words) (sizes .slots) (now (log .entry)) j count wrap ⌝ }
 {
-    if base < stamp { stamp } else { 0 }
+    if count == 0 {
+        return false;
+    }
+    !log::entry_back(log, sizes.words, sizes.slots, j, wrap, 1)
+}
+
+// What slot j offers, which says this: a whole timestamp above the base, 0 for any other, and where it lacks its last
+// entry. Such a one is not complete, and would have to be tried and dropped from the tree.
+fn offered(sizes: Sizes, log: &[u64], base: u64, j: usize, content: Content) -> u64
+    requires { ⌜ IsLog (sizes .slots) (now log) ⌝ }
+    requires { ⌜ j < sizes .slots ⌝ }
+    requires { ⌜ content ≡ slotAt (sizes .words) (now log) j ⌝ }
+    ensures { λ r. ⌜ r ≡ offerAt (sizes .words) (sizes .slots) base (now (log .entry)) j content ⌝ }
+{
+    let stamp = whole_stamp(content);
+    if stamp <= base {
+        return 0;
+    }
+    if lacks(sizes, log, j, count_of(content), wrap_of(content)) {
+        return 0;
+    }
+    stamp
 }
 
 // One pass over a lane's slots: what each offers, and what they hold.
@@ -107,9 +131,8 @@ fn offer(sizes: Sizes, nvm: &[u64], lane: usize, stamps: &mut [u64]) -> Seen
     let mut torn = 0;
     for j in 0..sizes.slots {
         let content = log::slot_at(log, sizes.words, j);
-        let stamp = whole_stamp(content);
-        stamps[j] = offered(base, stamp);
-        greatest = greater(greatest, stamp);
+        stamps[j] = offered(sizes, log, base, j, content);
+        greatest = greater(greatest, whole_stamp(content));
         torn += one_if_torn(content);
     }
     Seen { greatest, torn }

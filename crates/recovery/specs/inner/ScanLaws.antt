@@ -1,20 +1,20 @@
 -- Inner: how the code goes, need not be believed. Laws of reading the logs: what a slot offers, a lane's timestamps tried from the greatest down, and
 -- the lanes one after another: the boundary, the new base, the torn slots. Assumes nothing.
-use mathlib.Core.Path.{_≡_, refl, sym, ap, subst, _∙_}
+use mathlib.Core.Path.{_≡_, refl, sym, ap, ap₂, subst, _∙_}
 use mathlib.Core.Logic.{_≢_}
-use mathlib.Core.Bool.{true, false}
+use mathlib.Core.Bool.{Bool, true, false}
 use mathlib.Core.List.{List}
 use Prim.Native.Nat.{ℕ, zero, suc, _+_, _-_, _*_, max, _≤_, _<_}
 use native.Mathlib.Omega.{arith}
 use native.Mathlib.Numerals.{add-one}
 use native.Mathlib.Nat.{add-sub-cancel-left}
-use lib.Dec.{ltb, eqb}
+use lib.Dec.{leb, ltb, eqb}
 use lib.ListN.{length, getD, set, length-set}
 use lib.Seq.{getD-set-same, getD-set-other}
 use borrow.Author.Count.{below-none, below-more}
-use borrow.Author.Tests.{ltb-true, lt-ltb, eqb-true, eqb-false}
+use borrow.Author.Tests.{ltb-true, lt-ltb, le-ltb, leb-true, leb-false, le-leb, lt-leb, eqb-true, eqb-false, not-true}
 use borrow.Rule.Slice.PartMut.{putMid}
-use Rattle.laws.specs.inner.Tests.{split}
+use Rattle.laws.specs.inner.Tests.{split, clash}
 use Rattle.winners.specs.inner.Winners.{AtMost, greatestAt, Tournament}
 use Rattle.winners.specs.inner.GreatestLaws.{greatest-low, greatest-most}
 use Rattle.slot.specs.declared.Content.{Content}
@@ -35,7 +35,7 @@ use Rattle.log.specs.declared.Latest.the-variants.{Nothing, Is}
 use Rattle.record.specs.Record.{lesser}
 use Rattle.recovery.specs.Recovery.{boundaryBelow, boundary, wholeStamp, greatestBelow, greatestOf, newBase}
 use Rattle.recovery.specs.Recovery.{oneIfTorn, tornBelow, tornOf, tornIn}
-use Rattle.recovery.specs.inner.Picking.{countOf, wrapOf, offered, lapBelow, Offers, partOf, Offering, Tournaments}
+use Rattle.recovery.specs.inner.Picking.{countOf, wrapOf, offered, lacksLast, offerAt, lapBelow, Offers, partOf, Offering, Tournaments}
 use Rattle.recovery.specs.inner.PickingLaws.{not-above, is-below}
 use Rattle.recovery.specs.inner.LanesLaws.{numbers-small, lane-inside, put-here, put-other, trees-put}
 
@@ -65,6 +65,58 @@ module _ (W N base : ℕ) (log : List ℕ) (j : ℕ) where
       by Nothing e = refl
       by (Is q) e = let c = closed-from W N base log j q e in absurd (omega (arith, closed-offered q c, c .above))
 
+  pub wrap-low : (c : Content) → c ≡ slotAt W log j → wrapOf c ≤ 1
+  unfolding wrapOf
+  wrap-low Empty e = omega arith
+  wrap-low Torn e = omega arith
+  wrap-low (Entry i v p) e = omega arith
+  wrap-low (Stamp n s p) e = stamp-in W log j n s p (sym e) .wrap
+
+  -- what is offered before any is tried, as the code's tests tell
+  module _ (c : Content) where
+    pub offer-low : {s : ℕ} → s ≡ wholeStamp c → s ≤ base → 0 ≡ offerAt W N base log j c
+    unfolding offerAt
+    offer-low d h = rw (← d, le-leb _ _ h)
+
+    module _ {s n p : ℕ} {b : Bool} (d : s ≡ wholeStamp c) (h : base < s) (f : n ≡ countOf c) (g : p ≡ wrapOf c) (k : b ≡ lacksLast W N log j n p) where
+      pub offer-lacks : b ≡ true → 0 ≡ offerAt W N base log j c
+      unfolding offerAt
+      offer-lacks t = rw (← d, lt-leb _ _ h, ← f, ← g, ← k, t)
+
+      pub offer-stamp : b ≡ false → s ≡ offerAt W N base log j c
+      unfolding offerAt
+      offer-stamp t = rw (← d, lt-leb _ _ h, ← f, ← g, ← k, t)
+
+  -- one that lacks its last entry is not complete
+  lacks-none : (c : Content) → c ≡ slotAt W log j → lacksLast W N log j (countOf c) (wrapOf c) ≡ true → closedAt W N base log j ≡ Nothing
+  unfolding lacksLast countOf wrapOf
+  lacks-none Empty e h = clash false h refl
+  lacks-none Torn e h = clash false h refl
+  lacks-none (Entry i v p) e h = clash false h refl
+  lacks-none (Stamp n s p) e h =
+      split (eqb n 0)
+      (λ t. clash false (rw t at h) refl)
+      (λ t. sym (closed-bad W N base log j e refl 0 (omega (arith, eqb-false n 0 t)) (not-true _ (rw t at h))))
+
+  -- what is offered is the timestamp, or 0, and 0 only where no sequence is complete
+  offer-some : (c : Content) → offerAt W N base log j c ≢ 0 → offerAt W N base log j c ≡ offered base (wholeStamp c)
+  unfolding offerAt offered
+  offer-some c h =
+      split (leb (wholeStamp c) base)
+      (λ e. absurd (h (rw e)))
+      (λ e. split (lacksLast W N log j (countOf c) (wrapOf c))
+      (λ f. absurd (h (rw (e, f))))
+      (λ f. rw (e, f, lt-ltb base (wholeStamp c) (leb-false _ _ e))))
+
+  offer-none : (c : Content) → c ≡ slotAt W log j → offerAt W N base log j c ≡ 0 → closedAt W N base log j ≡ Nothing
+  unfolding offerAt offered
+  offer-none c e h =
+      split (leb (wholeStamp c) base)
+      (λ d. offered-none (rw (← e, le-ltb base (wholeStamp c) (leb-true _ _ d))))
+      (λ d. split (lacksLast W N log j (countOf c) (wrapOf c))
+      (λ f. lacks-none c e f)
+      (λ f. let z : wholeStamp c ≡ 0 = rw (d, f) at h in absurd (omega (arith, leb-false (wholeStamp c) base d))))
+
 -- ---- no more slots are torn than there are
 one-low : (c : Content) → oneIfTorn c ≤ 1
 unfolding oneIfTorn
@@ -92,7 +144,8 @@ count-low z ok image L torn t h l e =
 -- ---- the pass over a lane's slots, up to slot j
 pub record OfferedTo (z : Sizes) (image : List ℕ) (L j : ℕ) (s : List ℕ) (most torn : ℕ) : Type 0 where
   pub long : length s ≡ z .slots
-  pub stamps : (i : ℕ) → i < j → getD s i 0 ≡ offered (baseOf image) (wholeStamp (slotAt (z .words) (logOf z L image) i))
+  pub stamps : (i : ℕ) → i < j
+      → getD s i 0 ≡ offerAt (z .words) (z .slots) (baseOf image) (logOf z L image) i (slotAt (z .words) (logOf z L image) i)
   pub whole : most ≡ greatestBelow (z .words) (logOf z L image) j
   pub counted : torn ≡ tornBelow (z .words) (logOf z L image) j
 
@@ -102,7 +155,8 @@ module _ (z : Sizes) (image : List ℕ) (L : ℕ) where
   offered-start s e =
       record {
         long = e;
-        stamps = below-none (λ i. getD s i 0 ≡ offered (baseOf image) (wholeStamp (slotAt (z .words) (logOf z L image) i)));
+        stamps = below-none (λ i. getD s i 0
+            ≡ offerAt (z .words) (z .slots) (baseOf image) (logOf z L image) i (slotAt (z .words) (logOf z L image) i));
         whole = refl;
         counted = refl;
       }
@@ -111,17 +165,19 @@ module _ (z : Sizes) (image : List ℕ) (L : ℕ) where
   offered-low j s most torn r c t e = omega (arith, r .counted, below-low (z .words) (logOf z L image) j, e, one-low c)
 
   pub offered-more : (j : ℕ) (s : List ℕ) (most torn : ℕ) → OfferedTo z image L j s most torn → j < z .slots
-      → (c : Content) (w v m t : ℕ) → c ≡ slotAt (z .words) (logOf z L image) j → w ≡ wholeStamp c → v ≡ offered (baseOf image) w
-      → m ≡ max most w → t ≡ oneIfTorn c → OfferedTo z image L (j + 1) (set s j v) m (torn + t)
+      → (c : Content) (w v m t : ℕ) → c ≡ slotAt (z .words) (logOf z L image) j → w ≡ wholeStamp c
+      → {log : List ℕ} → log ≡ logOf z L image → v ≡ offerAt (z .words) (z .slots) (baseOf image) log j c → m ≡ max most w → t ≡ oneIfTorn c
+      → OfferedTo z image L (j + 1) (set s j v) m (torn + t)
   unfolding greatestBelow tornBelow
-  offered-more j s most torn r h c w v m t e₁ e₂ e₃ e₄ e₅ =
+  offered-more j s most torn r h c w v m t e₁ e₂ e₆ e₃ e₄ e₅ =
       let d : w ≡ wholeStamp (slotAt (z .words) (logOf z L image) j) = e₂ ∙ ap wholeStamp e₁ in
       let f : t ≡ oneIfTorn (slotAt (z .words) (logOf z L image) j) = e₅ ∙ ap oneIfTorn e₁ in
       record {
         long = length-set s j v ∙ r .long;
-        stamps = below-more (λ i. getD (set s j v) i 0 ≡ offered (baseOf image) (wholeStamp (slotAt (z .words) (logOf z L image) i))) j
+        stamps = below-more (λ i. getD (set s j v) i 0
+            ≡ offerAt (z .words) (z .slots) (baseOf image) (logOf z L image) i (slotAt (z .words) (logOf z L image) i)) j
             (λ i l. getD-set-other s j i v 0 (λ e. omega arith) ∙ r .stamps i l)
-            (getD-set-same s j v 0 (rw (r .long) h) ∙ e₃ ∙ ap (offered (baseOf image)) d);
+            (getD-set-same s j v 0 (rw (r .long) h) ∙ e₃ ∙ ap₂ (λ l x. offerAt (z .words) (z .slots) (baseOf image) l j x) e₆ e₁);
         whole = rw add-one (omega (arith, d, e₄, r .whole));
         counted = rw add-one (omega (arith, f, r .counted));
       }
@@ -131,8 +187,10 @@ module _ (z : Sizes) (image : List ℕ) (L : ℕ) where
   offered-all j s most torn r e = (
     record {
       long = r .long;
-      some = λ i h _. r .stamps i (rw e h);
-      every = λ i h d. offered-none (z .words) (z .slots) (baseOf image) (logOf z L image) i (sym (r .stamps i (rw e h)) ∙ d);
+      some = λ i h d. let f = r .stamps i (rw e h) in
+          f ∙ offer-some (z .words) (z .slots) (baseOf image) (logOf z L image) i (slotAt (z .words) (logOf z L image) i) (λ n. d (f ∙ n));
+      every = λ i h d. offer-none (z .words) (z .slots) (baseOf image) (logOf z L image) i (slotAt (z .words) (logOf z L image) i) refl
+          (sym (r .stamps i (rw e h)) ∙ d);
     },
     r .whole ∙ ap (greatestBelow (z .words) (logOf z L image)) e,
     r .counted ∙ ap (tornBelow (z .words) (logOf z L image)) e,

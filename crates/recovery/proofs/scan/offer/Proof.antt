@@ -43,17 +43,17 @@ loop-holds c = (search needs, offered-start _ _ _ _ (search needs))
 slot-at-requires : tie.Need-slot-at-requires Inv-loop μ-loop
 slot-at-requires c κs = omega (arith, c .before .before .log-part .ensures .1 .in-log)
 
-whole-stamp-requires : tie.Need-whole-stamp-requires Inv-loop μ-loop
-whole-stamp-requires c κs = search needs
-
 offered-requires : tie.Need-offered-requires Inv-loop μ-loop
-offered-requires c κs = search needs
+offered-requires c κs = let l = c .before .before in (l .before .log-part .ensures .1, (search needs, c .slot-at .ensures))
 
 mul-stamps : tie.Need-mul-stamps Inv-loop μ-loop
-mul-stamps c = omega (arith, sizes-in _ (start (c .before .before .before .before) .pre .0 .sizes-ok) .slots-high)
+mul-stamps c = omega (arith, sizes-in _ (start (c .before .before .before) .pre .0 .sizes-ok) .slots-high)
 
 slice-write-stamps : tie.Need-slice-write-stamps Inv-loop μ-loop
-slice-write-stamps c = omega (arith, c .before .before .before .before .loop .inv .1 .long)
+slice-write-stamps c = omega (arith, c .before .before .before .loop .inv .1 .long)
+
+whole-stamp-requires : tie.Need-whole-stamp-requires Inv-loop μ-loop
+whole-stamp-requires c κs = search needs
 
 greater-requires : tie.Need-greater-requires Inv-loop μ-loop
 greater-requires c κs = search needs
@@ -81,13 +81,13 @@ loop-again : tie.Need-loop-again Inv-loop μ-loop
 unfolding baseOf
 loop-again c =
     let g = c .before in
-    let o = g .before in
-    let w = o .before in
-    let s = w .before in
+    let w = g .before in
+    let o = w .before in
+    let s = o .before in
     let l = s .before .before .loop in (
       search needs,
       offered-more _ _ _ (l .j) (l .stamps) (l .greatest) (l .torn) (l .inv .1) (search needs) _ _ _ _ _ (reads s) (w .whole-stamp .ensures)
-          (o .offered .ensures) (g .greater .ensures) (c .one-if-torn .ensures),
+          (s .before .before .before .log-part .ensures .0) (o .offered .ensures) (g .greater .ensures) (c .one-if-torn .ensures),
     )
 
 same-length : tie.Need-same-length Inv-loop μ-loop
@@ -102,6 +102,6 @@ returns c =
 pub offer-spec : {M : Type 1} → statement M
 offer-spec =
     tie.close
-    (tie.spec Inv-loop μ-loop shared-slice-read-base log-part-requires loop-holds slot-at-requires whole-stamp-requires
-    offered-requires mul-stamps slice-write-stamps greater-requires one-if-torn-requires
+    (tie.spec Inv-loop μ-loop shared-slice-read-base log-part-requires loop-holds slot-at-requires offered-requires
+    mul-stamps slice-write-stamps whole-stamp-requires greater-requires one-if-torn-requires
     add-torn add-j loop-less loop-again same-length returns)
