@@ -1,40 +1,39 @@
 // The calls that append a sequence to a lane's log: Log, which settles the lane where it is given no words, and Mark.
 ghost use mathlib.Core.Path.{_≡_};
 ghost use mathlib.Core.Bool.{true};
-ghost use mathlib.Core.List.{List, []};
-ghost use Prim.Native.Nat.{ℕ, _+_};
+ghost use mathlib.Core.List.{List, [], _++_};
+ghost use Prim.Native.Nat.{ℕ, _+_, _<_};
 ghost use lib.ListN.{length, take};
 ghost use Rattle.txn.specs.Txn.{maxWrites, txnOk, run};
 ghost use Rattle.txn.specs.inner.Writes.{writesOf};
-ghost use Rattle.image.specs.Image.{dataOf, logStart};
+ghost use Rattle.image.specs.Image.{maxLanes, dataOf, logStart};
 ghost use Rattle.image.specs.inner.Facts.{IsImage};
 ghost use Rattle.image.specs.Flush.{flushAll};
 ghost use Rattle.image.specs.Stores.{stored, places};
 ghost use Rattle.log.specs.Log.{latestIn};
 ghost use Rattle.log.specs.Append.{advance, appendStores};
-ghost use Rattle.record.specs.Record.{cursorOf, appendedLane};
-ghost use Rattle.store.specs.Calls.{writesOn, logRefusal, logStep, markRefusal, markStep};
-ghost use Rattle.store.specs.Interface.{machineOf, stepOf};
+ghost use Rattle.codec.specs.Fields.{recordLength, recordOf, wordsOf};
+ghost use Rattle.store.specs.Calls.{logRefusal, logStep, markRefusal, markStep};
+ghost use Rattle.store.specs.declared.Answer.{Answer};
+ghost use Rattle.store.specs.Machine.{said};
+ghost use Rattle.store.specs.Interface.{machineOf, machineIn, keptBy, keeps};
 ghost use Rattle.store.specs.inner.Checked.{drainedState};
-ghost use Rattle.append.specs.inner.Plans.{roomRefusal, logChecks, Planned, Searchable, Appendable, AfterDrain};
-ghost use Rattle.append.specs.inner.Plans.{loggedStep, settledStep};
+ghost use Rattle.append.specs.inner.Plans.{roomRefusal, logChecks, logRoom, Planned, Searchable, Appendable};
+ghost use Rattle.append.specs.inner.Plans.{AfterDrain, appendedState, loggedStep, markedStep};
+use codec::RECORD_WORDS;
 use image::Sizes;
+use log::Cursor;
 use log::Latest;
-use record::Lane;
-use record::Pair;
 use record::Phase;
-use record::Record;
 use store::Answer;
 use store::Appended;
 use store::Marked;
-use store::Outcome;
 use txn::Writes;
 
-// What Log or Mark would do: the number of its refusal or 0, and, where it is 0, the transaction's writes and the
-// lane's latest sequence, from which its drain takes the floor.
+// What Log or Mark would do: the number of its refusal or 0, and, where it is 0, the lane's latest sequence, from which
+// its drain takes the floor.
 struct Plan {
     number: u64,
-    writes: Writes,
     latest: Latest,
 }
 
@@ -58,33 +57,40 @@ fn none() -> Writes
 // the append writes and 16 more.
 pub fn append_refusal(
     sizes: Sizes,
-    state: Record,
+    words: &[u64],
     latest: Latest,
     cache: &[u64],
     lane: usize,
     count: usize,
     binds: bool,
 ) -> u64
-    requires { ⌜ Searchable sizes state latest (now cache) lane count ⌝ }
-    ensures { λ r. ⌜ r ≡ roomRefusal sizes state (now (cache .entry)) lane count binds ⌝ }
+    requires { ⌜ length (now words) ≡ recordLength ⌝ }
+    requires { ⌜ Searchable sizes (recordOf (now words)) latest (now cache) lane count ⌝ }
+    ensures { λ r. ⌜ r
+        ≡ roomRefusal sizes (recordOf (now (words .entry))) (now (cache .entry)) lane count binds ⌝ }
 {
-    // all that is read by index is read from this one copy of the record
-    let drained = record::drained(state, lane, latest);
-    let bound = record::bound_of(sizes, drained);
-    let at = drained.lanes[lane];
-    if record::spent(state) {
+    if codec::read::spent(words) {
         return 8;
     }
-    if binds && record::lag_passed(state.lag, state.clock + 2, bound) {
+    let floor = record::floor_after_drain(latest, codec::read::floor(words, lane));
+    let bound = codec::read::bound(sizes, words, lane, floor);
+    if binds
+        && record::lag_passed(
+            codec::read::lag(words),
+            codec::read::clock(words) + 2,
+            bound,
+        )
+    {
         return 15;
     }
+    let cursor = codec::read::cursor(words, lane);
     let log = image::log_part(sizes, cache, lane);
     if log::search::would_hit(
         log,
         sizes.words,
         sizes.slots,
         cache[0],
-        at.next,
+        cursor.slot,
         count,
         bound,
     ) {
@@ -96,8 +102,7 @@ pub fn append_refusal(
 // Log's refusals before it runs the transaction. No words are no transaction to be checked.
 fn log_checks(
     sizes: Sizes,
-    state: Record,
-    pairs: &[u64],
+    state: &[u64],
     cache: &[u64],
     nvm: &[u64],
     flags: &[u8],
@@ -105,77 +110,63 @@ fn log_checks(
     txn: &[u64],
 ) -> u64
     ensures { λ r. ⌜ r ≡ logChecks sizes lane (now (txn .entry))
-        (machineOf state (now (pairs .entry)) (now (cache .entry)) (now (nvm .entry)) (now (flags .entry))) ⌝ }
+        (machineIn (now (state .entry)) (now (cache .entry)) (now (nvm .entry)) (now (flags .entry))) ⌝ }
 {
-    let number = store::drain_refusal(sizes, state, pairs, cache, nvm, flags, lane);
+    let number = store::drain_refusal(sizes, state, cache, nvm, flags, lane);
     if number != 0 {
         return number;
     }
     if txn.len() != 0 && !txn::txn_ok(txn, sizes.words, txn::MAX_WRITES) {
         return 5;
     }
-    let at = state.lanes[lane];
-    let phase = at.phase;
+    let words = &state[..RECORD_WORDS];
+    let phase = codec::read::phase(words, lane);
     if record::is_logged(phase) {
         return 6;
     }
-    let lock = state.lock;
+    let lock = codec::read::lock(words);
     if record::is_held(lock) {
         return 11;
     }
     0
 }
 
-// The writes of a transaction on the cached data words; no words write nothing.
-fn writes_of(sizes: Sizes, cache: &[u64], txn: &[u64]) -> Writes
+// How much a transaction writes on the cached data words; no words write nothing.
+fn count_of(sizes: Sizes, cache: &[u64], txn: &[u64]) -> usize
     requires { ⌜ IsImage sizes (now cache) ⌝ }
     requires { ⌜ ((length (now txn) ≡ 0 → ⊥) → txnOk maxWrites (sizes .words) (now txn) ≡ true) ⌝ }
-    ensures { λ r. ⌜ r ≡ writesOf maxWrites
-        (run (sizes .words) (now (txn .entry)) (dataOf sizes (now (cache .entry)))) ⌝ }
+    ensures { λ r. ⌜ r ≡ length (run (sizes .words) (now (txn .entry)) (dataOf sizes (now (cache .entry)))) ⌝ }
 {
     if txn.len() == 0 {
-        return none();
+        return 0;
     }
-    store::writes_on(sizes, cache, txn)
+    let writes = store::writes_on(sizes, cache, txn);
+    writes.count
 }
 
+// What a Log would do that its checks do not refuse and that has this many writes: an append, where it settles the lane
+// or writes.
 fn plan_log(
     sizes: Sizes,
-    state: Record,
-    pairs: &[u64],
+    words: &[u64],
     cache: &[u64],
-    nvm: &[u64],
-    flags: &[u8],
     lane: usize,
-    txn: &[u64],
+    settles: bool,
+    count: usize,
 ) -> Plan
+    requires { ⌜ length (now words) ≡ recordLength ⌝ }
+    requires { ⌜ Searchable sizes (recordOf (now words)) (latestIn sizes (now cache) lane) (now cache) lane
+        (count + 1) ⌝ }
     ensures { λ r. ⌜ Planned r
-        (logRefusal sizes lane (now (txn .entry))
-        (machineOf state (now (pairs .entry)) (now (cache .entry)) (now (nvm .entry)) (now (flags .entry))))
-        (writesOn sizes (now (txn .entry))
-        (machineOf state (now (pairs .entry)) (now (cache .entry)) (now (nvm .entry)) (now (flags .entry))))
+        (logRoom sizes (recordOf (now (words .entry))) (now (cache .entry)) lane settles count)
         (latestIn sizes (now (cache .entry)) lane) ⌝ }
 {
-    let number = log_checks(sizes, state, pairs, cache, nvm, flags, lane, txn);
-    if number != 0 {
-        return Plan {
-            number,
-            writes: none(),
-            latest: Latest::Nothing,
-        };
-    }
-    let writes = writes_of(sizes, cache, txn);
-    let latest = store::latest_in(sizes, cache, lane);
-    if txn.len() != 0 && writes.count == 0 {
-        return Plan {
-            number: 0,
-            writes,
-            latest,
-        };
+    let latest = store::latest_near(sizes, words, cache, lane);
+    if !settles && count == 0 {
+        return Plan { number: 0, latest };
     }
     Plan {
-        number: append_refusal(sizes, state, latest, cache, lane, writes.count + 1, true),
-        writes,
+        number: append_refusal(sizes, words, latest, cache, lane, count + 1, true),
         latest,
     }
 }
@@ -183,8 +174,7 @@ fn plan_log(
 // The number of Log's refusal, or 0.
 pub fn log_refusal(
     sizes: Sizes,
-    state: Record,
-    pairs: &[u64],
+    state: &[u64],
     cache: &[u64],
     nvm: &[u64],
     flags: &[u8],
@@ -192,38 +182,40 @@ pub fn log_refusal(
     txn: &[u64],
 ) -> u64
     ensures { λ r. ⌜ r ≡ logRefusal sizes lane (now (txn .entry))
-        (machineOf state (now (pairs .entry)) (now (cache .entry)) (now (nvm .entry)) (now (flags .entry))) ⌝ }
+        (machineIn (now (state .entry)) (now (cache .entry)) (now (nvm .entry)) (now (flags .entry))) ⌝ }
 {
-    let plan = plan_log(sizes, state, pairs, cache, nvm, flags, lane, txn);
+    let number = log_checks(sizes, state, cache, nvm, flags, lane, txn);
+    if number != 0 {
+        return number;
+    }
+    let count = count_of(sizes, cache, txn);
+    let settles = txn.len() == 0;
+    let plan = plan_log(sizes, &state[..RECORD_WORDS], cache, lane, settles, count);
     plan.number
 }
 
-// A sequence of these writes at this timestamp, appended to a lane that is drained: the lane then, with this phase and
-// redo log. All cached changes of an append are made here, and no non-volatile memory is lent: it stores no cell.
-pub fn appended(
+// A sequence of these writes at this timestamp, appended to a lane's log at a cursor; the place after it. All cached
+// changes of an append are made here, and no non-volatile memory is lent: it stores no cell.
+pub fn append(
     sizes: Sizes,
-    drained: Lane,
     cache: &mut [u64],
     flags: &mut [u8],
     lane: usize,
     writes: Writes,
     stamp: u64,
-    phase: Phase,
-    redo: [Pair; txn::MAX_WRITES],
-) -> Lane
-    requires { ⌜ Appendable sizes drained (now cache) (now flags) lane writes stamp ⌝ }
-    ensures after { λ r. ⌜ r ≡ appendedLane stamp
-        (advance (sizes .slots) (writes .count + 1) (cursorOf drained)) phase redo drained ⌝ }
+    cursor: Cursor,
+) -> Cursor
+    requires { ⌜ Appendable sizes cursor (now cache) (now flags) lane writes stamp ⌝ }
+    ensures after { λ r. ⌜ r ≡ advance (sizes .slots) (writes .count + 1) cursor ⌝ }
     ensures written { λ r. ⌜ now (cache .exit)
-        ≡ stored (appendStores (logStart sizes lane) (sizes .slots) stamp (cursorOf drained)
+        ≡ stored (appendStores (logStart sizes lane) (sizes .slots) stamp cursor
         (take (writes .count) (writes .list))) (now (cache .entry)) ⌝ }
     ensures flushed { λ r. ⌜ now (flags .exit)
-        ≡ flushAll lane (places (appendStores (logStart sizes lane) (sizes .slots) stamp (cursorOf drained)
+        ≡ flushAll lane (places (appendStores (logStart sizes lane) (sizes .slots) stamp cursor
         (take (writes .count) (writes .list)))) (now (flags .entry)) ⌝ }
 {
     let start = image::log_start(sizes, lane);
-    let cursor = record::cursor_of(drained);
-    let end = log::tail::append(
+    log::tail::append(
         cache,
         flags,
         start,
@@ -232,71 +224,155 @@ pub fn appended(
         writes,
         stamp,
         cursor,
+    )
+}
+
+// Stores the record after an append at a new timestamp, which ended at a cursor and leaves the lane with this phase.
+// Before it the lane was drained, and its latest sequence found.
+fn put_appended(
+    words: &mut [u64],
+    lane: usize,
+    latest: Latest,
+    stamp: u64,
+    end: Cursor,
+    phase: Phase,
+)
+    requires { ⌜ length (now words) ≡ recordLength ⌝ }
+    requires { ⌜ lane < maxLanes ⌝ }
+    ensures { λ r. ⌜ now (words .exit)
+        ≡ wordsOf (appendedState (recordOf (now (words .entry))) lane latest stamp end phase) ⌝ }
+{
+    let floor = record::floor_after_drain(latest, codec::read::floor(words, lane));
+    codec::write::set_clock(words, stamp);
+    codec::write::set_head(
+        words,
+        lane,
+        phase,
+        end,
+        record::floor_after_append(stamp, floor),
     );
-    record::appended_lane(stamp, end, phase, redo, drained)
+    codec::write::normalise(words);
 }
 
 // Log of a transaction that writes, once its lane is drained. The record is still the one before the drain.
 fn log_writes(
     sizes: Sizes,
-    state: Record,
+    words: &mut [u64],
     latest: Latest,
     cache: &mut [u64],
     flags: &mut [u8],
     lane: usize,
     writes: Writes,
-) -> Outcome
-    requires { ⌜ AfterDrain sizes state latest (now cache) (now flags) lane writes ⌝ }
-    ensures { λ r. ⌜ ((pairs nvm : List ℕ)
-        → stepOf r pairs (now (cache .exit)) nvm (now (flags .exit))
-        ≡ loggedStep sizes lane (take (writes .count) (writes .list))
-        (machineOf (drainedState sizes (now (cache .entry)) lane state) pairs (now (cache .entry)) nvm
-        (now (flags .entry)))) ⌝ }
+) -> Answer
+    requires { ⌜ length (now words) ≡ recordLength ⌝ }
+    requires { ⌜ AfterDrain sizes (recordOf (now words)) latest (now cache) (now flags) lane writes ⌝ }
+    ensures { λ r. ⌜ ((before pairs nvm : List ℕ)
+        → keptBy r (now (words .exit) ++ pairs) (now (cache .exit)) nvm (now (flags .exit))
+        ≡ keeps before (loggedStep sizes lane (take (writes .count) (writes .list))
+        (machineOf (drainedState sizes (now (cache .entry)) lane (recordOf (now (words .entry)))) pairs
+        (now (cache .entry)) nvm (now (flags .entry))))) ⌝ }
 {
-    let old = state.lanes[lane];
-    let at = record::drained_lane(latest, old);
     let count = writes.count;
-    let stamp = state.clock + 2;
+    let stamp = codec::read::clock(words) + 2;
+    let cursor = codec::read::cursor(words, lane);
     let phase = Phase::Holds(record::Logged {
-        first: at.next,
+        first: cursor.slot,
         count,
         stamp,
     });
-    let redo = record::pairs_of(writes);
-    let after = appended(sizes, at, cache, flags, lane, writes, stamp, phase, redo);
-    Outcome {
-        answer: Answer::Logged(Appended { count, stamp }),
-        state: record::stamped(state, stamp, lane, after),
-    }
+    let end = append(sizes, cache, flags, lane, writes, stamp, cursor);
+    codec::write::set_redo(words, lane, record::pairs_of(writes));
+    put_appended(words, lane, latest, stamp, end, phase);
+    Answer::Logged(Appended { count, stamp })
 }
 
-// Log of no words, once its lane is drained: the mark that settles the lane. The record is still the one before the
-// drain.
-fn settle(
+// A mark on a drained lane, which then holds nothing: its timestamp. The record is still the one before the drain.
+fn put_mark(
     sizes: Sizes,
-    state: Record,
+    words: &mut [u64],
     latest: Latest,
     cache: &mut [u64],
     flags: &mut [u8],
     lane: usize,
-) -> Outcome
-    requires { ⌜ AfterDrain sizes state latest (now cache) (now flags) lane (writesOf maxWrites []) ⌝ }
-    ensures { λ r. ⌜ ((pairs nvm : List ℕ)
-        → stepOf r pairs (now (cache .exit)) nvm (now (flags .exit))
-        ≡ settledStep sizes lane
-        (machineOf (drainedState sizes (now (cache .entry)) lane state) pairs (now (cache .entry)) nvm
-        (now (flags .entry)))) ⌝ }
+) -> u64
+    requires { ⌜ length (now words) ≡ recordLength ⌝ }
+    requires { ⌜ AfterDrain sizes (recordOf (now words)) latest (now cache) (now flags) lane (writesOf maxWrites []) ⌝ }
+    ensures stamp { λ r. ⌜ r ≡ recordOf (now (words .entry)) .clock + 2 ⌝ }
+    ensures marked { λ r. ⌜ ((before pairs nvm : List ℕ) (answer : Answer) → said answer .number ≡ 0
+        → keptBy answer (now (words .exit) ++ pairs) (now (cache .exit)) nvm (now (flags .exit))
+        ≡ keeps before (markedStep sizes lane answer
+        (machineOf (drainedState sizes (now (cache .entry)) lane (recordOf (now (words .entry)))) pairs
+        (now (cache .entry)) nvm (now (flags .entry))))) ⌝ }
 {
-    let old = state.lanes[lane];
-    let at = record::drained_lane(latest, old);
-    let stamp = state.clock + 2;
-    let phase = Phase::Idle;
-    let redo = at.redo;
-    let after = appended(sizes, at, cache, flags, lane, none(), stamp, phase, redo);
-    Outcome {
-        answer: Answer::Settled(stamp),
-        state: record::stamped(state, stamp, lane, after),
+    let stamp = codec::read::clock(words) + 2;
+    let cursor = codec::read::cursor(words, lane);
+    let end = append(sizes, cache, flags, lane, none(), stamp, cursor);
+    put_appended(words, lane, latest, stamp, end, Phase::Idle);
+    stamp
+}
+
+// Log of no words, which its checks do not refuse.
+fn settle(
+    sizes: Sizes,
+    state: &mut [u64],
+    cache: &mut [u64],
+    nvm: &mut [u64],
+    flags: &mut [u8],
+    lane: usize,
+) -> Answer
+    requires { ⌜ logChecks sizes lane [] (machineIn (now state) (now cache) (now nvm) (now flags)) ≡ 0 ⌝ }
+    ensures { λ r. ⌜ keptBy r (now (state .exit)) (now (cache .exit)) (now (nvm .exit)) (now (flags .exit))
+        ≡ keeps (now (state .entry)) (logStep sizes lane []
+        (machineIn (now (state .entry)) (now (cache .entry)) (now (nvm .entry)) (now (flags .entry)))) ⌝ }
+{
+    let plan = plan_log(sizes, &state[..RECORD_WORDS], cache, lane, true, 0);
+    let number = plan.number;
+    let latest = plan.latest;
+    if number != 0 {
+        return Answer::Refused(number);
     }
+    image::flush::drain(lane, cache, nvm, flags);
+    let words = &mut state[..RECORD_WORDS];
+    Answer::Settled(put_mark(sizes, words, latest, cache, flags, lane))
+}
+
+// Log of a transaction, which its checks do not refuse.
+fn log_txn(
+    sizes: Sizes,
+    state: &mut [u64],
+    cache: &mut [u64],
+    nvm: &mut [u64],
+    flags: &mut [u8],
+    lane: usize,
+    txn: &[u64],
+) -> Answer
+    requires { ⌜ logChecks sizes lane (now txn) (machineIn (now state) (now cache) (now nvm) (now flags)) ≡ 0 ⌝ }
+    requires { ⌜ (length (now txn) ≡ 0 → ⊥) ⌝ }
+    ensures { λ r. ⌜ keptBy r (now (state .exit)) (now (cache .exit)) (now (nvm .exit)) (now (flags .exit))
+        ≡ keeps (now (state .entry)) (logStep sizes lane (now (txn .entry))
+        (machineIn (now (state .entry)) (now (cache .entry)) (now (nvm .entry)) (now (flags .entry)))) ⌝ }
+{
+    let writes = store::writes_on(sizes, cache, txn);
+    let plan = plan_log(
+        sizes,
+        &state[..RECORD_WORDS],
+        cache,
+        lane,
+        false,
+        writes.count,
+    );
+    let number = plan.number;
+    let latest = plan.latest;
+    if number != 0 {
+        return Answer::Refused(number);
+    }
+    image::flush::drain(lane, cache, nvm, flags);
+    let words = &mut state[..RECORD_WORDS];
+    if writes.count == 0 {
+        store::put_drained(words, lane, latest);
+        return Answer::NoWrites;
+    }
+    log_writes(sizes, words, latest, cache, flags, lane, writes)
 }
 
 // Logs a transaction: its run on the cached words is left as undo entries in the log and as the redo log in the record.
@@ -304,42 +380,30 @@ fn settle(
 // a look at up to 33 slots for a hit. No words settle the lane, at a Mark's cost.
 pub fn log(
     sizes: Sizes,
-    state: Record,
-    pairs: &[u64],
+    state: &mut [u64],
     cache: &mut [u64],
     nvm: &mut [u64],
     flags: &mut [u8],
     lane: usize,
     txn: &[u64],
-) -> Outcome
-    ensures { λ r. ⌜ stepOf r (now (pairs .entry)) (now (cache .exit)) (now (nvm .exit)) (now (flags .exit))
-        ≡ logStep sizes lane (now (txn .entry))
-        (machineOf state (now (pairs .entry)) (now (cache .entry)) (now (nvm .entry)) (now (flags .entry))) ⌝ }
+) -> Answer
+    ensures { λ r. ⌜ keptBy r (now (state .exit)) (now (cache .exit)) (now (nvm .exit)) (now (flags .exit))
+        ≡ keeps (now (state .entry)) (logStep sizes lane (now (txn .entry))
+        (machineIn (now (state .entry)) (now (cache .entry)) (now (nvm .entry)) (now (flags .entry)))) ⌝ }
 {
-    let plan = plan_log(sizes, state, pairs, cache, nvm, flags, lane, txn);
-    let number = plan.number;
-    let writes = plan.writes;
-    let latest = plan.latest;
+    let number = log_checks(sizes, state, cache, nvm, flags, lane, txn);
     if number != 0 {
-        return store::refused(number, state);
+        return Answer::Refused(number);
     }
-    image::flush::drain(lane, cache, nvm, flags);
     if txn.len() == 0 {
-        return settle(sizes, state, latest, cache, flags, lane);
+        return settle(sizes, state, cache, nvm, flags, lane);
     }
-    if writes.count == 0 {
-        return Outcome {
-            answer: Answer::NoWrites,
-            state: record::drained(state, lane, latest),
-        };
-    }
-    log_writes(sizes, state, latest, cache, flags, lane, writes)
+    log_txn(sizes, state, cache, nvm, flags, lane, txn)
 }
 
 fn plan_mark(
     sizes: Sizes,
-    state: Record,
-    pairs: &[u64],
+    state: &[u64],
     cache: &[u64],
     nvm: &[u64],
     flags: &[u8],
@@ -347,29 +411,27 @@ fn plan_mark(
 ) -> Plan
     ensures { λ r. ⌜ Planned r
         (markRefusal sizes lane
-        (machineOf state (now (pairs .entry)) (now (cache .entry)) (now (nvm .entry)) (now (flags .entry)))) []
+        (machineIn (now (state .entry)) (now (cache .entry)) (now (nvm .entry)) (now (flags .entry))))
         (latestIn sizes (now (cache .entry)) lane) ⌝ }
 {
-    let number = store::drain_refusal(sizes, state, pairs, cache, nvm, flags, lane);
+    let number = store::drain_refusal(sizes, state, cache, nvm, flags, lane);
     if number != 0 {
         return Plan {
             number,
-            writes: none(),
             latest: Latest::Nothing,
         };
     }
-    let lock = state.lock;
+    let words = &state[..RECORD_WORDS];
+    let lock = codec::read::lock(words);
     if record::is_held(lock) {
         return Plan {
             number: 11,
-            writes: none(),
             latest: Latest::Nothing,
         };
     }
-    let latest = store::latest_in(sizes, cache, lane);
+    let latest = store::latest_near(sizes, words, cache, lane);
     Plan {
-        number: append_refusal(sizes, state, latest, cache, lane, 1, false),
-        writes: none(),
+        number: append_refusal(sizes, words, latest, cache, lane, 1, false),
         latest,
     }
 }
@@ -377,17 +439,16 @@ fn plan_mark(
 // The number of Mark's refusal, or 0.
 pub fn mark_refusal(
     sizes: Sizes,
-    state: Record,
-    pairs: &[u64],
+    state: &[u64],
     cache: &[u64],
     nvm: &[u64],
     flags: &[u8],
     lane: usize,
 ) -> u64
     ensures { λ r. ⌜ r ≡ markRefusal sizes lane
-        (machineOf state (now (pairs .entry)) (now (cache .entry)) (now (nvm .entry)) (now (flags .entry))) ⌝ }
+        (machineIn (now (state .entry)) (now (cache .entry)) (now (nvm .entry)) (now (flags .entry))) ⌝ }
 {
-    let plan = plan_mark(sizes, state, pairs, cache, nvm, flags, lane);
+    let plan = plan_mark(sizes, state, cache, nvm, flags, lane);
     plan.number
 }
 
@@ -395,44 +456,26 @@ pub fn mark_refusal(
 // the lane's log, and a look at 17 slots.
 pub fn mark(
     sizes: Sizes,
-    state: Record,
-    pairs: &[u64],
+    state: &mut [u64],
     cache: &mut [u64],
     nvm: &mut [u64],
     flags: &mut [u8],
     lane: usize,
-) -> Outcome
-    ensures { λ r. ⌜ stepOf r (now (pairs .entry)) (now (cache .exit)) (now (nvm .exit)) (now (flags .exit))
-        ≡ markStep sizes lane
-        (machineOf state (now (pairs .entry)) (now (cache .entry)) (now (nvm .entry)) (now (flags .entry))) ⌝ }
+) -> Answer
+    ensures { λ r. ⌜ keptBy r (now (state .exit)) (now (cache .exit)) (now (nvm .exit)) (now (flags .exit))
+        ≡ keeps (now (state .entry)) (markStep sizes lane
+        (machineIn (now (state .entry)) (now (cache .entry)) (now (nvm .entry)) (now (flags .entry)))) ⌝ }
 {
-    let plan = plan_mark(sizes, state, pairs, cache, nvm, flags, lane);
+    let plan = plan_mark(sizes, state, cache, nvm, flags, lane);
     let number = plan.number;
-    let writes = plan.writes;
     let latest = plan.latest;
     if number != 0 {
-        return store::refused(number, state);
+        return Answer::Refused(number);
     }
     image::flush::drain(lane, cache, nvm, flags);
-    let old = state.lanes[lane];
-    let at = record::drained_lane(latest, old);
-    let phase = at.phase;
-    let redo = at.redo;
+    let words = &mut state[..RECORD_WORDS];
+    let phase = codec::read::phase(words, lane);
     let dropped = record::is_logged(phase);
-    let stamp = state.clock + 2;
-    let after = appended(
-        sizes,
-        at,
-        cache,
-        flags,
-        lane,
-        writes,
-        stamp,
-        Phase::Idle,
-        redo,
-    );
-    Outcome {
-        answer: Answer::Marked(Marked { stamp, dropped }),
-        state: record::stamped(state, stamp, lane, after),
-    }
+    let stamp = put_mark(sizes, words, latest, cache, flags, lane);
+    Answer::Marked(Marked { stamp, dropped })
 }

@@ -1,7 +1,6 @@
 // A call on the store and on the second implementation, from the same state, and the comparison of all that the two
 // leave.
 use crate::convert;
-use crate::regions::PAIR_WORDS;
 use crate::regions::ROOM;
 use crate::regions::SPOILED;
 use crate::regions::SPOILED_WORD;
@@ -10,6 +9,7 @@ use crate::regions::STORED;
 use crate::regions::STORED_CACHE;
 use crate::regions::STORED_FLAGS;
 use crate::regions::STORED_NVM;
+use codec::STATE_WORDS;
 use log::Timestamp;
 use recovery::Recovered;
 use recovery::Restart;
@@ -30,8 +30,10 @@ use second::words::USED;
 use second::words::get;
 use second::words::put;
 use store::Answer;
-use store::Outcome;
+ghost use mathlib.Core.Path.{_≡_};
 ghost use Prim.Native.Nat.{_≤_};
+ghost use lib.ListN.{length};
+ghost use Rattle.codec.specs.Fields.{stateLength};
 
 fn bit(is: bool) -> u64 {
     if is {
@@ -89,14 +91,6 @@ fn put_recovered(arena: &mut Arena, answer: Recovered) {
     }
 }
 
-// What a call leaves.
-fn put_outcome(arena: &mut Arena, outcome: Outcome) {
-    let answer = outcome.answer;
-    let state = outcome.state;
-    convert::put_record(arena, state);
-    put_answer(arena, answer);
-}
-
 fn put_restart(arena: &mut Arena, restart: Restart) {
     let answer = restart.answer;
     let state = restart.state;
@@ -113,39 +107,37 @@ fn lag(arena: &Arena) -> u64 {
 }
 
 // ---- the number that the store says beforehand a call will be refused with, or 0
-fn lane_refusal(arena: &Arena, pairs: &[u64], cache: &[u64], nvm: &[u64], flags: &[u8]) -> u64 {
+fn lane_refusal(arena: &Arena, state: &[u64], cache: &[u64], nvm: &[u64], flags: &[u8]) -> u64 {
     let sizes = convert::sizes(arena);
-    let state = convert::record(arena);
     let lane = number(arena);
     match get(arena, STATE, CODE) {
-        second::REDO => commit::redo_refusal(sizes, state, pairs, cache, nvm, flags, lane),
-        second::MARK => append::mark_refusal(sizes, state, pairs, cache, nvm, flags, lane),
-        second::CONTINUE => lock::proceed_refusal(sizes, state, pairs, cache, nvm, flags, lane),
-        _ => store::drain_refusal(sizes, state, pairs, cache, nvm, flags, lane),
+        second::REDO => commit::redo_refusal(sizes, state, cache, nvm, flags, lane),
+        second::MARK => append::mark_refusal(sizes, state, cache, nvm, flags, lane),
+        second::CONTINUE => lock::proceed_refusal(sizes, state, cache, nvm, flags, lane),
+        _ => store::drain_refusal(sizes, state, cache, nvm, flags, lane),
     }
 }
 
 fn txn_refusal(
     arena: &Arena,
-    pairs: &[u64],
+    state: &[u64],
     cache: &[u64],
     nvm: &[u64],
     flags: &[u8],
     txn: &[u64],
 ) -> u64 {
     let sizes = convert::sizes(arena);
-    let state = convert::record(arena);
     let lane = number(arena);
     match get(arena, STATE, CODE) {
-        second::LOG => append::log_refusal(sizes, state, pairs, cache, nvm, flags, lane, txn),
-        second::LOCK => lock::begin_refusal(sizes, state, pairs, cache, nvm, flags, lane, txn),
-        _ => commit::validate_refusal(sizes, state, pairs, cache, nvm, flags, lane, txn),
+        second::LOG => append::log_refusal(sizes, state, cache, nvm, flags, lane, txn),
+        second::LOCK => lock::begin_refusal(sizes, state, cache, nvm, flags, lane, txn),
+        _ => commit::validate_refusal(sizes, state, cache, nvm, flags, lane, txn),
     }
 }
 
 fn refusal(
     arena: &Arena,
-    pairs: &[u64],
+    state: &[u64],
     cache: &[u64],
     nvm: &[u64],
     flags: &[u8],
@@ -154,13 +146,13 @@ fn refusal(
     let sizes = convert::sizes(arena);
     match get(arena, STATE, CODE) {
         second::LOG | second::VALIDATE | second::LOCK => {
-            txn_refusal(arena, pairs, cache, nvm, flags, words)
+            txn_refusal(arena, state, cache, nvm, flags, words)
         }
         second::WRITE_BACK => store::write_back_refusal(sizes, cache, nvm, flags, number(arena)),
         second::RECOVER => recovery::recover_refusal(sizes, lag(arena), cache, nvm, flags),
         second::RECOVER_READ => recovery::recover_read_refusal(lag(arena), cache, nvm, flags),
         second::FORMAT => store::format_refusal(sizes, lag(arena), words, cache, nvm, flags),
-        _ => lane_refusal(arena, pairs, cache, nvm, flags),
+        _ => lane_refusal(arena, state, cache, nvm, flags),
     }
 }
 
@@ -168,62 +160,58 @@ fn refusal(
 // Redo, Mark, Drain, Continue.
 fn on_lane(
     arena: &Arena,
-    pairs: &[u64],
+    state: &mut [u64],
     cache: &mut [u64],
     nvm: &mut [u64],
     flags: &mut [u8],
-) -> Outcome {
+) -> Answer {
     let sizes = convert::sizes(arena);
-    let state = convert::record(arena);
     let lane = number(arena);
     match get(arena, STATE, CODE) {
-        second::REDO => commit::redo(sizes, state, pairs, cache, nvm, flags, lane),
-        second::MARK => append::mark(sizes, state, pairs, cache, nvm, flags, lane),
-        second::CONTINUE => lock::proceed(sizes, state, pairs, cache, nvm, flags, lane),
-        _ => store::drain(sizes, state, pairs, cache, nvm, flags, lane),
+        second::REDO => commit::redo(sizes, state, cache, nvm, flags, lane),
+        second::MARK => append::mark(sizes, state, cache, nvm, flags, lane),
+        second::CONTINUE => lock::proceed(sizes, state, cache, nvm, flags, lane),
+        _ => store::drain(sizes, state, cache, nvm, flags, lane),
     }
 }
 
 // Log, Validate and Lock, which sets the lock's pairs.
 fn with_txn(
     arena: &Arena,
-    pairs: &mut [u64],
+    state: &mut [u64],
     cache: &mut [u64],
     nvm: &mut [u64],
     flags: &mut [u8],
     txn: &[u64],
-) -> Outcome {
+) -> Answer {
     let sizes = convert::sizes(arena);
-    let state = convert::record(arena);
     let lane = number(arena);
     match get(arena, STATE, CODE) {
-        second::LOG => append::log(sizes, state, pairs, cache, nvm, flags, lane, txn),
-        second::LOCK => lock::begin(sizes, state, pairs, cache, nvm, flags, lane, txn),
-        _ => commit::validate(sizes, state, pairs, cache, nvm, flags, lane, txn),
+        second::LOG => append::log(sizes, state, cache, nvm, flags, lane, txn),
+        second::LOCK => lock::begin(sizes, state, cache, nvm, flags, lane, txn),
+        _ => commit::validate(sizes, state, cache, nvm, flags, lane, txn),
     }
 }
 
 // It takes no record, so the record stays.
-fn write_back(arena: &Arena, cache: &[u64], nvm: &mut [u64], flags: &[u8]) -> Outcome {
-    let state = convert::record(arena);
-    let answer = store::write_back(convert::sizes(arena), cache, nvm, flags, number(arena));
-    Outcome { answer, state }
+fn write_back(arena: &Arena, cache: &[u64], nvm: &mut [u64], flags: &[u8]) -> Answer {
+    store::write_back(convert::sizes(arena), cache, nvm, flags, number(arena))
 }
 
 fn step(
     arena: &Arena,
-    pairs: &mut [u64],
+    state: &mut [u64],
     cache: &mut [u64],
     nvm: &mut [u64],
     flags: &mut [u8],
     words: &[u64],
-) -> Outcome {
+) -> Answer {
     match get(arena, STATE, CODE) {
         second::LOG | second::VALIDATE | second::LOCK => {
-            with_txn(arena, pairs, cache, nvm, flags, words)
+            with_txn(arena, state, cache, nvm, flags, words)
         }
         second::WRITE_BACK => write_back(arena, cache, nvm, flags),
-        _ => on_lane(arena, pairs, cache, nvm, flags),
+        _ => on_lane(arena, state, cache, nvm, flags),
     }
 }
 
@@ -231,7 +219,10 @@ fn step(
 fn format(arena: &mut Arena, cache: &mut [u64], nvm: &mut [u64], flags: &mut [u8], words: &[u64]) {
     let sizes = convert::sizes(arena);
     let outcome = store::format(sizes, lag(arena), words, cache, nvm, flags);
-    put_outcome(arena, outcome);
+    let answer = outcome.answer;
+    let state = outcome.state;
+    convert::put_record(arena, state);
+    put_answer(arena, answer);
 }
 
 fn recover(arena: &mut Arena, cache: &mut [u64], nvm: &mut [u64], flags: &mut [u8]) {
@@ -248,20 +239,22 @@ fn recover_read(arena: &mut Arena, cache: &mut [u64], nvm: &mut [u64], flags: &m
 
 fn act(
     arena: &mut Arena,
-    pairs: &mut [u64],
+    state: &mut [u64],
     cache: &mut [u64],
     nvm: &mut [u64],
     flags: &mut [u8],
     words: &[u64],
-) {
+)
+    requires { ⌜ length (now state) ≡ stateLength ⌝ }
+{
     match get(arena, STATE, CODE) {
         second::FORMAT => format(arena, cache, nvm, flags, words),
         second::RECOVER => recover(arena, cache, nvm, flags),
         second::RECOVER_READ => recover_read(arena, cache, nvm, flags),
         _ => {
-            let outcome = step(arena, pairs, cache, nvm, flags, words);
-            put_outcome(arena, outcome);
-            convert::keep_pairs(arena, pairs);
+            let answer = step(arena, state, cache, nvm, flags, words);
+            convert::keep_state(arena, state);
+            put_answer(arena, answer);
         }
     }
 }
@@ -269,15 +262,17 @@ fn act(
 // The call on the store; what it leaves beside the buffers is put into STORED.
 fn call(
     arena: &mut Arena,
-    pairs: &mut [u64],
+    state: &mut [u64],
     cache: &mut [u64],
     nvm: &mut [u64],
     flags: &mut [u8],
     words: &[u64],
-) {
-    convert::load_pairs(arena, pairs);
-    let asked = refusal(arena, pairs, cache, nvm, flags, words);
-    act(arena, pairs, cache, nvm, flags, words);
+)
+    requires { ⌜ length (now state) ≡ stateLength ⌝ }
+{
+    convert::load_state(arena, state);
+    let asked = refusal(arena, state, cache, nvm, flags, words);
+    act(arena, state, cache, nvm, flags, words);
     put(arena, STORED, second::REFUSAL, asked);
 }
 
@@ -371,9 +366,9 @@ fn run_in(
     flags: &mut [u8],
     words: &mut [u64],
 ) -> bool {
-    let mut pairs = [0u64; PAIR_WORDS as usize];
+    let mut state = [0u64; STATE_WORDS];
     load_all(arena, cache, nvm, flags, words);
-    call(arena, &mut pairs, cache, nvm, flags, words);
+    call(arena, &mut state, cache, nvm, flags, words);
     keep_all(arena, cache, nvm, flags);
     spoil(arena);
     second::call(arena);

@@ -1,5 +1,6 @@
 // The store's sizes, record and answers in the words of the second implementation, and back.
 use crate::regions::STORED;
+use codec::RECORD_WORDS;
 use image::MAX_LANES;
 use image::Sizes;
 use log::Timestamp;
@@ -24,6 +25,9 @@ use second::words::plus;
 use second::words::put;
 use second::words::set_row;
 use txn::MAX_WRITES;
+ghost use mathlib.Core.Path.{_≡_};
+ghost use lib.ListN.{length};
+ghost use Rattle.codec.specs.Fields.{stateLength};
 
 pub(crate) fn sizes(arena: &Arena) -> Sizes {
     Sizes {
@@ -93,21 +97,21 @@ fn pair_place(k: usize) -> u64 {
 }
 
 // The lock's pairs, of the words in RECORD.
-pub(crate) fn load_pairs(arena: &Arena, pairs: &mut [u64]) {
+fn load_pairs(arena: &Arena, pairs: &mut [u64]) {
     for k in 0..pairs.len() {
         pairs[k] = get(arena, RECORD, pair_place(k));
     }
 }
 
 // Their words, in STORED.
-pub(crate) fn keep_pairs(arena: &mut Arena, pairs: &[u64]) {
+fn keep_pairs(arena: &mut Arena, pairs: &[u64]) {
     for k in 0..pairs.len() {
         put(arena, STORED, pair_place(k), pairs[k]);
     }
 }
 
 // The record of the words in RECORD.
-pub(crate) fn record(arena: &Arena) -> Record {
+fn record(arena: &Arena) -> Record {
     let mut lanes = [lane_from(arena, 0); MAX_LANES];
     for l in 0..MAX_LANES {
         lanes[l] = lane_from(arena, l as u64);
@@ -119,6 +123,14 @@ pub(crate) fn record(arena: &Arena) -> Record {
         lag: get(arena, RECORD, fields::LAG),
         lock: lock_from(arena),
     }
+}
+
+// The words that a call on the store is given: those of the record in RECORD, in normal form, and of the lock's pairs.
+pub(crate) fn load_state(arena: &Arena, state: &mut [u64])
+    requires { ⌜ length (now state) ≡ stateLength ⌝ }
+{
+    codec::record_to(record(arena), &mut state[..RECORD_WORDS]);
+    load_pairs(arena, &mut state[RECORD_WORDS..]);
 }
 
 fn put_logged(arena: &mut Arena, lane: u64, logged: Logged) {
@@ -228,6 +240,14 @@ pub(crate) fn put_record(arena: &mut Arena, state: Record) {
         let lane = state.lanes[l];
         put_lane(arena, l as u64, lane);
     }
+}
+
+// The words that the call left, in STORED.
+pub(crate) fn keep_state(arena: &mut Arena, state: &[u64])
+    requires { ⌜ length (now state) ≡ stateLength ⌝ }
+{
+    put_record(arena, codec::record_from(&state[..RECORD_WORDS]));
+    keep_pairs(arena, &state[RECORD_WORDS..]);
 }
 
 // An answer, in STORED.

@@ -2,7 +2,6 @@
 use second::words::FREE;
 use second::words::FREE_ROW;
 use second::words::MAX_LENGTH;
-use second::words::MAX_LONG;
 use second::words::MAX_WORDS;
 
 // How many calls of a group had which answer.
@@ -45,6 +44,3 @@ pub const ROOM: u64 = MAX_LENGTH + 1;
 
 // The start words of a Format, of which there may be one too many, or a transaction.
 pub const START: u64 = MAX_WORDS + 1;
-
-// The lock's pairs, two words each.
-pub(crate) const PAIR_WORDS: u64 = 2 * MAX_LONG;

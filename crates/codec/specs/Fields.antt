@@ -4,7 +4,7 @@ use Prim.Native.Nat.{ℕ, zero, suc, _+_, _*_}
 use mathlib.Core.Bool.{Bool, true, false, cond}
 use mathlib.Core.List.{List, [], _∷_, _++_}
 use lib.Dec.{eqb}
-use lib.ListN.{getD, drop}
+use lib.ListN.{getD, take, drop}
 use Rattle.txn.specs.Txn.{maxWrites}
 use Rattle.image.specs.Image.{maxLanes}
 use Rattle.log.specs.declared.Timestamp.{Timestamp}
@@ -127,3 +127,10 @@ lockWords k =
 
 unfoldable pub wordsOf : Record → List ℕ
 wordsOf r = r .clock ∷ r .last ∷ (rowWords laneWords (r .lanes) ++ (r .lag ∷ lockWords (r .lock)))
+
+-- ---- a record in words lent with the lock's pairs behind it: the words before the pairs, and the pairs
+abbrev pub recordIn : List ℕ → Record
+recordIn state = recordOf (take recordLength state)
+
+abbrev pub pairsIn : List ℕ → List ℕ
+pairsIn state = drop recordLength state

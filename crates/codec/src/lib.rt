@@ -1,8 +1,15 @@
 // The record as words: clock, last commit, for each lane phase, first slot, count, timestamp, next slot, wrap bit,
 // whether there is a floor, floor, and 16 pairs, then the lag limit, and of the lock whether it is held, its lane,
 // timestamp, count, how many are logged and how many written. A field of a lane is read in `lane_from` and written in
-// `head`. The lock's pairs follow, which are words already and so are nothing to this crate.
+// `head`. The lock's pairs follow, which are words already and so are nothing to this crate. Here the record is read and
+// written whole; in read.rt, check.rt and write.rt fields are read, checked and stored where they stand, which is what
+// calls do.
+pub mod check;
+pub mod read;
+pub mod write;
+
 use image::MAX_LANES;
+use log::Cursor;
 use log::Timestamp;
 use record::LOCK_WORDS;
 use record::Lane;
@@ -17,10 +24,12 @@ ghost use mathlib.Core.Path.{_≡_};
 ghost use Prim.Native.Nat.{_≤_};
 ghost use lib.ListN.{length};
 ghost use Rattle.txn.specs.Txn.{maxWrites};
+ghost use Rattle.record.specs.declared.Lane.{Lane};
 ghost use Rattle.codec.specs.Fields.{pairsLength, laneLength, holderLength, recordLength};
 ghost use Rattle.codec.specs.Fields.{phaseOf, floorOf, pairOf, rowOf, laneOf, lockOf, recordOf};
 ghost use Rattle.codec.specs.Fields.{bitFor, isSet, stampOf, headWords, pairWords, rowWords, laneWords};
 ghost use Rattle.codec.specs.Fields.{lockWords, wordsOf};
+ghost use Rattle.codec.specs.inner.InPlace.{headed};
 
 // How many words a lane has before its pairs.
 const HEAD_WORDS: usize = 8;
@@ -131,20 +140,18 @@ fn lane_from(words: &[u64]) -> Lane
     }
 }
 
-// The words of a lane before its pairs.
-fn head(lane: Lane) -> [u64; HEAD_WORDS]
-    ensures { λ r. ⌜ r ≡ headWords lane ⌝ }
+// The words of a lane before its pairs, which do not matter to them.
+fn head(phase: Phase, cursor: Cursor, floor: Timestamp) -> [u64; HEAD_WORDS]
+    ensures { λ r. ⌜ ((l : Lane) → r ≡ headWords (headed phase cursor floor l)) ⌝ }
 {
-    let phase = lane.phase;
-    let floor = lane.floor;
     let held = record::logged_in(phase);
     [
         bit_for(record::is_logged(phase)),
         held.first as u64,
         held.count as u64,
         held.stamp,
-        lane.next as u64,
-        lane.wrap,
+        cursor.slot as u64,
+        cursor.wrap,
         bit_for(is_set(floor)),
         stamp_of(floor),
     ]
@@ -154,8 +161,10 @@ fn put_lane(lane: Lane, words: &mut [u64])
     requires { ⌜ length (now words) ≡ laneLength ⌝ }
     ensures { λ r. ⌜ now (words .exit) ≡ laneWords lane ⌝ }
 {
+    let phase = lane.phase;
+    let floor = lane.floor;
     let redo = lane.redo;
-    let first = head(lane);
+    let first = head(phase, record::cursor_of(lane), floor);
     image::bulk::copy_words(&first, &mut words[..HEAD_WORDS]);
     put_pairs(redo, &mut words[HEAD_WORDS..]);
 }

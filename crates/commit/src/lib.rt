@@ -1,29 +1,33 @@
 // The calls that commit a logged transaction: Redo and Validate.
 ghost use mathlib.Core.Path.{_≡_};
 ghost use mathlib.Core.Bool.{true};
-ghost use mathlib.Core.List.{List};
-ghost use Prim.Native.Nat.{ℕ, _+_, _^_, _≤_, _<_};
+ghost use mathlib.Core.List.{List, _++_};
+ghost use Prim.Native.Nat.{ℕ, _≤_, _<_};
 ghost use lib.ListN.{length, take};
 ghost use Rattle.txn.specs.Txn.{maxWrites};
 ghost use Rattle.image.specs.Image.{maxLanes};
 ghost use Rattle.image.specs.inner.Facts.{IsImage, IsLog};
 ghost use Rattle.image.specs.Stores.{stored, places};
 ghost use Rattle.image.specs.Flush.{flushAll};
+ghost use Rattle.log.specs.Log.{latestIn};
 ghost use Rattle.log.specs.inner.AppendEntries.{WordsBelow};
 ghost use Rattle.record.specs.Record.{pairsOk};
+ghost use Rattle.codec.specs.Fields.{recordLength, recordOf, wordsOf};
 ghost use Rattle.store.specs.Calls.{redoRefusal, redoStep, validateRefusal, validateStep, pairStores, entryMatches};
 ghost use Rattle.store.specs.Calls.{entriesMatch};
-ghost use Rattle.store.specs.Interface.{machineOf, stepOf};
-ghost use Rattle.commit.specs.inner.Commit.{commitRefusal, committedState, commitWords, matchesHeld, PairsInside};
-ghost use Rattle.commit.specs.inner.Commit.{Restampable, Committable, redoDrained, validateDrained};
+ghost use Rattle.store.specs.Interface.{machineOf, machineIn, keptBy, keeps};
+ghost use Rattle.store.specs.inner.Checked.{drainedState};
+ghost use Rattle.commit.specs.inner.Commit.{commitRefusal, releasedState, committedState, commitWords};
+ghost use Rattle.commit.specs.inner.Commit.{matchesHeld, PairsInside, Restampable, Committable};
+ghost use Rattle.commit.specs.inner.Commit.{redoDrained, validateDrained};
+use codec::RECORD_WORDS;
 use image::Sizes;
+use log::Latest;
 use record::Logged;
 use record::Pair;
 use record::Phase;
-use record::Record;
 use slot::Content;
 use store::Answer;
-use store::Outcome;
 use txn::Write;
 use txn::Writes;
 
@@ -46,24 +50,23 @@ fn commit_refusal(phase: Phase, held: bool, spent: bool) -> u64
 // The number of Redo's refusal, or 0.
 pub fn redo_refusal(
     sizes: Sizes,
-    state: Record,
-    pairs: &[u64],
+    state: &[u64],
     cache: &[u64],
     nvm: &[u64],
     flags: &[u8],
     lane: usize,
 ) -> u64
     ensures { λ r. ⌜ r ≡ redoRefusal sizes lane
-        (machineOf state (now (pairs .entry)) (now (cache .entry)) (now (nvm .entry)) (now (flags .entry))) ⌝ }
+        (machineIn (now (state .entry)) (now (cache .entry)) (now (nvm .entry)) (now (flags .entry))) ⌝ }
 {
-    let number = store::drain_refusal(sizes, state, pairs, cache, nvm, flags, lane);
+    let number = store::drain_refusal(sizes, state, cache, nvm, flags, lane);
     if number != 0 {
         return number;
     }
-    let at = state.lanes[lane];
-    let phase = at.phase;
-    let lock = state.lock;
-    commit_refusal(phase, record::is_held(lock), record::spent(state))
+    let words = &state[..RECORD_WORDS];
+    let phase = codec::read::phase(words, lane);
+    let lock = codec::read::lock(words);
+    commit_refusal(phase, record::is_held(lock), codec::read::spent(words))
 }
 
 // Writes the first `count` pairs to the cached data words, in order, each flushed.
@@ -91,19 +94,27 @@ pub fn write_pairs(
     }
 }
 
-// The record after a commit at the clock's next timestamp.
-fn committed_state(mut state: Record, lane: usize) -> Record
+// Stores the record with the lane holding nothing, after its drain, which found this latest sequence.
+fn put_released(words: &mut [u64], lane: usize, latest: Latest)
+    requires { ⌜ length (now words) ≡ recordLength ⌝ }
     requires { ⌜ lane < maxLanes ⌝ }
-    requires { ⌜ state .clock + 2 < 2 ^ 64 ⌝ }
-    ensures { λ r. ⌜ r ≡ committedState lane state ⌝ }
+    ensures { λ r. ⌜ now (words .exit) ≡ wordsOf (releasedState lane latest (recordOf (now (words .entry)))) ⌝ }
 {
-    let stamp = state.clock + 2;
-    let at = state.lanes[lane];
-    let idle = record::idle_lane(at);
-    state.clock = stamp;
-    state.last = stamp;
-    state.lanes[lane] = idle;
-    state
+    let cursor = codec::read::cursor(words, lane);
+    let floor = record::floor_after_drain(latest, codec::read::floor(words, lane));
+    codec::write::set_head(words, lane, Phase::Idle, cursor, floor);
+    codec::write::normalise(words);
+}
+
+// The same, after a commit at this timestamp.
+fn put_committed(words: &mut [u64], lane: usize, latest: Latest, stamp: u64)
+    requires { ⌜ length (now words) ≡ recordLength ⌝ }
+    requires { ⌜ lane < maxLanes ⌝ }
+    ensures { λ r. ⌜ now (words .exit) ≡ wordsOf (committedState lane latest stamp (recordOf (now (words .entry)))) ⌝ }
+{
+    codec::write::set_clock(words, stamp);
+    codec::write::set_last(words, stamp);
+    put_released(words, lane, latest);
 }
 
 // The words of a commit of these pairs at this timestamp, which replaces the one that closes the entries of the lane's
@@ -134,66 +145,72 @@ fn commit(
     log::tail::restamp(cache, flags, start, slot, lane, stamp);
 }
 
-// Redo on a drained lane.
+// Redo on a drained lane. The record is still the one before the drain.
 fn redo_drained(
     sizes: Sizes,
-    drained: Record,
+    words: &mut [u64],
+    latest: Latest,
     cache: &mut [u64],
     flags: &mut [u8],
     lane: usize,
-) -> Outcome
-    requires { ⌜ Committable sizes drained (now cache) (now flags) lane ⌝ }
-    ensures { λ r. ⌜ ((pairs nvm : List ℕ)
-        → stepOf r pairs (now (cache .exit)) nvm (now (flags .exit))
-        ≡ redoDrained sizes lane (machineOf drained pairs (now (cache .entry)) nvm (now (flags .entry)))) ⌝ }
+) -> Answer
+    requires { ⌜ length (now words) ≡ recordLength ⌝ }
+    requires { ⌜ latest ≡ latestIn sizes (now cache) lane ⌝ }
+    requires { ⌜ Committable sizes (recordOf (now words)) (now cache) (now flags) lane ⌝ }
+    ensures { λ r. ⌜ ((before pairs nvm : List ℕ)
+        → keptBy r (now (words .exit) ++ pairs) (now (cache .exit)) nvm (now (flags .exit))
+        ≡ keeps before (redoDrained sizes lane
+        (machineOf (drainedState sizes (now (cache .entry)) lane (recordOf (now (words .entry)))) pairs
+        (now (cache .entry)) nvm (now (flags .entry))))) ⌝ }
 {
-    let at = drained.lanes[lane];
-    let phase = at.phase;
-    let pairs = at.redo;
+    let phase = codec::read::phase(words, lane);
     let held = record::logged_in(phase);
-    if held.stamp < drained.last {
-        return Outcome {
-            answer: Answer::Stale,
-            state: drained,
-        };
+    let clock = codec::read::clock(words);
+    let last = codec::read::last(words);
+    if held.stamp < last {
+        store::put_drained(words, lane, latest);
+        return Answer::Stale;
     }
-    let stamp = drained.clock + 2;
+    let stamp = clock + 2;
+    let pairs = codec::read::redo(words, lane);
     commit(sizes, cache, flags, lane, held, stamp, pairs, held.count);
-    let after = committed_state(drained, lane);
-    Outcome {
-        answer: Answer::Committed(stamp),
-        state: after,
-    }
+    put_committed(words, lane, latest, stamp);
+    Answer::Committed(stamp)
 }
 
 // Commits the logged transaction by its redo log, unless there is a commit since it was logged.
 pub fn redo(
     sizes: Sizes,
-    state: Record,
-    pairs: &[u64],
+    state: &mut [u64],
     cache: &mut [u64],
     nvm: &mut [u64],
     flags: &mut [u8],
     lane: usize,
-) -> Outcome
-    ensures { λ r. ⌜ stepOf r (now (pairs .entry)) (now (cache .exit)) (now (nvm .exit)) (now (flags .exit))
-        ≡ redoStep sizes lane
-        (machineOf state (now (pairs .entry)) (now (cache .entry)) (now (nvm .entry)) (now (flags .entry))) ⌝ }
+) -> Answer
+    ensures { λ r. ⌜ keptBy r (now (state .exit)) (now (cache .exit)) (now (nvm .exit)) (now (flags .exit))
+        ≡ keeps (now (state .entry)) (redoStep sizes lane
+        (machineIn (now (state .entry)) (now (cache .entry)) (now (nvm .entry)) (now (flags .entry)))) ⌝ }
 {
-    let number = redo_refusal(sizes, state, pairs, cache, nvm, flags, lane);
+    let number = redo_refusal(sizes, state, cache, nvm, flags, lane);
     if number != 0 {
-        return store::refused(number, state);
+        return Answer::Refused(number);
     }
-    let drained = store::drained_state(sizes, state, cache, lane);
+    let latest = store::latest_near(sizes, &state[..RECORD_WORDS], cache, lane);
     image::flush::drain(lane, cache, nvm, flags);
-    redo_drained(sizes, drained, cache, flags, lane)
+    redo_drained(
+        sizes,
+        &mut state[..RECORD_WORDS],
+        latest,
+        cache,
+        flags,
+        lane,
+    )
 }
 
 // The number of Validate's refusal, or 0.
 pub fn validate_refusal(
     sizes: Sizes,
-    state: Record,
-    pairs: &[u64],
+    state: &[u64],
     cache: &[u64],
     nvm: &[u64],
     flags: &[u8],
@@ -201,19 +218,19 @@ pub fn validate_refusal(
     txn: &[u64],
 ) -> u64
     ensures { λ r. ⌜ r ≡ validateRefusal sizes lane (now (txn .entry))
-        (machineOf state (now (pairs .entry)) (now (cache .entry)) (now (nvm .entry)) (now (flags .entry))) ⌝ }
+        (machineIn (now (state .entry)) (now (cache .entry)) (now (nvm .entry)) (now (flags .entry))) ⌝ }
 {
-    let number = store::drain_refusal(sizes, state, pairs, cache, nvm, flags, lane);
+    let number = store::drain_refusal(sizes, state, cache, nvm, flags, lane);
     if number != 0 {
         return number;
     }
     if !txn::txn_ok(txn, sizes.words, txn::MAX_WRITES) {
         return 5;
     }
-    let at = state.lanes[lane];
-    let phase = at.phase;
-    let lock = state.lock;
-    commit_refusal(phase, record::is_held(lock), record::spent(state))
+    let words = &state[..RECORD_WORDS];
+    let phase = codec::read::phase(words, lane);
+    let lock = codec::read::lock(words);
+    commit_refusal(phase, record::is_held(lock), codec::read::spent(words))
 }
 
 // Is a slot a whole entry of this write's word and old value?
@@ -267,64 +284,71 @@ fn matches(sizes: Sizes, held: Logged, cache: &[u64], lane: usize, writes: Write
     entries_match(log, sizes.words, sizes.slots, held.first, writes)
 }
 
-// Validate on a drained lane, of a transaction that now makes these writes.
+// Validate on a drained lane, of a transaction that now makes these writes. The record is still the one before the
+// drain.
 fn validate_drained(
     sizes: Sizes,
-    drained: Record,
+    words: &mut [u64],
+    latest: Latest,
     cache: &mut [u64],
     flags: &mut [u8],
     lane: usize,
     writes: Writes,
-) -> Outcome
-    requires { ⌜ Committable sizes drained (now cache) (now flags) lane ⌝ }
+) -> Answer
+    requires { ⌜ length (now words) ≡ recordLength ⌝ }
+    requires { ⌜ latest ≡ latestIn sizes (now cache) lane ⌝ }
+    requires { ⌜ Committable sizes (recordOf (now words)) (now cache) (now flags) lane ⌝ }
     requires { ⌜ writes .count ≤ maxWrites ⌝ }
     requires { ⌜ length (writes .list) ≡ maxWrites ⌝ }
     requires { ⌜ WordsBelow (sizes .words) (take (writes .count) (writes .list)) ⌝ }
-    ensures { λ r. ⌜ ((pairs nvm : List ℕ)
-        → stepOf r pairs (now (cache .exit)) nvm (now (flags .exit))
-        ≡ validateDrained sizes lane (take (writes .count) (writes .list))
-        (machineOf drained pairs (now (cache .entry)) nvm (now (flags .entry)))) ⌝ }
+    ensures { λ r. ⌜ ((before pairs nvm : List ℕ)
+        → keptBy r (now (words .exit) ++ pairs) (now (cache .exit)) nvm (now (flags .exit))
+        ≡ keeps before (validateDrained sizes lane (take (writes .count) (writes .list))
+        (machineOf (drainedState sizes (now (cache .entry)) lane (recordOf (now (words .entry)))) pairs
+        (now (cache .entry)) nvm (now (flags .entry))))) ⌝ }
 {
-    let at = drained.lanes[lane];
-    let phase = at.phase;
+    let phase = codec::read::phase(words, lane);
     let held = record::logged_in(phase);
     if !matches(sizes, held, cache, lane, writes) {
-        return Outcome {
-            answer: Answer::Changed,
-            state: record::with_lane(drained, lane, record::idle_lane(at)),
-        };
+        put_released(words, lane, latest);
+        return Answer::Changed;
     }
-    let stamp = drained.clock + 2;
+    let stamp = codec::read::clock(words) + 2;
     let pairs = record::pairs_of(writes);
     commit(sizes, cache, flags, lane, held, stamp, pairs, writes.count);
-    Outcome {
-        answer: Answer::Committed(stamp),
-        state: committed_state(drained, lane),
-    }
+    put_committed(words, lane, latest, stamp);
+    Answer::Committed(stamp)
 }
 
 // Commits a transaction in place of the one that the lane holds, if it now writes the words that were logged, over the
 // values that were logged.
 pub fn validate(
     sizes: Sizes,
-    state: Record,
-    pairs: &[u64],
+    state: &mut [u64],
     cache: &mut [u64],
     nvm: &mut [u64],
     flags: &mut [u8],
     lane: usize,
     txn: &[u64],
-) -> Outcome
-    ensures { λ r. ⌜ stepOf r (now (pairs .entry)) (now (cache .exit)) (now (nvm .exit)) (now (flags .exit))
-        ≡ validateStep sizes lane (now (txn .entry))
-        (machineOf state (now (pairs .entry)) (now (cache .entry)) (now (nvm .entry)) (now (flags .entry))) ⌝ }
+) -> Answer
+    ensures { λ r. ⌜ keptBy r (now (state .exit)) (now (cache .exit)) (now (nvm .exit)) (now (flags .exit))
+        ≡ keeps (now (state .entry)) (validateStep sizes lane (now (txn .entry))
+        (machineIn (now (state .entry)) (now (cache .entry)) (now (nvm .entry)) (now (flags .entry)))) ⌝ }
 {
-    let number = validate_refusal(sizes, state, pairs, cache, nvm, flags, lane, txn);
+    let number = validate_refusal(sizes, state, cache, nvm, flags, lane, txn);
     if number != 0 {
-        return store::refused(number, state);
+        return Answer::Refused(number);
     }
     let writes = store::writes_on(sizes, cache, txn);
-    let drained = store::drained_state(sizes, state, cache, lane);
+    let latest = store::latest_near(sizes, &state[..RECORD_WORDS], cache, lane);
     image::flush::drain(lane, cache, nvm, flags);
-    validate_drained(sizes, drained, cache, flags, lane, writes)
+    validate_drained(
+        sizes,
+        &mut state[..RECORD_WORDS],
+        latest,
+        cache,
+        flags,
+        lane,
+        writes,
+    )
 }

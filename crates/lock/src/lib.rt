@@ -11,24 +11,23 @@ ghost use Rattle.image.specs.Image.{maxLanes, dataOf};
 ghost use Rattle.image.specs.inner.Facts.{IsImage};
 ghost use Rattle.log.specs.Log.{latestIn};
 ghost use Rattle.record.specs.Record.{lockLength, pairsFrom, partLength, pairsOk, pairsOf, wordsOfPairs};
-ghost use Rattle.record.specs.Record.{withLane, withClock, withLock};
-ghost use Rattle.record.specs.declared.Lock.the-variants.{Held};
+ghost use Rattle.codec.specs.Fields.{recordLength, recordOf, wordsOf, recordIn, pairsIn};
 ghost use Rattle.store.specs.Calls.{writesOn};
 ghost use Rattle.store.specs.Locks.{lockRefusal, lockStep, proceedRefusal, proceedStep};
 ghost use Rattle.store.specs.Locks.{partOf, pairWrites, partWrittenState};
-ghost use Rattle.store.specs.Interface.{machineOf, stepOf};
-ghost use Rattle.lock.specs.inner.Parts.{lockChecks, Planned, valueBefore, PairsHeld, PartAt, loggedHeld};
-ghost use Rattle.lock.specs.inner.Parts.{loggedStep, writtenStep};
+ghost use Rattle.store.specs.Interface.{machineOf, machineIn, keptBy, keeps};
+ghost use Rattle.store.specs.inner.Checked.{drainedState};
+ghost use Rattle.lock.specs.inner.Parts.{lockChecks, Planned, takenState, valueBefore, PairsHeld, PartAt};
+ghost use Rattle.lock.specs.inner.Parts.{loggedState, loggedStep, writtenStep};
+use codec::RECORD_WORDS;
 use image::Sizes;
+use log::Cursor;
 use log::Latest;
-use record::Lane;
 use record::Lock;
 use record::Locked;
 use record::Pair;
 use record::Phase;
-use record::Record;
 use store::Answer;
-use store::Outcome;
 use store::Progress;
 use txn::LongWrites;
 use txn::Write;
@@ -71,8 +70,7 @@ fn slots_counted(words: usize) -> usize
 // Lock's refusals before it runs the transaction.
 fn lock_checks(
     sizes: Sizes,
-    state: Record,
-    pairs: &[u64],
+    state: &[u64],
     cache: &[u64],
     nvm: &[u64],
     flags: &[u8],
@@ -80,21 +78,21 @@ fn lock_checks(
     txn: &[u64],
 ) -> u64
     ensures { λ r. ⌜ r ≡ lockChecks sizes lane (now (txn .entry))
-        (machineOf state (now (pairs .entry)) (now (cache .entry)) (now (nvm .entry)) (now (flags .entry))) ⌝ }
+        (machineIn (now (state .entry)) (now (cache .entry)) (now (nvm .entry)) (now (flags .entry))) ⌝ }
 {
-    let number = store::drain_refusal(sizes, state, pairs, cache, nvm, flags, lane);
+    let number = store::drain_refusal(sizes, state, cache, nvm, flags, lane);
     if number != 0 {
         return number;
     }
     if !txn::txn_ok(txn, sizes.words, txn::MAX_LONG) {
         return 5;
     }
-    let at = state.lanes[lane];
-    let phase = at.phase;
+    let words = &state[..RECORD_WORDS];
+    let phase = codec::read::phase(words, lane);
     if record::is_logged(phase) {
         return 6;
     }
-    let lock = state.lock;
+    let lock = codec::read::lock(words);
     if record::is_held(lock) {
         return 11;
     }
@@ -117,8 +115,7 @@ fn writes_on(sizes: Sizes, cache: &[u64], txn: &[u64]) -> LongWrites
 
 fn plan_lock(
     sizes: Sizes,
-    state: Record,
-    pairs: &[u64],
+    state: &[u64],
     cache: &[u64],
     nvm: &[u64],
     flags: &[u8],
@@ -127,12 +124,12 @@ fn plan_lock(
 ) -> Plan
     ensures { λ r. ⌜ Planned r
         (lockRefusal sizes lane (now (txn .entry))
-        (machineOf state (now (pairs .entry)) (now (cache .entry)) (now (nvm .entry)) (now (flags .entry))))
+        (machineIn (now (state .entry)) (now (cache .entry)) (now (nvm .entry)) (now (flags .entry))))
         (writesOn sizes (now (txn .entry))
-        (machineOf state (now (pairs .entry)) (now (cache .entry)) (now (nvm .entry)) (now (flags .entry))))
+        (machineIn (now (state .entry)) (now (cache .entry)) (now (nvm .entry)) (now (flags .entry))))
         (latestIn sizes (now (cache .entry)) lane) ⌝ }
 {
-    let number = lock_checks(sizes, state, pairs, cache, nvm, flags, lane, txn);
+    let number = lock_checks(sizes, state, cache, nvm, flags, lane, txn);
     if number != 0 {
         return Plan {
             number,
@@ -141,7 +138,8 @@ fn plan_lock(
         };
     }
     let writes = writes_on(sizes, cache, txn);
-    let latest = store::latest_in(sizes, cache, lane);
+    let words = &state[..RECORD_WORDS];
+    let latest = store::latest_near(sizes, words, cache, lane);
     if writes.count == 0 {
         return Plan {
             number: 0,
@@ -151,7 +149,7 @@ fn plan_lock(
     }
     let slots = slots_counted(txn.len());
     Plan {
-        number: append::append_refusal(sizes, state, latest, cache, lane, slots, true),
+        number: append::append_refusal(sizes, words, latest, cache, lane, slots, true),
         writes,
         latest,
     }
@@ -160,8 +158,7 @@ fn plan_lock(
 // The number of Lock's refusal, or 0.
 pub fn begin_refusal(
     sizes: Sizes,
-    state: Record,
-    pairs: &[u64],
+    state: &[u64],
     cache: &[u64],
     nvm: &[u64],
     flags: &[u8],
@@ -169,9 +166,9 @@ pub fn begin_refusal(
     txn: &[u64],
 ) -> u64
     ensures { λ r. ⌜ r ≡ lockRefusal sizes lane (now (txn .entry))
-        (machineOf state (now (pairs .entry)) (now (cache .entry)) (now (nvm .entry)) (now (flags .entry))) ⌝ }
+        (machineIn (now (state .entry)) (now (cache .entry)) (now (nvm .entry)) (now (flags .entry))) ⌝ }
 {
-    let plan = plan_lock(sizes, state, pairs, cache, nvm, flags, lane, txn);
+    let plan = plan_lock(sizes, state, cache, nvm, flags, lane, txn);
     plan.number
 }
 
@@ -189,24 +186,24 @@ fn put_pairs(writes: LongWrites, pairs: &mut [u64])
     }
 }
 
-// The record once its lane has taken the lock for this many writes.
-fn taken(mut state: Record, lane: usize, count: usize) -> Record
-    requires { ⌜ state .clock + 2 < 2 ^ 64 ⌝ }
-    ensures { λ r. ⌜ r ≡ withLock (withClock state (state .clock + 2))
-        (Held (record { lane = lane; stamp = state .clock + 2; count = count; logged = 0; written = 0 })) ⌝ }
+// Stores the record once a lane has taken the lock at a new timestamp for this many writes. Before it the lane was
+// drained, and its latest sequence found.
+fn put_taken(words: &mut [u64], lane: usize, latest: Latest, stamp: u64, count: usize)
+    requires { ⌜ length (now words) ≡ recordLength ⌝ }
+    requires { ⌜ lane < maxLanes ⌝ }
+    ensures { λ r. ⌜ now (words .exit)
+        ≡ wordsOf (takenState (recordOf (now (words .entry))) lane latest stamp count) ⌝ }
 {
-    let stamp = state.clock + 2;
-    state.clock = stamp;
-    Record {
-        lock: Lock::Held(Locked {
-            lane,
-            stamp,
-            count,
-            logged: 0,
-            written: 0,
-        }),
-        ..state
-    }
+    let lock = Lock::Held(Locked {
+        lane,
+        stamp,
+        count,
+        logged: 0,
+        written: 0,
+    });
+    codec::write::set_clock(words, stamp);
+    codec::write::set_lock(words, lock);
+    store::put_drained(words, lane, latest);
 }
 
 // Runs a long transaction and takes the lock for it, unless it writes nothing: its writes are left as pairs, and
@@ -214,60 +211,53 @@ fn taken(mut state: Record, lane: usize, count: usize) -> Record
 // hit.
 pub fn begin(
     sizes: Sizes,
-    state: Record,
-    pairs: &mut [u64],
+    state: &mut [u64],
     cache: &[u64],
     nvm: &mut [u64],
     flags: &mut [u8],
     lane: usize,
     txn: &[u64],
-) -> Outcome
-    ensures { λ r. ⌜ stepOf r (now (pairs .exit)) (now (cache .entry)) (now (nvm .exit)) (now (flags .exit))
-        ≡ lockStep sizes lane (now (txn .entry))
-        (machineOf state (now (pairs .entry)) (now (cache .entry)) (now (nvm .entry)) (now (flags .entry))) ⌝ }
+) -> Answer
+    ensures { λ r. ⌜ keptBy r (now (state .exit)) (now (cache .entry)) (now (nvm .exit)) (now (flags .exit))
+        ≡ keeps (now (state .entry)) (lockStep sizes lane (now (txn .entry))
+        (machineIn (now (state .entry)) (now (cache .entry)) (now (nvm .entry)) (now (flags .entry)))) ⌝ }
 {
-    let plan = plan_lock(sizes, state, pairs, cache, nvm, flags, lane, txn);
+    let plan = plan_lock(sizes, state, cache, nvm, flags, lane, txn);
     let number = plan.number;
     let writes = plan.writes;
     let latest = plan.latest;
     if number != 0 {
-        return store::refused(number, state);
+        return Answer::Refused(number);
     }
     image::flush::drain(lane, cache, nvm, flags);
-    let drained = record::drained(state, lane, latest);
     let count = writes.count;
     if count == 0 {
-        return Outcome {
-            answer: Answer::NoWrites,
-            state: drained,
-        };
+        store::put_drained(&mut state[..RECORD_WORDS], lane, latest);
+        return Answer::NoWrites;
     }
-    put_pairs(writes, pairs);
-    let stamp = drained.clock + 2;
-    Outcome {
-        answer: Answer::Locked(Progress { left: count, stamp }),
-        state: taken(drained, lane, count),
-    }
+    let stamp = codec::read::clock(&state[..RECORD_WORDS]) + 2;
+    put_taken(&mut state[..RECORD_WORDS], lane, latest, stamp, count);
+    put_pairs(writes, &mut state[RECORD_WORDS..]);
+    Answer::Locked(Progress { left: count, stamp })
 }
 
 // The number of Continue's refusal, or 0.
 pub fn proceed_refusal(
     sizes: Sizes,
-    state: Record,
-    pairs: &[u64],
+    state: &[u64],
     cache: &[u64],
     nvm: &[u64],
     flags: &[u8],
     lane: usize,
 ) -> u64
     ensures { λ r. ⌜ r ≡ proceedRefusal sizes lane
-        (machineOf state (now (pairs .entry)) (now (cache .entry)) (now (nvm .entry)) (now (flags .entry))) ⌝ }
+        (machineIn (now (state .entry)) (now (cache .entry)) (now (nvm .entry)) (now (flags .entry))) ⌝ }
 {
-    let number = store::drain_refusal(sizes, state, pairs, cache, nvm, flags, lane);
+    let number = store::drain_refusal(sizes, state, cache, nvm, flags, lane);
     if number != 0 {
         return number;
     }
-    let lock = state.lock;
+    let lock = codec::read::lock(&state[..RECORD_WORDS]);
     if !record::is_held(lock) {
         return 7;
     }
@@ -336,60 +326,52 @@ fn part_writes(sizes: Sizes, pairs: &[u64], cache: &[u64], held: Locked) -> Writ
     writes_of(pairs, held.written, count, &cache[1..end])
 }
 
-// The record after the present part is logged, with the lane then.
-fn logged_state(mut state: Record, after: Lane, held: Locked) -> Record
+// Stores the record after the present part is logged, an append that ended at a cursor. Before it the lane was drained,
+// and its latest sequence found.
+fn put_logged(words: &mut [u64], latest: Latest, held: Locked, end: Cursor)
+    requires { ⌜ length (now words) ≡ recordLength ⌝ }
     requires { ⌜ held .lane < maxLanes ⌝ }
     requires { ⌜ held .logged + partLength held < 2 ^ 64 ⌝ }
-    ensures { λ r. ⌜ r ≡ withLane (withLock state (Held (loggedHeld held))) (held .lane) after ⌝ }
-{
-    let lane = held.lane;
-    let logged = held.logged + record::part_length(held);
-    state.lanes[lane] = after;
-    Record {
-        lock: Lock::Held(Locked { logged, ..held }),
-        ..state
-    }
-}
-
-// The present part of a locked transaction is logged, on its drained lane.
-fn log_part(
-    sizes: Sizes,
-    state: Record,
-    pairs: &[u64],
-    cache: &mut [u64],
-    flags: &mut [u8],
-    held: Locked,
-) -> Outcome
-    requires { ⌜ PartAt sizes state (now pairs) (now cache) (now flags) held ⌝ }
-    requires { ⌜ held .logged ≡ held .written ⌝ }
-    ensures { λ r. ⌜ ((nvm : List ℕ)
-        → stepOf r (now (pairs .entry)) (now (cache .exit)) nvm (now (flags .exit))
-        ≡ loggedStep sizes held
-        (machineOf state (now (pairs .entry)) (now (cache .entry)) nvm (now (flags .entry)))) ⌝ }
+    ensures { λ r. ⌜ now (words .exit) ≡ wordsOf (loggedState (recordOf (now (words .entry))) latest held end) ⌝ }
 {
     let lane = held.lane;
     let stamp = held.stamp;
-    let writes = part_writes(sizes, pairs, cache, held);
-    let at = state.lanes[lane];
-    let redo = at.redo;
-    let after = append::appended(
-        sizes,
-        at,
-        cache,
-        flags,
-        lane,
-        writes,
+    let logged = held.logged + record::part_length(held);
+    let drained = record::floor_after_drain(latest, codec::read::floor(words, lane));
+    let floor = record::floor_after_append(stamp, drained);
+    codec::write::set_lock(words, Lock::Held(Locked { logged, ..held }));
+    codec::write::set_head(words, lane, Phase::Idle, end, floor);
+    codec::write::normalise(words);
+}
+
+// The present part of a locked transaction is logged, once its lane is drained. The record is still the one before the
+// drain.
+fn log_part(
+    sizes: Sizes,
+    state: &mut [u64],
+    latest: Latest,
+    cache: &mut [u64],
+    flags: &mut [u8],
+    held: Locked,
+) -> Answer
+    requires { ⌜ PartAt sizes (now state) latest (now cache) (now flags) held ⌝ }
+    requires { ⌜ held .logged ≡ held .written ⌝ }
+    ensures { λ r. ⌜ ((nvm : List ℕ)
+        → keptBy r (now (state .exit)) (now (cache .exit)) nvm (now (flags .exit))
+        ≡ keeps (now (state .entry)) (loggedStep sizes held
+        (machineOf (drainedState sizes (now (cache .entry)) (held .lane) (recordIn (now (state .entry))))
+        (pairsIn (now (state .entry))) (now (cache .entry)) nvm (now (flags .entry))))) ⌝ }
+{
+    let lane = held.lane;
+    let stamp = held.stamp;
+    let writes = part_writes(sizes, &state[RECORD_WORDS..], cache, held);
+    let cursor = codec::read::cursor(&state[..RECORD_WORDS], lane);
+    let end = append::append(sizes, cache, flags, lane, writes, stamp, cursor);
+    put_logged(&mut state[..RECORD_WORDS], latest, held, end);
+    Answer::Locked(Progress {
+        left: held.count - held.written,
         stamp,
-        Phase::Idle,
-        redo,
-    );
-    Outcome {
-        answer: Answer::Locked(Progress {
-            left: held.count - held.written,
-            stamp,
-        }),
-        state: logged_state(state, after, held),
-    }
+    })
 }
 
 // Pairs from pair `from` on, as the array that a commit writes: the first `count` of it.
@@ -410,77 +392,75 @@ fn part_of(pairs: &[u64], from: usize, count: usize) -> [Pair; txn::MAX_WRITES]
     part
 }
 
-// The record after the present part is written: the last one commits, and frees the lock.
-fn written_state(state: Record, held: Locked) -> Record
+// The record becomes the one after the present part is written: the last one commits, and frees the lock.
+fn set_written(words: &mut [u64], held: Locked)
+    requires { ⌜ length (now words) ≡ recordLength ⌝ }
     requires { ⌜ held .written < held .count ⌝ }
-    ensures { λ r. ⌜ r ≡ partWrittenState held state ⌝ }
+    ensures { λ r. ⌜ recordOf (now (words .exit)) ≡ partWrittenState held (recordOf (now (words .entry))) ⌝ }
 {
     let written = held.written + record::part_length(held);
     if written == held.count {
-        return Record {
-            last: held.stamp,
-            lock: Lock::Free,
-            ..state
-        };
+        codec::write::set_last(words, held.stamp);
+        codec::write::set_lock(words, Lock::Free);
+        return;
     }
-    Record {
-        lock: Lock::Held(Locked { written, ..held }),
-        ..state
-    }
+    codec::write::set_lock(words, Lock::Held(Locked { written, ..held }));
 }
 
-// The present part of a locked transaction, which is logged, is written, on its drained lane.
+// The present part of a locked transaction, which is logged, is written, once its lane is drained. The record is still
+// the one before the drain.
 fn write_part(
     sizes: Sizes,
-    state: Record,
-    pairs: &[u64],
+    state: &mut [u64],
+    latest: Latest,
     cache: &mut [u64],
     flags: &mut [u8],
     held: Locked,
-) -> Outcome
-    requires { ⌜ PartAt sizes state (now pairs) (now cache) (now flags) held ⌝ }
+) -> Answer
+    requires { ⌜ PartAt sizes (now state) latest (now cache) (now flags) held ⌝ }
     ensures { λ r. ⌜ ((nvm : List ℕ)
-        → stepOf r (now (pairs .entry)) (now (cache .exit)) nvm (now (flags .exit))
-        ≡ writtenStep held
-        (machineOf state (now (pairs .entry)) (now (cache .entry)) nvm (now (flags .entry)))) ⌝ }
+        → keptBy r (now (state .exit)) (now (cache .exit)) nvm (now (flags .exit))
+        ≡ keeps (now (state .entry)) (writtenStep held
+        (machineOf (drainedState sizes (now (cache .entry)) (held .lane) (recordIn (now (state .entry))))
+        (pairsIn (now (state .entry))) (now (cache .entry)) nvm (now (flags .entry))))) ⌝ }
 {
+    let lane = held.lane;
     let count = record::part_length(held);
-    let part = part_of(pairs, held.written, count);
-    commit::write_pairs(cache, flags, held.lane, part, count);
-    Outcome {
-        answer: Answer::Locked(Progress {
-            left: held.count - (held.written + count),
-            stamp: held.stamp,
-        }),
-        state: written_state(state, held),
-    }
+    let part = part_of(&state[RECORD_WORDS..], held.written, count);
+    commit::write_pairs(cache, flags, lane, part, count);
+    let words = &mut state[..RECORD_WORDS];
+    set_written(words, held);
+    store::put_drained(words, lane, latest);
+    Answer::Locked(Progress {
+        left: held.count - (held.written + count),
+        stamp: held.stamp,
+    })
 }
 
 // The next step of the transaction that holds the lock: its next part is logged, or the part that is logged is written.
 // One pass over the flags, one over the lane's log, and what the part has.
 pub fn proceed(
     sizes: Sizes,
-    state: Record,
-    pairs: &[u64],
+    state: &mut [u64],
     cache: &mut [u64],
     nvm: &mut [u64],
     flags: &mut [u8],
     lane: usize,
-) -> Outcome
-    ensures { λ r. ⌜ stepOf r (now (pairs .entry)) (now (cache .exit)) (now (nvm .exit)) (now (flags .exit))
-        ≡ proceedStep sizes lane
-        (machineOf state (now (pairs .entry)) (now (cache .entry)) (now (nvm .entry)) (now (flags .entry))) ⌝ }
+) -> Answer
+    ensures { λ r. ⌜ keptBy r (now (state .exit)) (now (cache .exit)) (now (nvm .exit)) (now (flags .exit))
+        ≡ keeps (now (state .entry)) (proceedStep sizes lane
+        (machineIn (now (state .entry)) (now (cache .entry)) (now (nvm .entry)) (now (flags .entry)))) ⌝ }
 {
-    let number = proceed_refusal(sizes, state, pairs, cache, nvm, flags, lane);
+    let number = proceed_refusal(sizes, state, cache, nvm, flags, lane);
     if number != 0 {
-        return store::refused(number, state);
+        return Answer::Refused(number);
     }
-    let lock = state.lock;
-    let held = record::locked_in(lock);
-    let drained = store::drained_state(sizes, state, cache, lane);
+    let words = &state[..RECORD_WORDS];
+    let held = record::locked_in(codec::read::lock(words));
+    let latest = store::latest_near(sizes, words, cache, lane);
     image::flush::drain(lane, cache, nvm, flags);
     if held.logged == held.written {
-        return log_part(sizes, drained, pairs, cache, flags, held);
+        return log_part(sizes, state, latest, cache, flags, held);
     }
-    write_part(sizes, drained, pairs, cache, flags, held)
+    write_part(sizes, state, latest, cache, flags, held)
 }

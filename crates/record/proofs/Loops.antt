@@ -1,4 +1,4 @@
--- Laws for the crate's loops over a list's first elements: one element more, an element that fails. Assumes nothing.
+-- Laws for loops over a list's first elements, here and over the record's words: one element more, an element that fails. Assumes nothing.
 use mathlib.Core.Path.{_≡_, refl, sym, ap, _∙_}
 use mathlib.Core.Bool.{true, false}
 use mathlib.Core.List.{List, [], _∷_}
@@ -19,24 +19,9 @@ use Rattle.record.specs.declared.Pair.{Pair}
 use Rattle.record.specs.declared.Lane.{Lane}
 use Rattle.record.specs.Record.{noPair, noLane, pairAt, pairsFrom, pairsOk, laneOk, lanesOk, lesser, leastFloor, pairsOf}
 use Rattle.record.specs.inner.Every.{and-false, every-more, every-fails}
-use Rattle.record.specs.inner.RecordLaws.{pairs-every, lanes-every, lesser-none, lesser-assoc}
+use Rattle.record.specs.inner.RecordLaws.{lanes-every, lesser-none, lesser-assoc}
 
--- ---- pairs_ok
-pub pairs-none : (W : ℕ) → pairsOk W [] ≡ true
-unfolding pairsOk
-pairs-none W = refl
-
-pub pairs-more : (W : ℕ) (redo : List Pair) (i : ℕ) → pairsOk W (take i redo) ≡ true → getD redo i noPair .word < W
-    → pairsOk W (take (i + 1) redo) ≡ true
-pairs-more W redo i h k =
-    pairs-every W (take (i + 1) redo)
-    ∙ every-more (λ p. ltb (p .word) W) redo i noPair (sym (pairs-every W (take i redo)) ∙ h) (lt-ltb (getD redo i noPair .word) W k)
-
-pub pairs-fail : (W : ℕ) (redo : List Pair) (i n : ℕ) → i < n → i < length redo → W ≤ getD redo i noPair .word → pairsOk W (take n redo) ≡ false
-pairs-fail W redo i n h b k =
-    pairs-every W (take n redo) ∙ every-fails (λ p. ltb (p .word) W) redo i n noPair h b (le-ltb (getD redo i noPair .word) W k)
-
--- ---- long_pairs_ok: a pair more, from pair j on; a pair that fails
+-- ---- the range check of pairs in words: a pair more, from pair j on; a pair that fails
 long-past : (W : ℕ) (ps : List ℕ) (j i k : ℕ) → k ≡ j + i → pairsOk W (pairsFrom ps j i) ≡ true → getD ps (2 * k) 0 < W
     → pairsOk W (pairsFrom ps j (suc i)) ≡ true
 unfolding pairsOk pairsFrom pairAt
@@ -63,7 +48,7 @@ long-more W ps i h u = rw add-one (long-past W ps 0 i i (omega arith) h u)
 pub long-fail : (W : ℕ) (ps : List ℕ) (i n : ℕ) → i < n → W ≤ getD ps (2 * i) 0 → pairsOk W (pairsFrom ps 0 n) ≡ false
 long-fail W ps i n h u = long-late W ps 0 i i n (omega arith) h u
 
--- ---- record_ok
+-- ---- of the lanes
 pub lanes-none : (z : Sizes) (clock : ℕ) → lanesOk z clock [] ≡ true
 unfolding lanesOk
 lanes-none z clock = refl
@@ -78,7 +63,7 @@ pub lanes-fail : (z : Sizes) (clock : ℕ) (lanes : List Lane) (i n : ℕ) → i
     → laneOk z clock (getD lanes i noLane) ≡ false → lanesOk z clock (take n lanes) ≡ false
 lanes-fail z clock lanes i n h b k = lanes-every z clock (take n lanes) ∙ every-fails (laneOk z clock) lanes i n noLane h b k
 
--- ---- bound_of
+-- ---- the lower bound
 pub least-empty : leastFloor [] ≡ None
 unfolding leastFloor
 least-empty = refl
@@ -93,7 +78,7 @@ past (x ∷ l) (suc i) = ap (lesser (x .floor)) (past l i) ∙ sym (lesser-assoc
 pub least-more : (lanes : List Lane) (i : ℕ) → leastFloor (take (i + 1) lanes) ≡ lesser (leastFloor (take i lanes)) (getD lanes i noLane .floor)
 least-more lanes i = rw add-one (past lanes i)
 
--- ---- pairs_of
+-- ---- a redo log
 pub redo-empty : (n : ℕ) → replicate n noPair ≡ pairsOf n []
 unfolding pairsOf
 redo-empty zero = refl

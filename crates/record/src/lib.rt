@@ -1,7 +1,6 @@
 // The record: clock, last commit, the lanes' state and the lock, which live outside the image and are lost with the
 // power.
 use image::MAX_LANES;
-use image::Sizes;
 use log::Cursor;
 use log::Latest;
 use log::Timestamp;
@@ -12,14 +11,13 @@ ghost use mathlib.Core.Path.{_≡_};
 ghost use mathlib.Core.Bool.{_&&_, _||_};
 ghost use Prim.Native.Nat.{_+_, _%_, _≤_, _<_};
 ghost use lib.Dec.{eqb, ltb};
-ghost use lib.ListN.{length, take};
-ghost use Rattle.txn.specs.Txn.{maxWrites, maxLong};
-ghost use Rattle.image.specs.Image.{maxLanes};
-ghost use Rattle.record.specs.Record.{startLane, startRecord, blankRecord, laneAt, cursorOf, isLogged, loggedIn};
-ghost use Rattle.record.specs.Record.{lockLength, pairsFrom, isHeld, lockedIn, partLength};
-ghost use Rattle.record.specs.Record.{stampOk, floorOk, pairsOk, phaseOk, laneOk, lagOk, heldOk, recordOk, spent};
-ghost use Rattle.record.specs.Record.{lesser, boundOf, lagPassed, floorAfterDrain, floorAfterAppend};
-ghost use Rattle.record.specs.Record.{withLane, withClock, drainedLane, appendedLane, idleLane, pairsOf};
+ghost use lib.ListN.{take};
+ghost use Rattle.txn.specs.Txn.{maxWrites};
+ghost use Rattle.record.specs.Record.{startLane, startRecord, blankRecord, cursorOf, isLogged, loggedIn};
+ghost use Rattle.record.specs.Record.{isHeld, lockedIn, partLength};
+ghost use Rattle.record.specs.Record.{stampOk, lagOk};
+ghost use Rattle.record.specs.Record.{lesser, lagPassed, floorAfterDrain, floorAfterAppend};
+ghost use Rattle.record.specs.Record.{pairsOf};
 
 // A word number and its new value.
 pub struct Pair {
@@ -71,8 +69,8 @@ pub enum Lock {
 // It is lent beside the record, so that no call moves it.
 pub const LOCK_WORDS: usize = 2 * MAX_LONG;
 
-// 2,632 bytes, and a function that takes a record and indexes its lanes copies it: so the calls' inner functions take a
-// lane or numbers where these do, and a call changes its record once, at its end.
+// 2,632 bytes: Format and recovery return it. Calls are lent its words, and read and change fields where they stand
+// there (`codec`).
 pub struct Record {
     pub clock: u64,
     // the timestamp of the last commit
@@ -151,75 +149,10 @@ pub fn logged_in(phase: Phase) -> Logged
 }
 
 // A timestamp of the record is even and not above the clock.
-fn stamp_ok(clock: u64, stamp: u64) -> bool
+pub fn stamp_ok(clock: u64, stamp: u64) -> bool
     ensures { λ r. ⌜ r ≡ stampOk clock stamp ⌝ }
 {
     stamp % 2 == 0 && stamp <= clock
-}
-
-fn floor_ok(clock: u64, floor: Timestamp) -> bool
-    ensures { λ r. ⌜ r ≡ floorOk clock floor ⌝ }
-{
-    match floor {
-        Timestamp::None => true,
-        Timestamp::At(stamp) => stamp_ok(clock, stamp),
-    }
-}
-
-// Do the first `count` pairs name data words?
-fn pairs_ok(words: usize, count: usize, redo: [Pair; MAX_WRITES]) -> bool
-    requires { ⌜ count ≤ maxWrites ⌝ }
-    ensures { λ r. ⌜ r ≡ pairsOk words (take count redo) ⌝ }
-{
-    for i in 0..count {
-        let pair = redo[i];
-        if words <= pair.word {
-            return false;
-        }
-    }
-    true
-}
-
-fn phase_ok(sizes: Sizes, clock: u64, redo: [Pair; MAX_WRITES], phase: Phase) -> bool
-    ensures { λ r. ⌜ r ≡ phaseOk sizes clock redo phase ⌝ }
-{
-    match phase {
-        Phase::Idle => true,
-        Phase::Holds(logged) => {
-            let count = logged.count;
-            if sizes.slots <= logged.first {
-                return false;
-            }
-            if count < 1 {
-                return false;
-            }
-            if MAX_WRITES < count {
-                return false;
-            }
-            if !stamp_ok(clock, logged.stamp) {
-                return false;
-            }
-            pairs_ok(sizes.words, count, redo)
-        }
-    }
-}
-
-fn lane_ok(sizes: Sizes, clock: u64, lane: Lane) -> bool
-    ensures { λ r. ⌜ r ≡ laneOk sizes clock lane ⌝ }
-{
-    let floor = lane.floor;
-    let phase = lane.phase;
-    let redo = lane.redo;
-    if sizes.slots <= lane.next {
-        return false;
-    }
-    if 1 < lane.wrap {
-        return false;
-    }
-    if !floor_ok(clock, floor) {
-        return false;
-    }
-    phase_ok(sizes, clock, redo, phase)
 }
 
 // 2^32, the greatest lag limit.
@@ -277,22 +210,8 @@ pub fn part_length(held: Locked) -> usize
     left
 }
 
-// Do the first `count` of the pairs in these words name data words?
-fn long_pairs_ok(words: usize, count: usize, pairs: &[u64]) -> bool
-    requires { ⌜ count ≤ maxLong ⌝ }
-    requires { ⌜ length (now pairs) ≡ lockLength ⌝ }
-    ensures { λ r. ⌜ r ≡ pairsOk words (pairsFrom (now (pairs .entry)) 0 count) ⌝ }
-{
-    for i in 0..count {
-        if words as u64 <= pairs[2 * i] {
-            return false;
-        }
-    }
-    true
-}
-
 // Are whole parts written, not all of them, and logged as many or one part more?
-fn parts_ok(held: Locked) -> bool
+pub fn parts_ok(held: Locked) -> bool
     ensures { λ r. ⌜ r
         ≡ (eqb (held .written % maxWrites) 0 && (ltb (held .written) (held .count)
         && (eqb (held .logged) (held .written) || eqb (held .logged) (held .written + partLength held)))) ⌝ }
@@ -312,75 +231,6 @@ fn parts_ok(held: Locked) -> bool
     logged == written + part_length(held)
 }
 
-// The range check of a lock that is held; the pairs from the count on may hold anything.
-fn held_ok(sizes: Sizes, state: Record, pairs: &[u64], held: Locked) -> bool
-    requires { ⌜ sizes .lanes ≤ maxLanes ⌝ }
-    requires { ⌜ length (now pairs) ≡ lockLength ⌝ }
-    ensures { λ r. ⌜ r ≡ heldOk sizes state (now (pairs .entry)) held ⌝ }
-{
-    let lane = held.lane;
-    let count = held.count;
-    if sizes.lanes <= lane {
-        return false;
-    }
-    let at = state.lanes[lane];
-    let phase = at.phase;
-    if is_logged(phase) {
-        return false;
-    }
-    if !stamp_ok(state.clock, held.stamp) {
-        return false;
-    }
-    if MAX_LONG < count {
-        return false;
-    }
-    if !long_pairs_ok(sizes.words, count, pairs) {
-        return false;
-    }
-    parts_ok(held)
-}
-
-// The range check, false where refusal 2 is due. The lanes that are not in use, the pairs from the count on, and the
-// words of a free lock's pairs may hold anything; these are read only where the lock is held.
-pub fn record_ok(sizes: Sizes, state: Record, pairs: &[u64]) -> bool
-    requires { ⌜ sizes .lanes ≤ maxLanes ⌝ }
-    requires { ⌜ length (now pairs) ≡ lockLength ⌝ }
-    ensures { λ r. ⌜ r ≡ recordOk sizes state (now (pairs .entry)) ⌝ }
-{
-    let clock = state.clock;
-    if clock % 2 != 0 {
-        return false;
-    }
-    if !stamp_ok(clock, state.last) {
-        return false;
-    }
-    if !lag_ok(state.lag) {
-        return false;
-    }
-    let lanes = sizes.lanes;
-    for i in 0..lanes {
-        let lane = state.lanes[i];
-        if !lane_ok(sizes, clock, lane) {
-            return false;
-        }
-    }
-    let lock = state.lock;
-    match lock {
-        Lock::Free => true,
-        Lock::Held(held) => held_ok(sizes, state, pairs, held),
-    }
-}
-
-// 2^64 - 2, the last even number.
-const CLOCK_END: u64 = u64::MAX - 1;
-
-// Can the clock give no new timestamp?
-pub fn spent(state: Record) -> bool
-    ensures { λ r. ⌜ r ≡ spent state ⌝ }
-{
-    CLOCK_END <= state.clock
-}
-
 // The lesser of two timestamps; none is above all.
 pub fn lesser(a: Timestamp, b: Timestamp) -> Timestamp
     ensures { λ r. ⌜ r ≡ lesser a b ⌝ }
@@ -392,20 +242,6 @@ pub fn lesser(a: Timestamp, b: Timestamp) -> Timestamp
             Timestamp::At(y) => if x <= y { a } else { b },
         },
     }
-}
-
-// The lower bound: the least floor of the lanes in use.
-pub fn bound_of(sizes: Sizes, state: Record) -> Timestamp
-    requires { ⌜ sizes .lanes ≤ maxLanes ⌝ }
-    ensures { λ r. ⌜ r ≡ boundOf sizes state ⌝ }
-{
-    let mut bound = Timestamp::None;
-    for i in 0..sizes.lanes {
-        let lane = state.lanes[i];
-        let floor = lane.floor;
-        bound = lesser(bound, floor);
-    }
-    bound
 }
 
 // Is a timestamp more than the lag limit above the lower bound? A bound above the timestamp, as damage can make it, is
@@ -436,77 +272,6 @@ pub fn floor_after_append(stamp: u64, floor: Timestamp) -> Timestamp
     match floor {
         Timestamp::None => Timestamp::At(stamp),
         Timestamp::At(_) => floor,
-    }
-}
-
-// The record with a lane's state replaced.
-pub fn with_lane(mut state: Record, lane: usize, after: Lane) -> Record
-    requires { ⌜ lane < maxLanes ⌝ }
-    ensures { λ r. ⌜ r ≡ withLane state lane after ⌝ }
-{
-    state.lanes[lane] = after;
-    state
-}
-
-// The record with its clock moved to a new timestamp and a lane's state replaced.
-pub fn stamped(mut state: Record, stamp: u64, lane: usize, after: Lane) -> Record
-    requires { ⌜ lane < maxLanes ⌝ }
-    ensures { λ r. ⌜ r ≡ withLane (withClock state stamp) lane after ⌝ }
-{
-    state.clock = stamp;
-    state.lanes[lane] = after;
-    state
-}
-
-// A lane after a drain that found this latest sequence.
-pub fn drained_lane(latest: Latest, lane: Lane) -> Lane
-    ensures { λ r. ⌜ r ≡ drainedLane latest lane ⌝ }
-{
-    let floor = lane.floor;
-    Lane {
-        floor: floor_after_drain(latest, floor),
-        ..lane
-    }
-}
-
-// The record after a drain of the lane that found this latest sequence.
-pub fn drained(mut state: Record, lane: usize, latest: Latest) -> Record
-    requires { ⌜ lane < maxLanes ⌝ }
-    ensures { λ r. ⌜ r ≡ withLane state lane (drainedLane latest (laneAt state lane)) ⌝ }
-{
-    let at = state.lanes[lane];
-    let after = drained_lane(latest, at);
-    state.lanes[lane] = after;
-    state
-}
-
-// A lane after an append that ended at a cursor, with the phase and the redo log that it then has.
-pub fn appended_lane(
-    stamp: u64,
-    cursor: Cursor,
-    phase: Phase,
-    redo: [Pair; MAX_WRITES],
-    lane: Lane,
-) -> Lane
-    ensures { λ r. ⌜ r ≡ appendedLane stamp cursor phase redo lane ⌝ }
-{
-    let floor = lane.floor;
-    Lane {
-        phase,
-        next: cursor.slot,
-        wrap: cursor.wrap,
-        floor: floor_after_append(stamp, floor),
-        redo,
-    }
-}
-
-// A lane that has committed or given up its transaction.
-pub fn idle_lane(lane: Lane) -> Lane
-    ensures { λ r. ⌜ r ≡ idleLane lane ⌝ }
-{
-    Lane {
-        phase: Phase::Idle,
-        ..lane
     }
 }
 

@@ -7,17 +7,16 @@ use codec::RECORD_WORDS;
 use codec::STATE_WORDS;
 use image::MAX_IMAGE;
 use image::Sizes;
-use record::LOCK_WORDS;
 use record::MAX_LAG;
 use record::Record;
 use recovery::Recovered;
 use recovery::Restart;
 use store::Answer;
-use store::Outcome;
 ghost use mathlib.Core.Path.{_≡_};
 ghost use Prim.Native.Nat.{_≤_};
 ghost use lib.ListN.{length};
 ghost use Rattle.image.specs.Image.{maxImage};
+ghost use Rattle.codec.specs.Fields.{stateLength};
 
 enum Status {
     Going,
@@ -27,7 +26,8 @@ enum Status {
 }
 
 // A trace between two of its ops: the word of the input that it stands at, and what its calls are given beside the
-// lock's pairs and the buffers.
+// state and the buffers. The state is the record's words and, behind them, the lock's pairs; between ops the record's
+// words are in normal form.
 struct Run {
     at: usize,
     status: Status,
@@ -36,7 +36,6 @@ struct Run {
     former: bool,
     // the lag limit that Format and the recoveries are given
     lag: u64,
-    state: Record,
 }
 
 // How many words of each buffer an op is given.
@@ -90,26 +89,34 @@ fn lent(code: u64, words: &[u64], sizes: Sizes, former: bool) -> Lengths
     }
 }
 
-// Format, which takes no record; a refused one leaves record and pairs as they were.
+// The state that a start leaves: its record, and pairs of 0.
+fn put_started(after: Record, state: &mut [u64])
+    requires { ⌜ length (now state) ≡ stateLength ⌝ }
+{
+    codec::record_to(after, &mut state[..RECORD_WORDS]);
+    image::bulk::clear_words(&mut state[RECORD_WORDS..]);
+}
+
+// Format, which takes no record; a refused one leaves the state as it was.
 fn format(
     sizes: Sizes,
     lag: u64,
-    state: Record,
-    pairs: &mut [u64],
+    state: &mut [u64],
     cache: &mut [u64],
     nvm: &mut [u64],
     flags: &mut [u8],
     start: &[u64],
-) -> Outcome {
+) -> Answer
+    requires { ⌜ length (now state) ≡ stateLength ⌝ }
+{
     let outcome = store::format(sizes, lag, start, cache, nvm, flags);
     let answer = outcome.answer;
+    let after = outcome.state;
     match answer {
-        Answer::Refused(_) => Outcome { answer, state },
-        _ => {
-            image::bulk::clear_words(pairs);
-            outcome
-        }
+        Answer::Refused(_) => {}
+        _ => put_started(after, state),
     }
+    answer
 }
 
 // A call of the store, by its code and its words.
@@ -118,70 +125,41 @@ fn call(
     words: &[u64],
     sizes: Sizes,
     lag: u64,
-    state: Record,
-    pairs: &mut [u64],
+    state: &mut [u64],
     cache: &mut [u64],
     nvm: &mut [u64],
     flags: &mut [u8],
-) -> Outcome {
+) -> Answer
+    requires { ⌜ length (now state) ≡ stateLength ⌝ }
+{
     // a write-back's is the number of a word
     let lane = input::number(words, 0);
+    let txn = input::tail(words, 2);
     match code {
-        1 => append::log(
-            sizes,
-            state,
-            pairs,
-            cache,
-            nvm,
-            flags,
-            lane,
-            input::tail(words, 2),
-        ),
-        2 => commit::redo(sizes, state, pairs, cache, nvm, flags, lane),
-        3 => commit::validate(
-            sizes,
-            state,
-            pairs,
-            cache,
-            nvm,
-            flags,
-            lane,
-            input::tail(words, 2),
-        ),
-        4 => append::mark(sizes, state, pairs, cache, nvm, flags, lane),
-        5 => store::drain(sizes, state, pairs, cache, nvm, flags, lane),
-        6 => Outcome {
-            answer: store::write_back(sizes, cache, nvm, flags, lane),
-            state,
-        },
-        18 => lock::begin(
-            sizes,
-            state,
-            pairs,
-            cache,
-            nvm,
-            flags,
-            lane,
-            input::tail(words, 2),
-        ),
-        19 => lock::proceed(sizes, state, pairs, cache, nvm, flags, lane),
+        1 => append::log(sizes, state, cache, nvm, flags, lane, txn),
+        2 => commit::redo(sizes, state, cache, nvm, flags, lane),
+        3 => commit::validate(sizes, state, cache, nvm, flags, lane, txn),
+        4 => append::mark(sizes, state, cache, nvm, flags, lane),
+        5 => store::drain(sizes, state, cache, nvm, flags, lane),
+        6 => store::write_back(sizes, cache, nvm, flags, lane),
+        18 => lock::begin(sizes, state, cache, nvm, flags, lane, txn),
+        19 => lock::proceed(sizes, state, cache, nvm, flags, lane),
         // 8: no other code comes here
-        _ => format(sizes, lag, state, pairs, cache, nvm, flags, words),
+        _ => format(sizes, lag, state, cache, nvm, flags, words),
     }
 }
 
-// Prints the line of a recovery; the record after it, which stays with its pairs where recovery returns none.
-fn restarted(restart: Restart, state: Record, pairs: &mut [u64]) -> Record {
+// Prints the line of a recovery; the state becomes what it returns, and stays where it returns no record.
+fn restarted(restart: Restart, state: &mut [u64])
+    requires { ⌜ length (now state) ≡ stateLength ⌝ }
+{
     let answer = restart.answer;
     let after = restart.state;
     print::recovery_line(answer);
     match answer {
-        Recovered::Refused(_) => state,
-        Recovered::Cut => state,
-        Recovered::Finished(_) => {
-            image::bulk::clear_words(pairs);
-            after
-        }
+        Recovered::Refused(_) => {}
+        Recovered::Cut => {}
+        Recovered::Finished(_) => put_started(after, state),
     }
 }
 
@@ -190,38 +168,38 @@ fn recover(
     limit: usize,
     sizes: Sizes,
     lag: u64,
-    state: Record,
-    pairs: &mut [u64],
+    state: &mut [u64],
     cache: &mut [u64],
     nvm: &mut [u64],
     flags: &mut [u8],
-) -> Record {
+)
+    requires { ⌜ length (now state) ≡ stateLength ⌝ }
+{
     let restart = recovery::recover(sizes, lag, cache, nvm, flags, limit);
-    restarted(restart, state, pairs)
+    restarted(restart, state);
 }
 
 // Recovers without.
 fn recover_read(
     limit: usize,
     lag: u64,
-    state: Record,
-    pairs: &mut [u64],
+    state: &mut [u64],
     cache: &mut [u64],
     nvm: &mut [u64],
     flags: &mut [u8],
-) -> Record {
+)
+    requires { ⌜ length (now state) ≡ stateLength ⌝ }
+{
     let restart = recovery::recover_read(lag, cache, nvm, flags, limit);
-    restarted(restart, state, pairs)
+    restarted(restart, state);
 }
 
-// The record of an op's words, of which `op_length` counts STATE_WORDS. Its contract does not say so: hence the test,
-// whose first arm is never reached.
-fn given_record(words: &[u64], state: Record, pairs: &mut [u64]) -> Record {
-    if words.len() != STATE_WORDS {
-        return state;
-    }
-    buffers::store_words(pairs, 0, &words[RECORD_WORDS..]);
-    codec::record_from(&words[..RECORD_WORDS])
+// Sets the state to an op's words, of which `op_length` counts as many, and brings the record to normal form.
+fn set_state(words: &[u64], state: &mut [u64])
+    requires { ⌜ length (now state) ≡ stateLength ⌝ }
+{
+    buffers::store_words(state, 0, words);
+    codec::write::normalise(&mut state[..RECORD_WORDS]);
 }
 
 // Performs an op, by its code and the words after it, where `run` stands behind them already.
@@ -229,44 +207,36 @@ fn perform(
     code: u64,
     words: &[u64],
     run: Run,
-    pairs: &mut [u64],
+    state: &mut [u64],
     cache: &mut [u64],
     nvm: &mut [u64],
     flags: &mut [u8],
 ) -> Run
+    requires { ⌜ length (now state) ≡ stateLength ⌝ }
     ensures { λ r. ⌜ r .at ≡ run .at ⌝ }
 {
-    let state = run.state;
+    let first = input::number(words, 0);
     match code {
         0 => Run {
             status: Status::Ended,
             ..run
         },
-        7 => Run {
-            state: recover(
-                input::number(words, 0),
-                run.sizes,
-                run.lag,
-                state,
-                pairs,
-                cache,
-                nvm,
-                flags,
-            ),
-            ..run
-        },
+        7 => {
+            recover(first, run.sizes, run.lag, state, cache, nvm, flags);
+            run
+        }
         9 => {
-            print::dump(state, pairs, cache, nvm, flags);
+            print::dump(state, cache, nvm, flags);
             run
         }
         10 => {
             buffers::store(words, 2, cache, nvm, flags);
             run
         }
-        11 => Run {
-            state: given_record(words, state, pairs),
-            ..run
-        },
+        11 => {
+            set_state(words, state);
+            run
+        }
         12 => Run {
             sizes: input::sizes(words),
             ..run
@@ -276,48 +246,25 @@ fn perform(
             run
         }
         14 => {
-            print::digests(state, pairs, cache, nvm, flags);
+            print::digests(state, cache, nvm, flags);
             run
         }
         15 => Run {
             former: input::word(words, 0) == 0,
             ..run
         },
-        16 => Run {
-            state: recover_read(
-                input::number(words, 0),
-                run.lag,
-                state,
-                pairs,
-                cache,
-                nvm,
-                flags,
-            ),
-            ..run
-        },
+        16 => {
+            recover_read(first, run.lag, state, cache, nvm, flags);
+            run
+        }
         17 => Run {
             lag: input::word(words, 0),
             ..run
         },
         _ => {
-            let outcome = call(
-                code,
-                words,
-                run.sizes,
-                run.lag,
-                state,
-                pairs,
-                cache,
-                nvm,
-                flags,
-            );
-            let answer = outcome.answer;
-            let after = outcome.state;
+            let answer = call(code, words, run.sizes, run.lag, state, cache, nvm, flags);
             print::answer_line(code, answer);
-            Run {
-                state: after,
-                ..run
-            }
+            run
         }
     }
 }
@@ -326,12 +273,13 @@ fn perform(
 fn step(
     input: &[u64],
     run: Run,
-    pairs: &mut [u64],
+    state: &mut [u64],
     cache: &mut [u64],
     nvm: &mut [u64],
     flags: &mut [u8],
 ) -> Run
     requires { ⌜ run .at ≤ length (now input) ⌝ }
+    requires { ⌜ length (now state) ≡ stateLength ⌝ }
     requires { ⌜ maxImage ≤ length (now cache) ⌝ }
     requires { ⌜ maxImage ≤ length (now nvm) ⌝ }
     requires { ⌜ maxImage ≤ length (now flags) ⌝ }
@@ -359,7 +307,7 @@ fn step(
             at: at + end,
             ..run
         },
-        pairs,
+        state,
         &mut cache[..in_cache],
         &mut nvm[..in_nvm],
         &mut flags[..in_flags],
@@ -371,12 +319,13 @@ fn step(
 fn run_ops(
     input: &[u64],
     start: Run,
-    pairs: &mut [u64],
+    state: &mut [u64],
     cache: &mut [u64],
     nvm: &mut [u64],
     flags: &mut [u8],
 ) -> Run
     requires { ⌜ start .at ≤ length (now input) ⌝ }
+    requires { ⌜ length (now state) ≡ stateLength ⌝ }
     requires { ⌜ maxImage ≤ length (now cache) ⌝ }
     requires { ⌜ maxImage ≤ length (now nvm) ⌝ }
     requires { ⌜ maxImage ≤ length (now flags) ⌝ }
@@ -384,7 +333,7 @@ fn run_ops(
 {
     let mut run = start;
     for _ in 0..input.len() {
-        run = step(input, run, pairs, cache, nvm, flags);
+        run = step(input, run, state, cache, nvm, flags);
         let status = run.status;
         let Status::Going = status else {
             return run;
@@ -393,7 +342,7 @@ fn run_ops(
     run
 }
 
-// Runs the trace that starts at a word of the input, with buffers, a record and pairs of zeros.
+// Runs the trace that starts at a word of the input, with buffers and a state of zeros.
 fn run_trace(input: &[u64], at: usize) -> Run
     requires { ⌜ at ≤ length (now input) ⌝ }
     ensures { λ r. ⌜ r .at ≤ length (now (input .entry)) ⌝ }
@@ -401,9 +350,7 @@ fn run_trace(input: &[u64], at: usize) -> Run
     let mut cache = [0u64; MAX_IMAGE];
     let mut nvm = [0u64; MAX_IMAGE];
     let mut flags = [0u8; MAX_IMAGE];
-    let mut pairs = [0u64; LOCK_WORDS];
-    let zeros = [0u64; RECORD_WORDS];
-    let state = codec::record_from(&zeros);
+    let mut state = [0u64; STATE_WORDS];
     let sizes = input::sizes(&input[at..]);
     if input.len() - at < 3 {
         return Run {
@@ -412,7 +359,6 @@ fn run_trace(input: &[u64], at: usize) -> Run
             sizes,
             former: false,
             lag: MAX_LAG,
-            state,
         };
     }
     let run = Run {
@@ -421,9 +367,8 @@ fn run_trace(input: &[u64], at: usize) -> Run
         sizes,
         former: false,
         lag: MAX_LAG,
-        state,
     };
-    run_ops(input, run, &mut pairs, &mut cache, &mut nvm, &mut flags)
+    run_ops(input, run, &mut state, &mut cache, &mut nvm, &mut flags)
 }
 
 // Runs the traces of the input, up to a malformed one.

@@ -1,14 +1,10 @@
 // Lines of output. A line is gathered in a buffer, which is written whenever it is full, and at the line's end.
-use codec::RECORD_WORDS;
 use libc::STDOUT_FILENO;
 use log::Timestamp;
-use record::Record;
 use recovery::Recovered;
 use store::Answer;
-ghost use mathlib.Core.Path.{_≡_};
 ghost use Prim.Native.Nat.{_≤_};
 ghost use lib.ListN.{length};
-ghost use Rattle.codec.specs.Fields.{recordLength};
 ghost use Rattle.replay.specs.inner.Lengths.{lineBytes};
 use crate::buffers;
 use crate::input::wide;
@@ -199,47 +195,21 @@ fn bytes_line(name: &[u8], bytes: &[u8]) {
     end_line(&mut line, end);
 }
 
-// The words of a record before the lock's pairs. A function of its own, so that a caller's proof sees only the length.
-fn record_words(state: Record) -> [u64; RECORD_WORDS]
-    ensures { λ r. ⌜ recordLength ≡ length r ⌝ }
-{
-    let mut words = [0; RECORD_WORDS];
-    codec::record_to(state, &mut words);
-    words
-}
-
-// The line of a record.
-fn record_line(state: Record, pairs: &[u64]) {
-    let state_words = record_words(state);
-    let mut line = io::buffer();
-    let used = put(&mut line, 0, b"record");
-    let last = put_words(&mut line, used, &state_words);
-    let end = put_words(&mut line, last, pairs);
-    end_line(&mut line, end);
-}
-
 // The four lines of a dump.
-pub(crate) fn dump(state: Record, pairs: &[u64], cache: &[u64], nvm: &[u64], flags: &[u8]) {
+pub(crate) fn dump(state: &[u64], cache: &[u64], nvm: &[u64], flags: &[u8]) {
     words_line(b"cached", cache);
     words_line(b"cells", nvm);
     bytes_line(b"flags", flags);
-    record_line(state, pairs);
-}
-
-// The digest of a record and its pairs.
-fn record_digest(state: Record, pairs: &[u64]) -> u64 {
-    let state_words = record_words(state);
-    let first = buffers::digest(0, &state_words);
-    buffers::digest(first, pairs)
+    words_line(b"record", state);
 }
 
 // The line of digests.
-pub(crate) fn digests(state: Record, pairs: &[u64], cache: &[u64], nvm: &[u64], flags: &[u8]) {
+pub(crate) fn digests(state: &[u64], cache: &[u64], nvm: &[u64], flags: &[u8]) {
     let all = [
-        buffers::digest(0, cache),
-        buffers::digest(0, nvm),
+        buffers::digest(cache),
+        buffers::digest(nvm),
         buffers::digest_bytes(flags),
-        record_digest(state, pairs),
+        buffers::digest(state),
     ];
     words_line(b"digest", &all);
 }

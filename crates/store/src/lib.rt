@@ -6,14 +6,17 @@ ghost use Prim.Native.Nat.{_<_};
 ghost use lib.ListN.{length, replicate};
 ghost use Rattle.txn.specs.Txn.{maxWrites, txnOk, run};
 ghost use Rattle.txn.specs.inner.Writes.{writesOf};
-ghost use Rattle.image.specs.Image.{sizesOk, formerLength, trailer, imageLength, dataOf};
+ghost use Rattle.image.specs.Image.{maxLanes, sizesOk, formerLength, trailer, imageLength, dataOf};
 ghost use Rattle.image.specs.inner.Facts.{IsImage};
 ghost use Rattle.log.specs.Log.{latestIn};
-ghost use Rattle.record.specs.Record.{noPairs};
+ghost use Rattle.record.specs.Record.{noPairs, laneAt, withLane, drainedLane};
+ghost use Rattle.codec.specs.Fields.{recordLength, recordOf, wordsOf};
 ghost use Rattle.store.specs.Calls.{startImage, formatRefusal, formatStep, writeBackRefusal, writeBackStep};
 ghost use Rattle.store.specs.Calls.{drainRefusal, drainStep};
-ghost use Rattle.store.specs.Interface.{machineOf, blankOf, stepOf, blankStepOf};
-ghost use Rattle.store.specs.inner.Checked.{bodyOf, drainedState};
+ghost use Rattle.store.specs.Interface.{blankOf, stepOf, blankStepOf, machineIn, keptBy, keeps};
+ghost use Rattle.store.specs.inner.Checked.{bodyOf};
+use codec::RECORD_WORDS;
+use codec::STATE_WORDS;
 use image::Sizes;
 use log::Latest;
 use record::Record;
@@ -68,7 +71,7 @@ pub struct Outcome {
 }
 
 // A refusal leaves the record as it was.
-pub fn refused(number: u64, state: Record) -> Outcome
+fn refused(number: u64, state: Record) -> Outcome
     ensures { λ r. ⌜ r ≡ record { answer = Answer.Refused number; state = state } ⌝ }
 {
     Outcome {
@@ -213,23 +216,22 @@ pub fn write_back(sizes: Sizes, cache: &[u64], nvm: &mut [u64], flags: &[u8], wo
 // The number of Drain's refusal, or 0: what every call on a lane checks first.
 pub fn drain_refusal(
     sizes: Sizes,
-    state: Record,
-    pairs: &[u64],
+    state: &[u64],
     cache: &[u64],
     nvm: &[u64],
     flags: &[u8],
     lane: usize,
 ) -> u64
     ensures { λ r. ⌜ r ≡ drainRefusal sizes lane
-        (machineOf state (now (pairs .entry)) (now (cache .entry)) (now (nvm .entry)) (now (flags .entry))) ⌝ }
+        (machineIn (now (state .entry)) (now (cache .entry)) (now (nvm .entry)) (now (flags .entry))) ⌝ }
 {
     if !image::buffers_ok(sizes, cache.len(), nvm.len(), flags.len()) {
         return 1;
     }
-    if pairs.len() != record::LOCK_WORDS {
+    if state.len() != STATE_WORDS {
         return 1;
     }
-    if !record::record_ok(sizes, state, pairs) {
+    if !codec::check::record_ok(sizes, &state[..RECORD_WORDS], &state[RECORD_WORDS..]) {
         return 2;
     }
     if sizes.lanes <= lane {
@@ -248,6 +250,23 @@ pub fn latest_in(sizes: Sizes, cache: &[u64], lane: usize) -> Latest
     log::search::latest(log, sizes.words, sizes.slots, cache[0])
 }
 
+// The same, looked for first in the slot before the lane's next one, where it nearly always is.
+pub fn latest_near(sizes: Sizes, words: &[u64], cache: &[u64], lane: usize) -> Latest
+    requires { ⌜ IsImage sizes (now cache) ⌝ }
+    requires { ⌜ lane < sizes .lanes ⌝ }
+    requires { ⌜ length (now words) ≡ recordLength ⌝ }
+    ensures { λ r. ⌜ r ≡ latestIn sizes (now (cache .entry)) lane ⌝ }
+{
+    let cursor = codec::read::cursor(words, lane);
+    let last = if cursor.slot == 0 {
+        sizes.slots - 1
+    } else {
+        cursor.slot - 1
+    };
+    let log = image::log_part(sizes, cache, lane);
+    log::search::latest_near(log, sizes.words, sizes.slots, cache[0], last)
+}
+
 // The writes of a transaction on the cached data words.
 pub fn writes_on(sizes: Sizes, cache: &[u64], txn: &[u64]) -> Writes
     requires { ⌜ IsImage sizes (now cache) ⌝ }
@@ -259,38 +278,39 @@ pub fn writes_on(sizes: Sizes, cache: &[u64], txn: &[u64]) -> Writes
     txn::run(txn, &cache[1..end])
 }
 
-// The record after the lane's drain: its floor is what its latest sequence gives.
-pub fn drained_state(sizes: Sizes, state: Record, cache: &[u64], lane: usize) -> Record
-    requires { ⌜ IsImage sizes (now cache) ⌝ }
-    requires { ⌜ lane < sizes .lanes ⌝ }
-    ensures { λ r. ⌜ r ≡ drainedState sizes (now (cache .entry)) lane state ⌝ }
+// Stores the record after the lane's drain, which found this latest sequence: it gives the lane its floor.
+pub fn put_drained(words: &mut [u64], lane: usize, latest: Latest)
+    requires { ⌜ length (now words) ≡ recordLength ⌝ }
+    requires { ⌜ lane < maxLanes ⌝ }
+    ensures { λ r. ⌜ now (words .exit) ≡ wordsOf (withLane (recordOf (now (words .entry))) lane
+        (drainedLane latest (laneAt (recordOf (now (words .entry))) lane))) ⌝ }
 {
-    let latest = latest_in(sizes, cache, lane);
-    record::drained(state, lane, latest)
+    let phase = codec::read::phase(words, lane);
+    let cursor = codec::read::cursor(words, lane);
+    let floor = record::floor_after_drain(latest, codec::read::floor(words, lane));
+    codec::write::set_head(words, lane, phase, cursor, floor);
+    codec::write::normalise(words);
 }
 
 // Drains a lane: one pass over the flags, and one over the lane's log where its greatest timestamp is complete.
 pub fn drain(
     sizes: Sizes,
-    state: Record,
-    pairs: &[u64],
+    state: &mut [u64],
     cache: &[u64],
     nvm: &mut [u64],
     flags: &mut [u8],
     lane: usize,
-) -> Outcome
-    ensures { λ r. ⌜ stepOf r (now (pairs .entry)) (now (cache .entry)) (now (nvm .exit)) (now (flags .exit))
-        ≡ drainStep sizes lane
-        (machineOf state (now (pairs .entry)) (now (cache .entry)) (now (nvm .entry)) (now (flags .entry))) ⌝ }
+) -> Answer
+    ensures { λ r. ⌜ keptBy r (now (state .exit)) (now (cache .entry)) (now (nvm .exit)) (now (flags .exit))
+        ≡ keeps (now (state .entry)) (drainStep sizes lane
+        (machineIn (now (state .entry)) (now (cache .entry)) (now (nvm .entry)) (now (flags .entry)))) ⌝ }
 {
-    let number = drain_refusal(sizes, state, pairs, cache, nvm, flags, lane);
+    let number = drain_refusal(sizes, state, cache, nvm, flags, lane);
     if number != 0 {
-        return refused(number, state);
+        return Answer::Refused(number);
     }
-    let drained = drained_state(sizes, state, cache, lane);
+    let latest = latest_near(sizes, &state[..RECORD_WORDS], cache, lane);
     image::flush::drain(lane, cache, nvm, flags);
-    Outcome {
-        answer: Answer::Done,
-        state: drained,
-    }
+    put_drained(&mut state[..RECORD_WORDS], lane, latest);
+    Answer::Done
 }

@@ -2,30 +2,20 @@
 -- functions". Assumes nothing.
 use Prim.Native.Nat.{ℕ}
 use mathlib.Core.Bool.{Bool, cond, _&&_, _||_}
-use mathlib.Core.List.{List, [], _∷_, _++_}
+use mathlib.Core.List.{List, [], _∷_}
 use lib.Dec.{eqb}
-use lib.ListN.{length, getD, take, drop}
+use lib.ListN.{length, getD}
 use Rattle.image.specs.declared.Sizes.{Sizes}
 use Rattle.log.specs.declared.Timestamp.{Timestamp}
 use Rattle.log.specs.declared.Timestamp.the-variants.{None, At}
-use Rattle.record.specs.declared.Record.{Record}
 use Rattle.store.specs.Machine.{Machine, Step, Said, said}
+use Rattle.store.specs.Interface.{stateOf, whereTaken}
 use Rattle.recovery.specs.Recovery.{Restarted, Told, told}
-use Rattle.codec.specs.Fields.{recordLength, stateLength, bitFor, recordOf, wordsOf}
+use Rattle.codec.specs.Fields.{stateLength, bitFor}
 
 -- W, T, N
 abbrev pub sizesOf : (words lanes slots : ℕ) → Sizes
 sizesOf words lanes slots = record { words = words; lanes = lanes; slots = slots }
-
--- ---- the record's words: those before the lock's pairs, then the pairs
-abbrev pub recordIn : List ℕ → Record
-recordIn state = recordOf (take recordLength state)
-
-abbrev pub pairsIn : List ℕ → List ℕ
-pairsIn state = drop recordLength state
-
-abbrev pub stateOf : Machine → List ℕ
-stateOf m = wordsOf (m .state) ++ m .pairs
 
 -- how many words an answer has
 abbrev pub answerLength : ℕ
@@ -51,10 +41,6 @@ firstWord [] [] [] [] = 0
 -- the second is the timestamp, 0 where there is none; the others are 0
 unfoldable pub saidWords : Said → List ℕ
 saidWords s = firstWord (s .count) (s .left) (s .dropped) (s .stamp) ∷ getD (s .stamp) 0 0 ∷ 0 ∷ 0 ∷ []
-
--- what a slice then holds: where the call is taken, new words; else those before
-unfoldable pub whereTaken : (number : ℕ) → (new before : List ℕ) → List ℕ
-whereTaken number new before = cond (eqb number 0) new before
 
 -- ---- what is left
 pub record Left : Type 0 where

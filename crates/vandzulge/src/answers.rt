@@ -14,7 +14,8 @@ ghost use Rattle.record.specs.Record.{noPairs};
 ghost use Rattle.store.specs.Machine.{said};
 ghost use Rattle.recovery.specs.Recovery.{told};
 ghost use Rattle.codec.specs.Fields.{stateLength, wordsOf};
-ghost use Rattle.vandzulge.specs.Exports.{pairsIn, answerLength, whereTaken, saidWords};
+ghost use Rattle.store.specs.Interface.{whereTaken};
+ghost use Rattle.vandzulge.specs.Exports.{answerLength, saidWords};
 ghost use Rattle.vandzulge.specs.Exports.{whereFinished, finishedWords, toldWords};
 
 // The number of the refusal, 0 where it is none.
@@ -52,24 +53,6 @@ fn answer_words(answer: Answer) -> [u64; ANSWER_WORDS]
     }
 }
 
-// Writes the record where the call was taken, and leaves the lock's pairs; its number.
-pub(crate) fn put_record(outcome: Outcome, state: &mut [u64]) -> u64
-    requires { ⌜ length (now state) ≡ stateLength ⌝ }
-    ensures number { λ r. ⌜ r ≡ said (outcome .answer) .number ⌝ }
-    ensures words { λ r. ⌜ now (state .exit)
-        ≡ whereTaken (said (outcome .answer) .number) (wordsOf (outcome .state) ++ pairsIn (now (state .entry)))
-        (now (state .entry)) ⌝ }
-{
-    let answer = outcome.answer;
-    let number = number_in(answer);
-    if number != 0 {
-        return number;
-    }
-    let after = outcome.state;
-    codec::record_to(after, &mut state[..RECORD_WORDS]);
-    0
-}
-
 // The words of a record at a start, which has no pairs.
 fn put_start(after: Record, state: &mut [u64])
     requires { ⌜ length (now state) ≡ stateLength ⌝ }
@@ -95,10 +78,11 @@ pub(crate) fn start(outcome: Outcome, state: &mut [u64]) -> u64
     number
 }
 
-// Writes the answer's words where the call was taken.
-pub(crate) fn reply(given: Answer, answer: &mut [u64])
+// Writes the answer's words where the call was taken; its number.
+pub(crate) fn reply(given: Answer, answer: &mut [u64]) -> u64
     requires { ⌜ length (now answer) ≡ answerLength ⌝ }
-    ensures { λ r. ⌜ now (answer .exit)
+    ensures number { λ r. ⌜ r ≡ said given .number ⌝ }
+    ensures words { λ r. ⌜ now (answer .exit)
         ≡ whereTaken (said given .number) (saidWords (said given)) (now (answer .entry)) ⌝ }
 {
     let number = number_in(given);
@@ -106,6 +90,7 @@ pub(crate) fn reply(given: Answer, answer: &mut [u64])
         let words = answer_words(given);
         image::bulk::copy_words(&words, answer);
     }
+    number
 }
 
 fn recovered_number(answer: Recovered) -> u64

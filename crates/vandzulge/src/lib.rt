@@ -7,9 +7,9 @@ ghost use Rattle.store.specs.Calls.{formatStep, writeBackStep, drainStep, logSt
 ghost use Rattle.store.specs.Locks.{lockStep, proceedStep};
 ghost use Rattle.store.specs.Interface.{machineOf, blankOf};
 ghost use Rattle.recovery.specs.Recovery.{recoverStep, recoverReadStep};
-ghost use Rattle.vandzulge.specs.Exports.{sizesOf, recordIn, pairsIn, recordFits, bothFit};
+ghost use Rattle.codec.specs.Fields.{recordIn, pairsIn};
+ghost use Rattle.vandzulge.specs.Exports.{sizesOf, recordFits, bothFit};
 ghost use Rattle.vandzulge.specs.Exports.{leftBy, leaves, replies, restarts, restartReplies};
-use codec::RECORD_WORDS;
 use codec::STATE_WORDS;
 use image::Sizes;
 
@@ -101,17 +101,7 @@ pub extern "C" fn vandzulge_drain(
         lanes,
         slots,
     };
-    let before = codec::record_from(&state[..RECORD_WORDS]);
-    let outcome = store::drain(
-        sizes,
-        before,
-        &state[RECORD_WORDS..],
-        cache,
-        nvm,
-        flags,
-        lane,
-    );
-    answers::put_record(outcome, state)
+    answers::number_in(store::drain(sizes, state, cache, nvm, flags, lane))
 }
 
 // Logs a transaction. The answer: the count of its writes, its timestamp, 0; 0s where it writes nothing. No words
@@ -151,20 +141,8 @@ pub extern "C" fn vandzulge_log(
         lanes,
         slots,
     };
-    let before = codec::record_from(&state[..RECORD_WORDS]);
-    let outcome = append::log(
-        sizes,
-        before,
-        &state[RECORD_WORDS..],
-        cache,
-        nvm,
-        flags,
-        lane,
-        txn,
-    );
-    let given = outcome.answer;
-    answers::reply(given, answer);
-    answers::put_record(outcome, state)
+    let given = append::log(sizes, state, cache, nvm, flags, lane, txn);
+    answers::reply(given, answer)
 }
 
 // Commits what the lane has logged. The answer: 1, the timestamp, 0; 0s where it is stale.
@@ -202,19 +180,8 @@ pub extern "C" fn vandzulge_redo(
         lanes,
         slots,
     };
-    let before = codec::record_from(&state[..RECORD_WORDS]);
-    let outcome = commit::redo(
-        sizes,
-        before,
-        &state[RECORD_WORDS..],
-        cache,
-        nvm,
-        flags,
-        lane,
-    );
-    let given = outcome.answer;
-    answers::reply(given, answer);
-    answers::put_record(outcome, state)
+    let given = commit::redo(sizes, state, cache, nvm, flags, lane);
+    answers::reply(given, answer)
 }
 
 // Commits a transaction in place of the one logged. The answer: 1, the timestamp, 0; 0s where it has changed.
@@ -253,20 +220,8 @@ pub extern "C" fn vandzulge_validate(
         lanes,
         slots,
     };
-    let before = codec::record_from(&state[..RECORD_WORDS]);
-    let outcome = commit::validate(
-        sizes,
-        before,
-        &state[RECORD_WORDS..],
-        cache,
-        nvm,
-        flags,
-        lane,
-        txn,
-    );
-    let given = outcome.answer;
-    answers::reply(given, answer);
-    answers::put_record(outcome, state)
+    let given = commit::validate(sizes, state, cache, nvm, flags, lane, txn);
+    answers::reply(given, answer)
 }
 
 // Appends a mark. The answer: 1 where a logged transaction was dropped, else 0; the timestamp; 0.
@@ -304,19 +259,8 @@ pub extern "C" fn vandzulge_mark(
         lanes,
         slots,
     };
-    let before = codec::record_from(&state[..RECORD_WORDS]);
-    let outcome = append::mark(
-        sizes,
-        before,
-        &state[RECORD_WORDS..],
-        cache,
-        nvm,
-        flags,
-        lane,
-    );
-    let given = outcome.answer;
-    answers::reply(given, answer);
-    answers::put_record(outcome, state)
+    let given = append::mark(sizes, state, cache, nvm, flags, lane);
+    answers::reply(given, answer)
 }
 
 // Takes the lock for a long transaction, and stores its writes as the lock's pairs. The answer: how many writes are not
@@ -356,20 +300,8 @@ pub extern "C" fn vandzulge_lock(
         lanes,
         slots,
     };
-    let before = codec::record_from(&state[..RECORD_WORDS]);
-    let outcome = lock::begin(
-        sizes,
-        before,
-        &mut state[RECORD_WORDS..],
-        cache,
-        nvm,
-        flags,
-        lane,
-        txn,
-    );
-    let given = outcome.answer;
-    answers::reply(given, answer);
-    answers::put_record(outcome, state)
+    let given = lock::begin(sizes, state, cache, nvm, flags, lane, txn);
+    answers::reply(given, answer)
 }
 
 // Makes the next step of the transaction that holds the lock. The answer: how many of its writes are not yet made, its
@@ -408,19 +340,8 @@ pub extern "C" fn vandzulge_continue(
         lanes,
         slots,
     };
-    let before = codec::record_from(&state[..RECORD_WORDS]);
-    let outcome = lock::proceed(
-        sizes,
-        before,
-        &state[RECORD_WORDS..],
-        cache,
-        nvm,
-        flags,
-        lane,
-    );
-    let given = outcome.answer;
-    answers::reply(given, answer);
-    answers::put_record(outcome, state)
+    let given = lock::proceed(sizes, state, cache, nvm, flags, lane);
+    answers::reply(given, answer)
 }
 
 // Recovers an image of the former length, making at most `limit` stores. The answer: 0s where the limit cut it short,

@@ -1,13 +1,13 @@
 -- `append::log_checks` meets its contract: each return by its law, from the tests that led there.
 -- Assumes nothing.
-use mathlib.Core.Path.{sym, _∙_}
+use mathlib.Core.Path.{sym, ap, _∙_}
 use mathlib.Core.Logic.{⊎-elim}
-use native.Mathlib.Omega.{arith}
 use borrow.Author.Tests.{not-true, not-false}
 use borrow.Author.Needs.{needs}
-use Rattle.record.specs.Record.{laneAt}
+use denote.Ref.{now}
+use Rattle.record.specs.Record.{isLogged, isHeld}
 use Rattle.store.specs.inner.StoreLaws.{checked, lane-small}
-use Rattle.append.specs.inner.LogMarkLaws.{checks-lane, checks-txn, checks-logged, checks-held, checks-none}
+use Rattle.append.specs.inner.LogMarkLaws.{checks-lane, checks-txn, checks-logged, checks-held, checks-none, record-words}
 use Rattle.append.proofs.log_checks.Statement.{statement}
 use Rattle.append.proofs.log_checks.Tie as tie
 
@@ -27,62 +27,66 @@ returns-2 c =
     checks-txn _ _ _ _ (sym (e .before .drain-refusal .ensures) ∙ e .if1 .left) (t .before .if2 .taken)
     (sym (t .txn-ok .ensures) ∙ not-true _ (c .if3 .taken))
 
-mul-at : tie.Need-mul-at
-mul-at c =
-    let e = c .before in
+slice-aggregate-words : tie.Need-slice-aggregate-words
+slice-aggregate-words c =
+    let e = c .before .before in
     let k = checked _ _ _ _ _ _ _ (sym (e .before .drain-refusal .ensures) ∙ e .if1 .left) in
-    omega (arith, lane-small _ _ (k .image .sizes-ok) (k .lane-below))
+    sym (record-words _ (now (e .before .before .before .before .before .before .before .args .state)) _ _ _ _ k)
 
-element-copy-out-at : tie.Need-element-copy-out-at
-element-copy-out-at c =
-    let e = c .before in
+phase-requires : tie.Need-phase-requires
+phase-requires c κs =
+    let e = c .before .before in
     let k = checked _ _ _ _ _ _ _ (sym (e .before .drain-refusal .ensures) ∙ e .if1 .left) in
-    omega (arith, lane-small _ _ (k .image .sizes-ok) (k .lane-below))
+    let s = e .before .before .before .before .before .before .before in
+    (record-words _ (now (s .args .state)) _ _ _ _ k, lane-small _ _ (k .image .sizes-ok) (k .lane-below))
 
 is-logged-requires : tie.Need-is-logged-requires
 is-logged-requires c κs = search needs
 
 returns-3 : tie.Need-returns-3
-unfolding laneAt
 returns-3 c =
     let i = c .before in
-    let j = i .before .before in
+    let j = i .before .before .before in
     let e = j .before in
     checks-logged _ _ _ _ (sym (e .before .drain-refusal .ensures) ∙ e .if1 .left)
     (⊎-elim (λ w n. sym (w .1 .ensures) ∙ not-false _ (w .2 .left)) (λ w n. absurd (n (w .left))) (j .if2 .came))
-    (sym (i .is-logged .ensures) ∙ c .if4 .taken)
+    (ap isLogged (sym (i .before .phase .ensures)) ∙ sym (i .is-logged .ensures) ∙ c .if4 .taken)
+
+lock-requires : tie.Need-lock-requires
+lock-requires c κs =
+    let e = c .before .before .before .before .before in
+    let k = checked _ _ _ _ _ _ _ (sym (e .before .drain-refusal .ensures) ∙ e .if1 .left) in
+    record-words _ (now (e .before .before .before .before .before .before .before .args .state)) _ _ _ _ k
 
 is-held-requires : tie.Need-is-held-requires
 is-held-requires c κs = search needs
 
 returns-4 : tie.Need-returns-4
-unfolding laneAt
 returns-4 c =
     let h = c .before in
-    let g = h .before in
+    let g = h .before .before in
     let i = g .before in
-    let j = i .before .before in
+    let j = i .before .before .before in
     let e = j .before in
     checks-held _ _ _ _ (sym (e .before .drain-refusal .ensures) ∙ e .if1 .left)
     (⊎-elim (λ w n. sym (w .1 .ensures) ∙ not-false _ (w .2 .left)) (λ w n. absurd (n (w .left))) (j .if2 .came))
-    (sym (i .is-logged .ensures) ∙ g .if4 .left)
-    (sym (h .is-held .ensures) ∙ c .if5 .taken)
+    (ap isLogged (sym (i .before .phase .ensures)) ∙ sym (i .is-logged .ensures) ∙ g .if4 .left)
+    (ap isHeld (sym (h .before .lock .ensures)) ∙ sym (h .is-held .ensures) ∙ c .if5 .taken)
 
 returns-5 : tie.Need-returns-5
-unfolding laneAt
 returns-5 c =
     let h = c .before in
-    let g = h .before in
+    let g = h .before .before in
     let i = g .before in
-    let j = i .before .before in
+    let j = i .before .before .before in
     let e = j .before in
     checks-none _ _ _ _ (sym (e .before .drain-refusal .ensures) ∙ e .if1 .left)
     (⊎-elim (λ w n. sym (w .1 .ensures) ∙ not-false _ (w .2 .left)) (λ w n. absurd (n (w .left))) (j .if2 .came))
-    (sym (i .is-logged .ensures) ∙ g .if4 .left)
-    (sym (h .is-held .ensures) ∙ c .if5 .left)
+    (ap isLogged (sym (i .before .phase .ensures)) ∙ sym (i .is-logged .ensures) ∙ g .if4 .left)
+    (ap isHeld (sym (h .before .lock .ensures)) ∙ sym (h .is-held .ensures) ∙ c .if5 .left)
 
 pub log-checks-spec : {M : Type 1} → statement M
 log-checks-spec =
     tie.close
-    (tie.spec drain-refusal-requires returns txn-ok-requires returns-2 mul-at element-copy-out-at is-logged-requires
-    returns-3 is-held-requires returns-4 returns-5)
+    (tie.spec drain-refusal-requires returns txn-ok-requires returns-2 slice-aggregate-words phase-requires is-logged-requires returns-3
+    lock-requires is-held-requires returns-4 returns-5)

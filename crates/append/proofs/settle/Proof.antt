@@ -1,43 +1,32 @@
--- `append::settle` meets its contract: the record changed once is the drained one with a mark appended.
+-- `append::settle` meets its contract: where there is no room the step is refused; otherwise a mark is appended to the drained lane.
 -- Assumes nothing.
-use Prim.Native.Nat.{_≤_, _<_}
-use mathlib.Core.List.{[]}
-use native.Mathlib.Omega.{arith}
-use lib.ListN.{length}
+use mathlib.Core.Path.{refl, sym, ap, _∙_}
 use borrow.Author.Needs.{needs}
-use Rattle.record.specs.Record.{laneAt}
-use Rattle.record.proofs.Lengths.{lanes-eight}
-use Rattle.store.specs.inner.StoreLaws.{lane-small}
-use Rattle.store.specs.inner.CachedWritesLaws.{count-of}
-use Rattle.append.specs.inner.LogMarkLaws.{appended-by, settled-by}
+use denote.Ref.{now}
+use Rattle.store.specs.Machine.{said}
+use Rattle.store.specs.Interface.{keeps}
+use Rattle.store.specs.inner.StoreLaws.{checked, lane-small}
+use Rattle.append.specs.inner.LogMarkLaws.{unrefused, log-room, log-refuses, log-searchable, settle-count, record-words, words-inside, lanes-all}
+use Rattle.append.specs.inner.LogMarkLaws.{settle-after, log-settles}
 use Rattle.append.proofs.settle.Statement.{statement}
 use Rattle.append.proofs.settle.Tie as tie
 
-mul-old : tie.Need-mul-old
-mul-old c = let p = c .before .before .pre .appendable in omega (arith, lane-small _ _ (p .image .sizes-ok) (p .lane-below))
+slice-reshare-prefix-plan-log : tie.Need-slice-reshare-prefix-plan-log
+slice-reshare-prefix-plan-log c =
+    let s = c .before .before .before .before in
+    words-inside _ (now (s .args .state)) _ _ _ _ (checked _ _ _ _ _ _ _ (unrefused _ _ _ _ (s .pre) .at-lane))
 
-element-copy-out-old : tie.Need-element-copy-out-old
-element-copy-out-old c = let p = c .before .before .pre .appendable in omega (arith, lane-small _ _ (p .image .sizes-ok) (p .lane-below))
+slice-aggregate-plan-log : tie.Need-slice-aggregate-plan-log
+slice-aggregate-plan-log c =
+    let s = c .before .before .before .before .before in
+    sym (record-words _ (now (s .args .state)) _ _ _ _ (checked _ _ _ _ _ _ _ (unrefused _ _ _ _ (s .pre) .at-lane)))
 
-drained-lane-requires : tie.Need-drained-lane-requires
-drained-lane-requires c κs = search needs
-
-add-stamp : tie.Need-add-stamp
-add-stamp c = search needs
-
-none-requires : tie.Need-none-requires
-none-requires c κs = search needs
-
-appended-requires : tie.Need-appended-requires
-unfolding laneAt
-appended-requires c κs =
-    let d = c .before .before .before .before in
-    rw (d .drained-lane .ensures, c .none .ensures) (d .before .before .before .before .pre .appendable)
-
-stamped-requires : tie.Need-stamped-requires
-stamped-requires c κs =
-    let p = c .before .before .before .before .before .before .before .before .before .before .before .before .before .pre .appendable in
-    lane-small _ _ (p .image .sizes-ok) (p .lane-below)
+plan-log-requires : tie.Need-plan-log-requires
+plan-log-requires c κs =
+    let s = c .before .before .before .before .before .before in (
+      record-words _ (now (s .args .state)) _ _ _ _ (checked _ _ _ _ _ _ _ (unrefused _ _ _ _ (s .pre) .at-lane)),
+      log-searchable _ _ _ _ _ _ _ _ _ (lanes-all _) (s .pre) (settle-count _ _),
+    )
 
 same-length : tie.Need-same-length
 same-length c = search needs
@@ -46,23 +35,83 @@ same-length-2 : tie.Need-same-length-2
 same-length-2 c = search needs
 
 returns : tie.Need-returns
-unfolding laneAt
 returns c =
-    let a = c .before .before .before .before .before in
-    let n = a .before in
-    let d = n .before .before .before .before in
-    let s = d .before .before .before .before in
-    let k = s .pre .appendable in
-    let w = n .none .result in
-    let l : w .count ≤ length (w .list) = omega (arith, count-of w [] (n .none .ensures)) in
-    let h : s .args .lane < length (s .args .t2 .lanes) =
-    omega (arith, lanes-eight (s .args .t2) (s .good .1 .0), lane-small _ _ (k .image .sizes-ok) (k .lane-below)) in
-    λ pairs nvm. settled-by _ _ _ _ _ (s .pre .found) _ (d .drained-lane .ensures) h pairs nvm _ w (n .none .ensures) _
-    (appended-by _ _ _ _ _ (s .pre .found) _ (d .drained-lane .ensures) h _ _ pairs nvm _ w l (a .appended .result) _ _ _ (a .appended .ensures .0)
-    (c .stamped .ensures) (a .appended .ensures .1 .0) (a .appended .ensures .1 .1))
+    let p = c .before in
+    let s = p .before .before .before .before .before .before .before in
+    log-refuses _ _ _ _ _ _ _ _
+    (p .plan-log .ensures .number ∙ log-room _ _ _ _ (unrefused _ _ _ _ (s .pre)) _ (settle-count _ _) _ refl) (c .if1 .taken)
+
+drain-requires : tie.Need-drain-requires
+drain-requires c κs =
+    let s = c .before .before .before .before .before .before .before .before .before .before .before in
+    let k = checked _ _ _ _ _ _ _ (unrefused _ _ _ _ (s .pre) .at-lane) in
+    (lane-small _ _ (k .image .sizes-ok) (k .lane-below), (k .same-nvm, k .same-flags))
+
+slice-relend-prefix-words : tie.Need-slice-relend-prefix-words
+slice-relend-prefix-words c =
+    let e = c .before .before .before .before .before .before in
+    let s = e .before .before .before .before .before .before .before .before .before .before in
+    words-inside _ (now (s .args .state)) _ _ _ _ (checked _ _ _ _ _ _ _ (unrefused _ _ _ _ (s .pre) .at-lane))
+
+slice-aggregate-words : tie.Need-slice-aggregate-words
+slice-aggregate-words c =
+    let e = c .before .before .before .before .before .before .before in
+    let s = e .before .before .before .before .before .before .before .before .before .before in
+    sym (record-words _ (now (s .args .state)) _ _ _ _ (checked _ _ _ _ _ _ _ (unrefused _ _ _ _ (s .pre) .at-lane)))
+
+put-mark-requires : tie.Need-put-mark-requires
+put-mark-requires c κs =
+    let d = c .before .before .before .before .before .before .before in
+    let e = d .before .before .before .before in
+    let p = e .before in
+    let s = p .before .before .before .before .before .before .before in
+    let u = unrefused _ _ _ _ (s .pre) in
+    let n = p .plan-log .ensures .number ∙ log-room _ _ _ _ u _ (settle-count _ _) _ refl in (
+      record-words _ (now (s .args .state)) _ _ _ _ (checked _ _ _ _ _ _ _ (u .at-lane)),
+      settle-after _ _ _ _ _ _ _ _ (p .plan-log .ensures .latest (e .if1 .left)) (sym n ∙ e .if1 .left) (lanes-all _) _ (d .drain .ensures .1),
+    )
+
+same-length-3 : tie.Need-same-length-3
+same-length-3 c = search needs
+
+same-length-4 : tie.Need-same-length-4
+same-length-4 c = search needs
+
+same-length-5 : tie.Need-same-length-5
+same-length-5 c = search needs
+
+same-length-6 : tie.Need-same-length-6
+same-length-6 c = search needs
+
+returns-2 : tie.Need-returns-2
+unfolding said
+returns-2 c =
+    let a = c .before .before .before .before .before .before in
+    let d = a .before .before .before .before .before .before .before .before in
+    let e = d .before .before .before .before in
+    let p = e .before in
+    let s = p .before .before .before .before .before .before .before in
+    let n = p .plan-log .ensures .number ∙ log-room _ _ _ _ (unrefused _ _ _ _ (s .pre)) _ (settle-count _ _) _ refl in
+    a .put-mark .ensures .1 _ _ _ _ refl
+    ∙ ap (keeps _)
+    (log-settles _ _ _ _ _ _ _ _ _ (d .drain .ensures .0) (d .drain .ensures .1) (sym n ∙ e .if1 .left) _ (a .put-mark .ensures .0))
 
 pub settle-spec : {M : Type 1} → statement M
 settle-spec =
     tie.close
-    (tie.spec mul-old element-copy-out-old drained-lane-requires add-stamp none-requires appended-requires stamped-requires
-    same-length same-length-2 returns)
+    (tie.spec
+    slice-reshare-prefix-plan-log
+    slice-aggregate-plan-log
+    plan-log-requires
+    same-length
+    same-length-2
+    returns
+    drain-requires
+    slice-relend-prefix-words
+    slice-aggregate-words
+    put-mark-requires
+    same-length-3
+    same-length-4
+    same-length-5
+    same-length-6
+    returns-2)

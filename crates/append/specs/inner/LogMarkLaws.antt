@@ -1,15 +1,15 @@
 -- Inner: how the code goes, need not be believed. Laws of Log and Mark: a law for each return of their checks, their plans and their steps; what they
 -- know where they are not refused. Assumes nothing.
 use Prim.Native.Nat.{ℕ, zero, suc, _+_, _^_, _≤_, _<_}
-use mathlib.Core.Path.{_≡_, refl, sym, subst, _∙_, ap}
+use mathlib.Core.Path.{_≡_, refl, sym, _∙_, ap}
 use mathlib.Core.Bool.{Bool, true, false, cond, _&&_, or-true}
 use mathlib.Core.List.{List, [], _∷_, _++_}
 use native.Mathlib.Omega.{arith}
 use native.Mathlib.Decide.{ℕ-discrete}
 use lib.Dec.{eqb}
-use lib.ListN.{length, take, length-map}
-use lib.Seq.{length-take-le}
-use borrow.Author.Tests.{eq-eqb, ne-eqb, eqb-false, le-leb, not-false}
+use lib.ListN.{length, take, drop, length-map, length-take, length-drop}
+use lib.Seq.{getD-set-same, length-take-le}
+use borrow.Author.Tests.{eq-eqb, ne-eqb, eqb-true, eqb-false, le-leb, not-false}
 use Rattle.laws.specs.inner.Tests.{split}
 use Rattle.laws.specs.inner.Lists.{none, All-map}
 use Rattle.slot.specs.Slot.{maxEntries}
@@ -18,7 +18,7 @@ use Rattle.txn.specs.inner.Writes.{writesOf}
 use Rattle.txn.specs.inner.TxnLaws.{run-none, few-writes, run-low}
 use Rattle.txn.specs.declared.Write.{Write}
 use Rattle.txn.specs.declared.Writes.{Writes}
-use Rattle.image.specs.Image.{maxWords, maxLanes, baseOf, dataOf, logStart, logOf}
+use Rattle.image.specs.Image.{maxWords, maxLanes, sizesOk, baseOf, dataOf, logStart, logOf}
 use Rattle.image.specs.inner.ImageLaws.{sizes-in, log-fits}
 use Rattle.image.specs.Flush.{flushAll, drainedNvm, drainedFlags}
 use Rattle.image.specs.Stores.{stored, places}
@@ -30,63 +30,67 @@ use Rattle.log.specs.inner.AppendEntries.{WordsBelow, LogAt}
 use Rattle.log.specs.declared.Cursor.{Cursor}
 use Rattle.log.specs.declared.Latest.{Latest}
 use Rattle.log.specs.declared.Timestamp.{Timestamp}
-use Rattle.record.specs.Record.{laneAt, isLogged, isHeld, spent, boundOf, lagPassed, cursorOf, pairsOf, withLane, withClock, drainedLane, appendedLane}
+use Rattle.record.specs.Record.{noLane, laneAt, isLogged, isHeld, spent, boundOf, lagPassed, cursorOf, floorAfterDrain, floorAfterAppend}
+use Rattle.record.specs.Record.{withLane, withClock, drainedLane, appendedLane, pairsOf}
 use Rattle.record.specs.inner.RecordLaws.{record-in, LaneIn, lane-in, clock-room, clock-lane, lane-twice}
 use Rattle.record.specs.declared.Lane.{Lane}
 use Rattle.record.specs.declared.Pair.{Pair}
 use Rattle.record.specs.declared.Phase.{Phase}
 use Rattle.record.specs.declared.Phase.the-variants.{Idle, Holds}
 use Rattle.record.specs.declared.Record.{Record}
+use Rattle.codec.specs.Fields.{laneLength, recordLength, rowOf, laneOf, recordOf, wordsOf, recordIn, pairsIn}
+use Rattle.codec.specs.inner.InPlace.{headed, redone}
+use Rattle.store.specs.declared.Answer.{Answer}
 use Rattle.store.specs.declared.Answer.the-variants.{Refused, NoWrites, Logged, Settled, Marked}
-use Rattle.store.specs.Machine.{Machine, Step, Cause, firstCause}
+use Rattle.store.specs.Machine.{Machine, Step, Cause, firstCause, unless, said}
 use Rattle.store.specs.Calls.{badBuffers, badRecord, badLane, badTxn, alreadyLogged, lockHeld, clockSpent, drainRefusal, drained, changed, wouldLag, wouldHit}
 use Rattle.store.specs.Calls.{writesOn, appended}
 use Rattle.store.specs.Calls.{marked, logTxnRefusalBy, logTxnStepBy, logged, settleRefusal, settleStep, logRefusalBy, logRefusal, logStepBy, logStep}
 use Rattle.store.specs.Calls.{markRefusal, markStep}
-use Rattle.store.specs.Interface.{machineOf}
+use Rattle.store.specs.Interface.{machineOf, machineIn, keptBy, keeps}
 use Rattle.store.specs.inner.Checked.{Checked, drainedState}
 use Rattle.store.specs.inner.StoreLaws.{first-holds, first-fails, first-none, first-end, checked, lane-small, at-lane, after-lane}
-use Rattle.store.specs.inner.StoreLaws.{lane-passed, step-refused, step-taken, drained-by, drained-state, drained-clock, drained-lane, drained-keeps}
+use Rattle.store.specs.inner.StoreLaws.{lane-passed, step-taken, drained-by, drained-state, drained-clock, drained-lane, drained-keeps}
+use Rattle.store.specs.inner.KeepsLaws.{keeps-taken, keeps-refused}
 use Rattle.store.specs.inner.CachedWritesLaws.{count-of, full-list, writes-of}
 use Rattle.append.specs.declared.Plan.{Plan}
-use Rattle.append.specs.inner.Plans.{roomRefusal, badWords, logChecks, takesStamp, Planned, Searchable, Appendable, AfterDrain}
-use Rattle.append.specs.inner.Plans.{loggedStep, settledStep}
+use Rattle.append.specs.inner.Plans.{roomRefusal, badWords, logChecks, logRoom, takesStamp, Planned, Searchable, Appendable, AfterDrain}
+use Rattle.append.specs.inner.Plans.{loggedStep, markedStep, appendedState}
 
 -- ---- refusals 8, 15 and 9
--- the record that the code drains, by the latest sequence that it has found
-pub drained-is : (z : Sizes) (r d : Record) (q : Latest) (cache : List ℕ) (L : ℕ) → q ≡ latestIn z cache L → d ≡ withLane r L (drainedLane q (laneAt r L))
-    → d ≡ drainedState z cache L r
-unfolding drainedState
-drained-is z r d q cache L f e = e ∙ rw f
+-- the lower bound once the lane has the floor that its drain gives it is that of the drained record
+pub bound-drained : (z : Sizes) (r : Record) (q : Latest) (cache : List ℕ) (L : ℕ) (old floor bound : Timestamp) → q ≡ latestIn z cache L
+    → old ≡ laneAt r L .floor → floor ≡ floorAfterDrain q old → ((l : Lane) → l .floor ≡ floor → bound ≡ boundOf z (withLane r L l))
+    → bound ≡ boundOf z (drainedState z cache L r)
+unfolding drainedState drainedLane
+bound-drained z r q cache L old floor bound f o e b = b (drainedLane (latestIn z cache L) (laneAt r L)) (rw (e, o, f))
 
--- it has kept the lane's next slot
-pub next-kept : (z : Sizes) (r d : Record) (q : Latest) (cache : List ℕ) (L : ℕ) → q ≡ latestIn z cache L → d ≡ withLane r L (drainedLane q (laneAt r L))
-    → laneAt r L .next < z .slots → laneAt d L .next < z .slots
-next-kept z r d q cache L f e h = rw (drained-is z r d q cache L f e, drained-keeps z cache L r .next) h
+-- the lag by what was read of the record
+pub lag-read : (ws : List ℕ) (lag clock : ℕ) (bound : Timestamp) (passed : Bool) → lag ≡ recordOf ws .lag → clock ≡ recordOf ws .clock
+    → passed ≡ lagPassed lag (clock + 2) bound → lagPassed (recordOf ws .lag) (recordOf ws .clock + 2) bound ≡ passed
+lag-read ws lag clock bound passed l k e = rw (← l, ← k) (sym e)
 
 module _ (z : Sizes) (r : Record) (cache : List ℕ) (L n : ℕ) (binds : Bool) where
   pub room-spent : spent r ≡ true → 8 ≡ roomRefusal z r cache L n binds
   unfolding roomRefusal
   room-spent e = sym (first-holds _ _ e)
 
-  module _ (d : Record) (q : Latest) (f : q ≡ latestIn z cache L) (e : d ≡ withLane r L (drainedLane q (laneAt r L)))
-      (bound : Timestamp) (b : bound ≡ boundOf z d) (s : spent r ≡ false) where
-    -- the lag is looked at by the lower bound of the drained record
+  -- the lag and a hit are looked at by the lower bound of the drained record
+  module _ (bound : Timestamp) (b : bound ≡ boundOf z (drainedState z cache L r)) (s : spent r ≡ false) where
     lag-in : (binds && lagPassed (r .lag) (r .clock + 2) (boundOf z (drainedState z cache L r))) ≡ (binds && lagPassed (r .lag) (r .clock + 2) bound)
-    lag-in = rw (b, drained-is z r d q cache L f e)
+    lag-in = rw b
 
     pub room-lag : (binds && lagPassed (r .lag) (r .clock + 2) bound) ≡ true → 15 ≡ roomRefusal z r cache L n binds
     unfolding roomRefusal
     room-lag h = sym (first-fails _ _ s ∙ first-holds _ _ (lag-in ∙ h))
 
-    -- a hit is looked for in the part of the image that is the lane's log
-    module _ (log : List ℕ) (hit : Bool) (p : log ≡ logOf z L cache)
-        (g : hit ≡ hits (z .slots) (laneAt d L .next) n bound (completeBelow (z .words) (z .slots) (baseOf cache) log 0 (z .slots)))
+    -- a hit is looked for in the part of the image that is the lane's log, from the lane's cursor on
+    module _ (log : List ℕ) (cursor : Cursor) (hit : Bool) (p : log ≡ logOf z L cache) (c : cursor ≡ cursorOf (laneAt r L))
+        (g : hit ≡ hits (z .slots) (cursor .slot) n bound (completeBelow (z .words) (z .slots) (baseOf cache) log 0 (z .slots)))
         (k : (binds && lagPassed (r .lag) (r .clock + 2) bound) ≡ false) where
       hit-in : hits (z .slots) (laneAt r L .next) n (boundOf z (drainedState z cache L r)) (completeIn z cache L) ≡ hit
-      hit-in =
-          rw (g, b, p, drained-is z r d q cache L f e, drained-keeps z cache L r .next)
-          (hits-in z cache L (laneAt r L .next) n (boundOf z (drainedState z cache L r)))
+      unfolding cursorOf
+      hit-in = rw (g, c, b, p) (hits-in z cache L (laneAt r L .next) n (boundOf z (drainedState z cache L r)))
 
       pub room-hit : hit ≡ true → 9 ≡ roomRefusal z r cache L n binds
       unfolding roomRefusal
@@ -107,6 +111,21 @@ room-unbound : (z : Sizes) (L n : ℕ) (m : Machine)
     → roomRefusal z (m .state) (m .cache) L n false ≡ firstCause (clockSpent m ∷ record { number = 9; holds = wouldHit z L n m } ∷ [])
 unfolding roomRefusal firstCause clockSpent wouldHit
 room-unbound z L n m = rw (drained-state z L m)
+
+-- where a Log settles no lane and writes nothing it is not asked for
+module _ (z : Sizes) (r : Record) (cache : List ℕ) (L n : ℕ) (settles : Bool) where
+  pub room-waived : settles ≡ false → n ≡ 0 → 0 ≡ logRoom z r cache L settles n
+  unfolding logRoom
+  room-waived s e = rw (s, e)
+
+  -- else it is
+  pub room-counted : (n ≡ 0 → ⊥) → roomRefusal z r cache L (n + 1) true ≡ logRoom z r cache L settles n
+  unfolding logRoom
+  room-counted h = rw (ne-eqb n 0 h) (split settles (λ t. rw t) (λ t. rw t))
+
+  pub room-settles : settles ≡ true → roomRefusal z r cache L (n + 1) true ≡ logRoom z r cache L settles n
+  unfolding logRoom
+  room-settles t = rw t
 
 -- ---- Log's refusals before it runs the transaction
 txn-passes : (z : Sizes) (f : List ℕ) → ((length f ≡ 0 → ⊥) → txnOk maxWrites (z .words) f ≡ true) → badWords z f .holds ≡ false
@@ -151,13 +170,13 @@ first-more (c ∷ cs) ds h =
 
 -- Log takes a timestamp where it writes, and where there are no words
 module _ (z : Sizes) (f : List ℕ) (m : Machine) where
-  pub takes-none : length f ≡ 0 → takesStamp z f m ≡ true
+  takes-none : length f ≡ 0 → takesStamp z f m ≡ true
   unfolding takesStamp
   takes-none e = rw (eq-eqb (length f) 0 e)
 
-  pub takes-some : (w : Writes) → w ≡ writesOf maxWrites (writesOn z f m) → (w .count ≡ 0 → ⊥) → takesStamp z f m ≡ true
+  takes-some : (n : ℕ) → n ≡ length (writesOn z f m) → (n ≡ 0 → ⊥) → takesStamp z f m ≡ true
   unfolding takesStamp
-  takes-some w v h = rw (le-leb 1 (length (writesOn z f m)) (some _ (λ d. h (count-of w _ v ∙ d)))) (or-true (eqb (length f) 0))
+  takes-some n v h = rw (le-leb 1 (length (writesOn z f m)) (some _ (λ d. h (v ∙ d)))) (or-true (eqb (length f) 0))
 
 -- a transaction that has words
 words-some : (f : List ℕ) (w : ℕ) → length (w ∷ f) ≡ 0 → ⊥
@@ -237,20 +256,28 @@ module _ (z : Sizes) (L : ℕ) (f : List ℕ) (m : Machine) where
       ∙ first-fails _ _ (u .idle)
       ∙ first-fails _ _ (u .free)
 
-  module _ (u : Unrefused) (w : Writes) (v : w ≡ writesOf maxWrites (writesOn z f m)) where
+  module _ (u : Unrefused) (n : ℕ) (v : n ≡ length (writesOn z f m)) where
     -- none, where the transaction writes nothing
-    pub log-nothing : (length f ≡ 0 → ⊥) → w .count ≡ 0 → 0 ≡ logRefusal z L f m
+    log-nothing : (length f ≡ 0 → ⊥) → n ≡ 0 → 0 ≡ logRefusal z L f m
     unfolding takesStamp
     log-nothing h e =
-        let n : length (writesOn z f m) ≡ 0 = sym (count-of w _ v) ∙ e in
-        let t : takesStamp z f m ≡ false = rw (ne-eqb (length f) 0 h, n) in
+        let d : length (writesOn z f m) ≡ 0 = sym v ∙ e in
+        let t : takesStamp z f m ≡ false = rw (ne-eqb (length f) 0 h, d) in
         sym (log-left u ∙ first-fails _ _ (rw t) ∙ first-fails _ _ (rw t) ∙ first-fails _ _ (rw t) ∙ first-end)
 
     -- where it writes, or there are no words, those of an append
-    pub log-room : (number n : ℕ) (binds : Bool) → number ≡ roomRefusal z (m .state) (m .cache) L n binds → n ≡ w .count + 1 → binds ≡ true
-        → takesStamp z f m ≡ true → number ≡ logRefusal z L f m
+    log-asked : takesStamp z f m ≡ true → roomRefusal z (m .state) (m .cache) L (n + 1) true ≡ logRefusal z L f m
     unfolding clockSpent
-    log-room number n binds r e b t = r ∙ rw (e, b, count-of w _ v) (room-bound z L (length (writesOn z f m) + 1) m ∙ sym (log-left u ∙ rw t))
+    log-asked t = rw v (room-bound z L (length (writesOn z f m) + 1) m ∙ sym (log-left u ∙ rw t))
+
+    pub log-room : (settles : Bool) → settles ≡ eqb (length f) 0 → logRoom z (m .state) (m .cache) L settles n ≡ logRefusal z L f m
+    unfolding logRoom
+    log-room settles s =
+        split (eqb (length f) 0)
+        (λ t. rw (s, t) (log-asked (takes-none z f m (eqb-true (length f) 0 t))))
+        (λ t. split (eqb n 0)
+        (λ h. rw (s, t, h) (log-nothing (eqb-false (length f) 0 t) (eqb-true n 0 h)))
+        (λ h. rw (s, t, h) (log-asked (takes-some z f m n v (eqb-false n 0 h)))))
 
   log-unspent : logRefusal z L f m ≡ 0 → takesStamp z f m ≡ true → spent (m .state) ≡ false
   log-unspent e t =
@@ -274,7 +301,7 @@ module _ (z : Sizes) (L : ℕ) (m : Machine) where
     unfolding markRefusal lockHeld
     mark-room number l r = r ∙ room-unbound z L 1 m ∙ sym (after-lane z L m _ h ∙ first-fails _ _ l)
 
-  mark-lane : markRefusal z L m ≡ 0 → drainRefusal z L m ≡ 0
+  pub mark-lane : markRefusal z L m ≡ 0 → drainRefusal z L m ≡ 0
   unfolding markRefusal
   mark-lane e = lane-passed z L m _ e .0
 
@@ -283,10 +310,32 @@ module _ (z : Sizes) (L : ℕ) (m : Machine) where
   mark-unspent e = first-none _ _ (λ d. omega arith) (first-none _ _ (λ d. omega arith) (lane-passed z L m _ e .1) .1) .0
 
 -- a refused call's plan
-pub planned-refused : (p : Plan) (refusal : ℕ) (ws : List Write) (q : Latest) → p .number ≡ refusal → (p .number ≡ 0 → ⊥) → Planned p refusal ws q
-planned-refused p refusal ws q e h = record { number = e; writes = λ d. absurd (h d); latest = λ d. absurd (h d) }
+pub planned-refused : (p : Plan) (refusal : ℕ) (q : Latest) → p .number ≡ refusal → (p .number ≡ 0 → ⊥) → Planned p refusal q
+planned-refused p refusal q e h = record { number = e; latest = λ d. absurd (h d) }
 
 -- ---- what a call knows that is not refused 1, 2 or 3: its lane is in range
+-- the words before the pairs are as many as a record has
+pub record-words : (z : Sizes) (state cache nvm flags : List ℕ) (L : ℕ) → Checked z (recordIn state) (pairsIn state) cache nvm flags L
+    → length (take recordLength state) ≡ recordLength
+record-words z state cache nvm flags L k = omega (arith, k .in-pairs, length-drop recordLength state, length-take recordLength state)
+
+pub words-inside : (z : Sizes) (state cache nvm flags : List ℕ) (L : ℕ) → Checked z (recordIn state) (pairsIn state) cache nvm flags L
+    → recordLength ≤ length state
+words-inside z state cache nvm flags L k = omega (arith, k .in-pairs, length-drop recordLength state)
+
+-- a record read from words has all its lanes
+row-length : {A : Type 0} (size : ℕ) (of : List ℕ → A) (n : ℕ) (ws : List ℕ) → length (rowOf size of n ws) ≡ n
+unfolding rowOf
+row-length size of zero ws = refl
+row-length size of (suc n) ws = ap suc (row-length size of n (drop size ws))
+
+pub lanes-all : (ws : List ℕ) → length (recordOf ws .lanes) ≡ maxLanes
+unfolding recordOf
+lanes-all ws = row-length laneLength laneOf maxLanes (drop 2 ws)
+
+pub lane-inside : (z : Sizes) (L : ℕ) (ws : List ℕ) → sizesOk z ≡ true → L < z .lanes → L < length (recordOf ws .lanes)
+lane-inside z L ws ok h = omega (arith, lane-small z L ok h, lanes-all ws)
+
 module _ (z : Sizes) (state : Record) (pairs cache nvm flags : List ℕ) (L : ℕ) (k : Checked z state pairs cache nvm flags L)
     (eight : length (state .lanes) ≡ maxLanes) where
   pub lane-held : LaneIn z (state .clock) (laneAt state L)
@@ -303,14 +352,14 @@ module _ (z : Sizes) (state : Record) (pairs cache nvm flags : List ℕ) (L : �
     most = g;
   }
 
--- ---- what a call knows whose plan has no refusal
-pub record Known (z : Sizes) (state : Record) (pairs cache nvm flags : List ℕ) (L : ℕ) (ws : List Write) (plan : Plan) : Type 0 where
+-- ---- what a call knows that appends these writes: no refusal, and the lane's latest sequence
+pub record Known (z : Sizes) (state : Record) (pairs cache nvm flags : List ℕ) (L : ℕ) (ws : List Write) (w : Writes) (q : Latest) : Type 0 where
   pub checked : Checked z state pairs cache nvm flags L
   pub small : L < maxLanes
-  pub writes : plan .writes ≡ writesOf maxWrites ws
+  pub writes : w ≡ writesOf maxWrites ws
   pub few : length ws ≤ maxWrites
   pub low : WordsBelow maxWords ws
-  pub latest : plan .latest ≡ latestIn z cache L
+  pub latest : q ≡ latestIn z cache L
 
 -- the writes of a transaction that is ok are few, and all to words that there are; no words write nothing
 run-bounds : (z : Sizes) (f : List ℕ) (m : Machine) → z .words ≤ maxWords → ((length f ≡ 0 → ⊥) → txnOk maxWrites (z .words) f ≡ true)
@@ -322,52 +371,86 @@ run-bounds z (w ∷ f) m l ok = (
   All-map (λ x h. omega arith) (run-low current maxWrites (z .words) (w ∷ f) (dataOf z (m .cache)) (ok (words-some f w))),
 )
 
-pub few-planned : (z : Sizes) (L : ℕ) (f : List ℕ) (m : Machine) (w : Writes) → w ≡ writesOf maxWrites (writesOn z f m) → z .words ≤ maxWords
-    → Unrefused z L f m → w .count ≤ maxWrites
-few-planned z L f m w v l u = rw (count-of w _ v) (run-bounds z f m l (u .txn-ok) .0)
+few-counted : (z : Sizes) (L : ℕ) (f : List ℕ) (m : Machine) (n : ℕ) → n ≡ length (writesOn z f m) → z .words ≤ maxWords → Unrefused z L f m
+    → n ≤ maxWrites
+few-counted z L f m n v l u = rw v (run-bounds z f m l (u .txn-ok) .0)
 
-pub written-none : (W : ℕ) (f ws : List ℕ) (w : Writes) → length f ≡ 0 → w ≡ writesOf maxWrites [] → w ≡ writesOf maxWrites (run W f ws)
-written-none W [] ws w n v = v ∙ rw (run-none W ws)
-written-none W (x ∷ f) ws w n v = absurd (words-some f x n)
+-- as many as the calls' refusals and steps speak of
+pub count-on : (z : Sizes) (f : List ℕ) (n : ℕ) (state : Record) (pairs cache nvm flags : List ℕ) → n ≡ length (run (z .words) f (dataOf z cache))
+    → n ≡ length (writesOn z f (machineOf state pairs cache nvm flags))
+unfolding writesOn
+count-on z f n state pairs cache nvm flags e = e
 
-module _ (z : Sizes) (state : Record) (pairs cache nvm flags : List ℕ) (L : ℕ) (plan : Plan) where
-  pub log-known : (f : List ℕ)
-      → Planned plan (logRefusal z L f (machineOf state pairs cache nvm flags)) (writesOn z f (machineOf state pairs cache nvm flags)) (latestIn z cache L)
-      → plan .number ≡ 0 → Known z state pairs cache nvm flags L (writesOn z f (machineOf state pairs cache nvm flags)) plan
-  log-known f p e =
-      let u = unrefused z L f (machineOf state pairs cache nvm flags) (log-checked z L f (machineOf state pairs cache nvm flags) (sym (p .number) ∙ e)) in
+-- no words
+no-words : (f : List ℕ) → length f ≡ 0 → f ≡ []
+no-words [] n = refl
+no-words (x ∷ f) n = absurd (words-some f x n)
+
+pub count-none : (W : ℕ) (f ws : List ℕ) → length f ≡ 0 → 0 ≡ length (run W f ws)
+count-none W [] ws n = rw (run-none W ws)
+count-none W (x ∷ f) ws n = absurd (words-some f x n)
+
+-- Log of no words
+module _ (z : Sizes) (L : ℕ) (f : List ℕ) (m : Machine) (n : length f ≡ 0) where
+  pub settle-checks : (number : ℕ) → number ≡ logChecks z L f m → number ≡ 0 → logChecks z L [] m ≡ 0
+  settle-checks number e h = rw (no-words f n) at (sym e ∙ h)
+
+  pub settle-step : logStep z L [] m ≡ logStep z L f m
+  settle-step = rw (no-words f n)
+
+pub settle-count : (z : Sizes) (m : Machine) → 0 ≡ length (writesOn z [] m)
+unfolding writesOn
+settle-count z m = count-none (z .words) [] (dataOf z (m .cache)) refl
+
+-- what the plan's search needs, of a Log that its checks do not refuse
+pub log-searchable : (z : Sizes) (L : ℕ) (f : List ℕ) (state : Record) (pairs cache nvm flags : List ℕ) (n : ℕ) → length (state .lanes) ≡ maxLanes
+    → logChecks z L f (machineOf state pairs cache nvm flags) ≡ 0 → n ≡ length (writesOn z f (machineOf state pairs cache nvm flags))
+    → Searchable z state (latestIn z cache L) cache L (n + 1)
+log-searchable z L f state pairs cache nvm flags n eight h v =
+    let u = unrefused z L f (machineOf state pairs cache nvm flags) h in
+    let k = checked z state pairs cache nvm flags L (u .at-lane) in
+    let s = sizes-in z (k .image .sizes-ok) in
+    searchable z state pairs cache nvm flags L k eight _ (n + 1) refl (omega arith)
+    (omega (arith, few-counted z L f (machineOf state pairs cache nvm flags) n v (s .words-high) u, s .slots-low))
+
+module _ (z : Sizes) (state : Record) (pairs cache nvm flags : List ℕ) (L : ℕ) (w : Writes) (q : Latest) (found : q ≡ latestIn z cache L) where
+  pub log-known : (f : List ℕ) → logChecks z L f (machineOf state pairs cache nvm flags) ≡ 0
+      → w ≡ writesOf maxWrites (writesOn z f (machineOf state pairs cache nvm flags))
+      → Known z state pairs cache nvm flags L (writesOn z f (machineOf state pairs cache nvm flags)) w q
+  log-known f e v =
+      let u = unrefused z L f (machineOf state pairs cache nvm flags) e in
       let k = checked z state pairs cache nvm flags L (u .at-lane) in
       let b = run-bounds z f (machineOf state pairs cache nvm flags) (sizes-in z (k .image .sizes-ok) .words-high) (u .txn-ok) in
       record {
         checked = k;
         small = lane-small z L (k .image .sizes-ok) (k .lane-below);
-        writes = p .writes e;
+        writes = v;
         few = b .0;
         low = b .1;
-        latest = p .latest e;
+        latest = found;
       }
 
-  pub mark-known : Planned plan (markRefusal z L (machineOf state pairs cache nvm flags)) [] (latestIn z cache L) → plan .number ≡ 0
-      → Known z state pairs cache nvm flags L [] plan
-  mark-known p e =
-      let k = checked z state pairs cache nvm flags L (mark-lane z L (machineOf state pairs cache nvm flags) (sym (p .number) ∙ e)) in
+  -- no writes
+  none-known : drainRefusal z L (machineOf state pairs cache nvm flags) ≡ 0 → w ≡ writesOf maxWrites [] → Known z state pairs cache nvm flags L [] w q
+  none-known e v =
+      let k = checked z state pairs cache nvm flags L e in
       record {
         checked = k;
         small = lane-small z L (k .image .sizes-ok) (k .lane-below);
-        writes = p .writes e;
+        writes = v;
         few = omega arith;
         low = none;
-        latest = p .latest e;
+        latest = found;
       }
 
-  module _ (ws : List Write) (k : Known z state pairs cache nvm flags L ws plan) where
+  module _ (ws : List Write) (k : Known z state pairs cache nvm flags L ws w q) where
     -- the clock has room for a timestamp where refusal 8 is ruled out
     clock-free : spent state ≡ false → state .clock + 3 < 2 ^ 64
     clock-free h = clock-room state h (record-in z state pairs (k .checked .in-range) .clock)
 
-    pub after-drain : length (state .lanes) ≡ maxLanes → state .clock + 3 < 2 ^ 64 → (flags′ : List ℕ) → flags′ ≡ drainedFlags L flags
-        → AfterDrain z state (plan .latest) cache flags′ L (plan .writes)
-    unfolding drainedFlags drainedLane cursorOf
+    after-drain : length (state .lanes) ≡ maxLanes → state .clock + 3 < 2 ^ 64 → (flags′ : List ℕ) → flags′ ≡ drainedFlags L flags
+        → AfterDrain z state q cache flags′ L w
+    unfolding drainedFlags cursorOf
     after-drain eight h flags′ e =
         let l = lane-held z state pairs cache nvm flags L (k .checked) eight in
         record {
@@ -386,109 +469,149 @@ module _ (z : Sizes) (state : Record) (pairs cache nvm flags : List ℕ) (L : �
           };
         }
 
-  pub log-clock : (f : List ℕ)
-      → Planned plan (logRefusal z L f (machineOf state pairs cache nvm flags)) (writesOn z f (machineOf state pairs cache nvm flags)) (latestIn z cache L)
-      → plan .number ≡ 0 → takesStamp z f (machineOf state pairs cache nvm flags) ≡ true → state .clock + 3 < 2 ^ 64
-  log-clock f p e t = clock-free _ (log-known f p e) (log-unspent z L f (machineOf state pairs cache nvm flags) (sym (p .number) ∙ e) t)
+  pub log-after : (f : List ℕ) → Known z state pairs cache nvm flags L (writesOn z f (machineOf state pairs cache nvm flags)) w q
+      → logRefusal z L f (machineOf state pairs cache nvm flags) ≡ 0 → (w .count ≡ 0 → ⊥) → length (state .lanes) ≡ maxLanes → (flags′ : List ℕ)
+      → flags′ ≡ drainedFlags L flags → AfterDrain z state q cache flags′ L w
+  log-after f k e h eight flags′ d =
+      after-drain _ k eight
+      (clock-free _ k
+      (log-unspent z L f (machineOf state pairs cache nvm flags) e
+      (takes-some z f (machineOf state pairs cache nvm flags) _ (count-of w _ (k .writes)) h))) flags′ d
 
-  -- no words have none
-  no-writes : (f : List ℕ)
-      → Planned plan (logRefusal z L f (machineOf state pairs cache nvm flags)) (writesOn z f (machineOf state pairs cache nvm flags)) (latestIn z cache L)
-      → plan .number ≡ 0 → length f ≡ 0 → plan .writes ≡ writesOf maxWrites []
-  unfolding writesOn
-  no-writes [] p e n = rw (← run-none (z .words) (dataOf z cache)) (p .writes e)
-  no-writes (w ∷ f) p e n = absurd (words-some f w n)
+-- a mark may be appended
+module _ (z : Sizes) (state : Record) (pairs cache nvm flags : List ℕ) (L : ℕ) (q : Latest) (found : q ≡ latestIn z cache L) where
+  mark-may : drainRefusal z L (machineOf state pairs cache nvm flags) ≡ 0 → spent state ≡ false → length (state .lanes) ≡ maxLanes → (flags′ : List ℕ)
+      → flags′ ≡ drainedFlags L flags → AfterDrain z state q cache flags′ L (writesOf maxWrites [])
+  mark-may e s eight flags′ d =
+      let w = writesOf maxWrites [] in
+      let k = none-known z state pairs cache nvm flags L w q found e refl in
+      after-drain z state pairs cache nvm flags L w q found [] k eight (clock-free z state pairs cache nvm flags L w q found [] k s) flags′ d
 
-  -- and then the mark may be appended
-  pub settle-after : (f : List ℕ)
-      → Planned plan (logRefusal z L f (machineOf state pairs cache nvm flags)) (writesOn z f (machineOf state pairs cache nvm flags)) (latestIn z cache L)
-      → plan .number ≡ 0 → length f ≡ 0 → length (state .lanes) ≡ maxLanes → (flags′ : List ℕ) → flags′ ≡ drainedFlags L flags
-      → AfterDrain z state (plan .latest) cache flags′ L (writesOf maxWrites [])
-  settle-after f p e n eight flags′ d =
-      subst (AfterDrain z state (plan .latest) cache flags′ L) (no-writes f p e n)
-      (after-drain _ (log-known f p e) eight (log-clock f p e (takes-none z f (machineOf state pairs cache nvm flags) n)) flags′ d)
+  -- by Log of no words
+  pub settle-after : logRefusal z L [] (machineOf state pairs cache nvm flags) ≡ 0 → length (state .lanes) ≡ maxLanes → (flags′ : List ℕ)
+      → flags′ ≡ drainedFlags L flags → AfterDrain z state q cache flags′ L (writesOf maxWrites [])
+  settle-after e =
+      let m = machineOf state pairs cache nvm flags in
+      mark-may (unrefused z L [] m (log-checked z L [] m e) .at-lane) (log-unspent z L [] m e (takes-none z [] m refl))
 
-  pub mark-clock : Planned plan (markRefusal z L (machineOf state pairs cache nvm flags)) [] (latestIn z cache L) → plan .number ≡ 0
-      → state .clock + 3 < 2 ^ 64
-  mark-clock p e = clock-free _ (mark-known p e) (mark-unspent z L (machineOf state pairs cache nvm flags) (sym (p .number) ∙ e))
+  -- by Mark
+  pub mark-after : markRefusal z L (machineOf state pairs cache nvm flags) ≡ 0 → length (state .lanes) ≡ maxLanes → (flags′ : List ℕ)
+      → flags′ ≡ drainedFlags L flags → AfterDrain z state q cache flags′ L (writesOf maxWrites [])
+  mark-after e =
+      let m = machineOf state pairs cache nvm flags in
+      mark-may (mark-lane z L m e) (mark-unspent z L m e)
 
 -- ---- an append
 -- where it starts: the lane's log, which is within the buffers
-pub append-at : (z : Sizes) (at : Lane) (cache flags : List ℕ) (L : ℕ) (w : Writes) (s start : ℕ) → Appendable z at cache flags L w s
+pub append-at : (z : Sizes) (c : Cursor) (cache flags : List ℕ) (L : ℕ) (w : Writes) (s start : ℕ) → Appendable z c cache flags L w s
     → start ≡ logStart z L → LogAt start (z .slots) L cache flags
-append-at z at cache flags L w s start a e = record {
+append-at z c cache flags L w s start a e = record {
   slots-high = sizes-in z (a .image .sizes-ok) .slots-high;
   in-cache = omega (arith, e, log-fits z L (a .lane-below), a .image .in-image);
   in-flags = omega (arith, e, log-fits z L (a .lane-below), a .image .in-image, a .same-flags);
   lane-high = lane-small z L (a .image .sizes-ok) (a .lane-below);
 }
 
--- what it leaves, from that place
-module _ (z : Sizes) (L s : ℕ) (at : Lane) (start : ℕ) (cursor : Cursor) (e : start ≡ logStart z L) (c : cursor ≡ cursorOf at) where
-  pub append-after : (n : ℕ) (end : Cursor) (phase : Phase) (redo : List Pair) (after : Lane) → end ≡ advance (z .slots) n cursor
-      → after ≡ appendedLane s end phase redo at → after ≡ appendedLane s (advance (z .slots) n (cursorOf at)) phase redo at
-  append-after n end phase redo after f g = g ∙ rw (f, c)
+-- the record that it leaves, as it is stored: the clock, then the lane without its redo log
+pub appended-words : (r r₁ r₂ : Record) (ws : List ℕ) (L : ℕ) (q : Latest) (s : ℕ) (end : Cursor) (phase : Phase) (old mid floor : Timestamp)
+    → old ≡ laneAt r L .floor → mid ≡ floorAfterDrain q old → floor ≡ floorAfterAppend s mid → r₁ ≡ withClock r s
+    → r₂ ≡ withLane r₁ L (headed phase end floor (laneAt r₁ L)) → ws ≡ wordsOf r₂ → ws ≡ wordsOf (appendedState r L q s end phase)
+unfolding appendedState headed appendedLane drainedLane withClock laneAt
+appended-words r r₁ r₂ ws L q s end phase old mid floor e₁ e₂ e₃ e₄ e₅ e₆ = e₆ ∙ rw (e₅, e₄, e₃, e₂, e₁)
 
-  pub append-written : (ws : List Write) (cache cache′ : List ℕ) → cache′ ≡ stored (appendStores start (z .slots) s cursor ws) cache
-      → cache′ ≡ stored (appendStores (logStart z L) (z .slots) s (cursorOf at) ws) cache
-  append-written ws cache cache′ f = f ∙ rw (e, c)
+-- a lane that was set
+lane-set : (r : Record) (L : ℕ) (l : Lane) → L < length (r .lanes) → laneAt (withLane r L l) L ≡ l
+unfolding laneAt withLane
+lane-set r L l h = getD-set-same (r .lanes) L l noLane h
 
-  pub append-flushed : (ws : List Write) (flags flags′ : List ℕ) → flags′ ≡ flushAll L (places (appendStores start (z .slots) s cursor ws)) flags
-      → flags′ ≡ flushAll L (places (appendStores (logStart z L) (z .slots) s (cursorOf at) ws)) flags
-  append-flushed ws flags flags′ f = f ∙ rw (e, c)
+-- the record where the redo log was stored before it
+redone-first : (r r₁ : Record) (L : ℕ) (q : Latest) (s : ℕ) (end : Cursor) (phase : Phase) (redo : List Pair) → L < length (r .lanes)
+    → r₁ ≡ withLane r L (redone redo (laneAt r L))
+    → appendedState r₁ L q s end phase ≡ withLane (withClock r s) L (appendedLane s end phase redo (drainedLane q (laneAt r L)))
+unfolding appendedState redone appendedLane drainedLane
+redone-first r r₁ L q s end phase redo h e =
+    let l = redone redo (laneAt r L) in
+    rw (e, lane-set r L l h, clock-lane r s L l)
+    (lane-twice (withClock r s) L l (appendedLane s end phase redo (drainedLane q (laneAt r L))))
 
 -- on a drained machine
 append-machine : (z : Sizes) (L : ℕ) (phase : Phase) (redo : List Pair) (d : Record) (pairs cache nvm flags : List ℕ) (w : Writes) → w .count ≤ length (w .list)
-    → (s : ℕ) (at after : Lane) (r₂ : Record) (cache′ flags′ : List ℕ) → s ≡ d .clock + 2 → at ≡ laneAt d L
-    → after ≡ appendedLane s (advance (z .slots) (w .count + 1) (cursorOf at)) phase redo at → r₂ ≡ withLane (withClock d s) L after
-    → cache′ ≡ stored (appendStores (logStart z L) (z .slots) s (cursorOf at) (take (w .count) (w .list))) cache
-    → flags′ ≡ flushAll L (places (appendStores (logStart z L) (z .slots) s (cursorOf at) (take (w .count) (w .list)))) flags
+    → (s : ℕ) (cursor end : Cursor) (r₂ : Record) (cache′ flags′ : List ℕ) → s ≡ d .clock + 2 → cursor ≡ cursorOf (laneAt d L)
+    → end ≡ advance (z .slots) (w .count + 1) cursor → r₂ ≡ withLane (withClock d s) L (appendedLane s end phase redo (laneAt d L))
+    → cache′ ≡ stored (appendStores (logStart z L) (z .slots) s cursor (take (w .count) (w .list))) cache
+    → flags′ ≡ flushAll L (places (appendStores (logStart z L) (z .slots) s cursor (take (w .count) (w .list)))) flags
     → machineOf r₂ pairs cache′ nvm flags′ ≡ appended z L (take (w .count) (w .list)) phase redo (machineOf d pairs cache nvm flags)
 unfolding appended changed
-append-machine z L phase redo d pairs cache nvm flags w h s at after r₂ cache′ flags′ e₁ e₂ e₃ e₄ e₅ e₆ =
+append-machine z L phase redo d pairs cache nvm flags w h s cursor end r₂ cache′ flags′ e₁ e₂ e₃ e₄ e₅ e₆ =
     rw (e₄, e₃, e₆, e₅, e₂, e₁, length-take-le (w .count) (w .list) h)
 
 -- the record before the drain, with its clock and its lane changed, is the drained one so changed
-module _ (z : Sizes) (L : ℕ) (r : Record) (q : Latest) (cache : List ℕ) (f : q ≡ latestIn z cache L) where
+module _ (z : Sizes) (L : ℕ) (r : Record) (q : Latest) (cache : List ℕ) (f : q ≡ latestIn z cache L) (small : L < length (r .lanes)) where
   changed-once : (s : ℕ) (after : Lane) → withLane (withClock r s) L after ≡ withLane (withClock (drainedState z cache L r) s) L after
   unfolding drainedState
   changed-once s after =
       sym (rw (clock-lane r s L (drainedLane (latestIn z cache L) (laneAt r L)))
       (lane-twice (withClock r s) L (drainedLane (latestIn z cache L) (laneAt r L)) after))
 
-  module _ (at : Lane) (e : at ≡ drainedLane q (laneAt r L)) (small : L < length (r .lanes)) where
-    lane-drained : at ≡ laneAt (drainedState z cache L r) L
-    lane-drained = e ∙ rw f (sym (drained-lane z cache L r small))
+  lane-drained : drainedLane q (laneAt r L) ≡ laneAt (drainedState z cache L r) L
+  lane-drained = rw f (sym (drained-lane z cache L r small))
 
-    pub appended-by : (phase : Phase) (redo : List Pair) (pairs nvm flags : List ℕ) (w : Writes) → w .count ≤ length (w .list)
-        → (after : Lane) (r₂ : Record) (cache′ flags′ : List ℕ)
-        → after ≡ appendedLane (r .clock + 2) (advance (z .slots) (w .count + 1) (cursorOf at)) phase redo at
-        → r₂ ≡ withLane (withClock r (r .clock + 2)) L after
-        → cache′ ≡ stored (appendStores (logStart z L) (z .slots) (r .clock + 2) (cursorOf at) (take (w .count) (w .list))) cache
-        → flags′ ≡ flushAll L (places (appendStores (logStart z L) (z .slots) (r .clock + 2) (cursorOf at) (take (w .count) (w .list)))) flags
+  cursor-drained : cursorOf (laneAt r L) ≡ cursorOf (laneAt (drainedState z cache L r) L)
+  unfolding cursorOf
+  cursor-drained = rw (drained-keeps z cache L r .next, drained-keeps z cache L r .wrap)
+
+  -- what an append leaves, from the lane's cursor at the next timestamp
+  module _ (pairs nvm flags : List ℕ) (w : Writes) (n : w .count ≤ length (w .list)) (s : ℕ) (cursor end : Cursor) (cache′ flags′ : List ℕ)
+      (e₁ : s ≡ r .clock + 2) (e₂ : cursor ≡ cursorOf (laneAt r L)) (e₃ : end ≡ advance (z .slots) (w .count + 1) cursor)
+      (e₄ : cache′ ≡ stored (appendStores (logStart z L) (z .slots) s cursor (take (w .count) (w .list))) cache)
+      (e₅ : flags′ ≡ flushAll L (places (appendStores (logStart z L) (z .slots) s cursor (take (w .count) (w .list)))) flags) where
+    appended-by : (phase : Phase) (redo : List Pair) (r₂ : Record)
+        → r₂ ≡ withLane (withClock r s) L (appendedLane s end phase redo (drainedLane q (laneAt r L)))
         → machineOf r₂ pairs cache′ nvm flags′
         ≡ appended z L (take (w .count) (w .list)) phase redo (machineOf (drainedState z cache L r) pairs cache nvm flags)
-    appended-by phase redo pairs nvm flags w h after r₂ cache′ flags′ e₁ e₂ e₃ e₄ =
-        append-machine z L phase redo (drainedState z cache L r) pairs cache nvm flags w h (r .clock + 2) at after r₂ cache′ flags′
-        (ap (λ (k : ℕ). k + 2) (sym (drained-clock z cache L r))) lane-drained e₁ (e₂ ∙ changed-once (r .clock + 2) after) e₃ e₄
+    appended-by phase redo r₂ e =
+        append-machine z L phase redo (drainedState z cache L r) pairs cache nvm flags w n s cursor end r₂ cache′ flags′
+        (e₁ ∙ ap (λ (k : ℕ). k + 2) (sym (drained-clock z cache L r))) (e₂ ∙ cursor-drained) e₃
+        (e ∙ changed-once s _ ∙ ap (λ (l : Lane). withLane (withClock (drainedState z cache L r) s) L (appendedLane s end phase redo l)) lane-drained) e₄ e₅
 
-    -- Log of no words
-    pub settled-by : (pairs nvm flags : List ℕ) (w : Writes) → w ≡ writesOf maxWrites [] → (machine : Machine)
-        → machine ≡ appended z L (take (w .count) (w .list)) Idle (at .redo) (machineOf (drainedState z cache L r) pairs cache nvm flags)
-        → record { answer = Settled (r .clock + 2); machine = machine } ≡ settledStep z L (machineOf (drainedState z cache L r) pairs cache nvm flags)
-    unfolding settledStep
-    settled-by pairs nvm flags w v machine a = rw (a, writes-of w [] v (omega arith), lane-drained, drained-clock z cache L r)
+    -- a mark
+    mark-by : (answer : Answer) (machine : Machine) → w ≡ writesOf maxWrites []
+        → machine ≡ appended z L (take (w .count) (w .list)) Idle (laneAt r L .redo) (machineOf (drainedState z cache L r) pairs cache nvm flags)
+        → record { answer = answer; machine = machine } ≡ markedStep z L answer (machineOf (drainedState z cache L r) pairs cache nvm flags)
+    unfolding markedStep
+    mark-by answer machine v a = rw (a, writes-of w [] v (omega arith), drained-keeps z cache L r .redo)
+
+    pub marks : (before ws : List ℕ) (answer : Answer) → said answer .number ≡ 0 → w ≡ writesOf maxWrites []
+        → ws ≡ wordsOf (appendedState r L q s end Idle)
+        → keptBy answer (ws ++ pairs) cache′ nvm flags′
+        ≡ keeps before (markedStep z L answer (machineOf (drainedState z cache L r) pairs cache nvm flags))
+    unfolding appendedState
+    marks before ws answer t v e =
+        let r₂ = appendedState r L q s end Idle in
+        keeps-taken before answer r₂ ws pairs cache′ nvm flags′ _
+        (mark-by answer (machineOf r₂ pairs cache′ nvm flags′) v (appended-by Idle (laneAt r L .redo) r₂ refl)) t e
 
     -- Log of a transaction that writes
-    pub logged-by : (redo : List Pair) (pairs nvm flags : List ℕ) (w : Writes) → w .count ≤ length (w .list)
-        → redo ≡ pairsOf maxWrites (take (w .count) (w .list))
-        → (machine : Machine)
-        → machine ≡ appended z L (take (w .count) (w .list)) (Holds (record { first = at .next; count = w .count; stamp = r .clock + 2 })) redo
+    log-by : (redo : List Pair) (machine : Machine) → redo ≡ pairsOf maxWrites (take (w .count) (w .list))
+        → machine ≡ appended z L (take (w .count) (w .list)) (Holds (record { first = cursor .slot; count = w .count; stamp = s })) redo
         (machineOf (drainedState z cache L r) pairs cache nvm flags)
-        → record { answer = Logged (record { count = w .count; stamp = r .clock + 2 }); machine = machine }
+        → record { answer = Logged (record { count = w .count; stamp = s }); machine = machine }
         ≡ loggedStep z L (take (w .count) (w .list)) (machineOf (drainedState z cache L r) pairs cache nvm flags)
-    unfolding loggedStep logged
-    logged-by redo pairs nvm flags w h g machine a = rw (a, g, lane-drained, drained-clock z cache L r, length-take-le (w .count) (w .list) h)
+    unfolding loggedStep logged cursorOf
+    log-by redo machine g a =
+        rw (a, g, e₂, e₁, drained-keeps z cache L r .next, drained-clock z cache L r, length-take-le (w .count) (w .list) n)
+
+    pub logs : (before ws : List ℕ) (r₁ : Record) (redo : List Pair) → redo ≡ pairsOf maxWrites (take (w .count) (w .list))
+        → r₁ ≡ withLane r L (redone redo (laneAt r L))
+        → ws ≡ wordsOf (appendedState r₁ L q s end (Holds (record { first = cursor .slot; count = w .count; stamp = s })))
+        → keptBy (Logged (record { count = w .count; stamp = s })) (ws ++ pairs) cache′ nvm flags′
+        ≡ keeps before (loggedStep z L (take (w .count) (w .list)) (machineOf (drainedState z cache L r) pairs cache nvm flags))
+    unfolding said
+    logs before ws r₁ redo g e d =
+        let phase = Holds (record { first = cursor .slot; count = w .count; stamp = s }) in
+        let r₂ = appendedState r₁ L q s end phase in
+        keeps-taken before _ r₂ ws pairs cache′ nvm flags′ _
+        (log-by redo (machineOf r₂ pairs cache′ nvm flags′) g (appended-by phase redo r₂ (redone-first r r₁ L q s end phase redo small e))) refl d
 
 -- ---- steps, from the plan and from what the drain and the append leave
 -- Log of a transaction that has words, once it is taken
@@ -499,87 +622,73 @@ writtenStep z L f m =
     (record { answer = NoWrites; machine = drained z L m })
     (record { answer = Logged (record { count = length ws; stamp = m .state .clock + 2 }); machine = logged z L ws (drained z L m) })
 
--- a refused Log
-pub log-refuses : (z : Sizes) (L : ℕ) (m : Machine) (f : List ℕ) (number : ℕ) → number ≡ logRefusal z L f m → (number ≡ 0 → ⊥)
-    → record { answer = Refused number; machine = m } ≡ logStep z L f m
-unfolding logRefusalBy logStepBy settleStep logTxnStepBy
-log-refuses z L m [] number e h = step-refused _ _ _ _ e h
-log-refuses z L m (w ∷ f) number e h = step-refused _ _ _ _ e h
+-- a refused call
+pub refuses : (state cache nvm flags : List ℕ) (number refusal : ℕ) (step : Step) → number ≡ refusal → (number ≡ 0 → ⊥)
+    → keptBy (Refused number) state cache nvm flags ≡ keeps state (unless refusal (machineIn state cache nvm flags) step)
+refuses state cache nvm flags number refusal step e h =
+    keeps-refused number state cache nvm flags step h ∙ ap (λ (k : ℕ). keeps state (unless k (machineIn state cache nvm flags) step)) e
 
-module _ (z : Sizes) (L : ℕ) (state : Record) (pairs cache nvm flags : List ℕ) (plan : Plan) (nvm′ flags′ : List ℕ) (f₁ : nvm′ ≡ drainedNvm L flags cache nvm)
-    (f₂ : flags′ ≡ drainedFlags L flags) (e : plan .number ≡ 0) where
+pub log-refuses : (z : Sizes) (L : ℕ) (f state cache nvm flags : List ℕ) (number : ℕ) → number ≡ logRefusal z L f (machineIn state cache nvm flags)
+    → (number ≡ 0 → ⊥) → keptBy (Refused number) state cache nvm flags ≡ keeps state (logStep z L f (machineIn state cache nvm flags))
+unfolding logRefusalBy logStepBy settleStep logTxnStepBy
+log-refuses z L [] state cache nvm flags number e h = refuses state cache nvm flags number _ _ e h
+log-refuses z L (w ∷ f) state cache nvm flags number e h = refuses state cache nvm flags number _ _ e h
+
+module _ (z : Sizes) (L : ℕ) (state : Record) (pairs cache nvm flags nvm′ flags′ : List ℕ) (f₁ : nvm′ ≡ drainedNvm L flags cache nvm)
+    (f₂ : flags′ ≡ drainedFlags L flags) where
   now-drained : machineOf (drainedState z cache L state) pairs cache nvm′ flags′ ≡ drained z L (machineOf state pairs cache nvm flags)
   now-drained = drained-by z L state pairs cache nvm flags (drainedState z cache L state) nvm′ flags′ refl f₁ f₂
 
   -- a mark on the drained machine
-  marked-is : appended z L [] Idle (laneAt (drainedState z cache L state) L .redo) (machineOf (drainedState z cache L state) pairs cache nvm′ flags′)
-      ≡ marked z L (machineOf state pairs cache nvm flags)
-  marked-is = rw (drained-keeps z cache L state .redo) (ap (appended z L [] Idle (laneAt state L .redo)) now-drained)
+  marked-is : (answer : Answer) → markedStep z L answer (machineOf (drainedState z cache L state) pairs cache nvm′ flags′)
+      ≡ record { answer = answer; machine = marked z L (machineOf state pairs cache nvm flags) }
+  unfolding markedStep
+  marked-is answer = rw (drained-keeps z cache L state .redo, now-drained)
 
-  settled-is : settledStep z L (machineOf (drainedState z cache L state) pairs cache nvm′ flags′)
-      ≡ record { answer = Settled (state .clock + 2); machine = marked z L (machineOf state pairs cache nvm flags) }
-  unfolding settledStep
-  settled-is = rw (marked-is, drained-clock z cache L state)
-
-  -- a Log that is taken, of no words and of some
-  taken-none : (f : List ℕ) → length f ≡ 0 → plan .number ≡ logRefusal z L f (machineOf state pairs cache nvm flags)
-      → record { answer = Settled (state .clock + 2); machine = marked z L (machineOf state pairs cache nvm flags) }
-      ≡ logStep z L f (machineOf state pairs cache nvm flags)
+  -- Log of no words settles the lane
+  pub log-settles : logRefusal z L [] (machineOf state pairs cache nvm flags) ≡ 0 → (s : ℕ) → s ≡ state .clock + 2
+      → markedStep z L (Settled s) (machineOf (drainedState z cache L state) pairs cache nvm′ flags′) ≡ logStep z L [] (machineOf state pairs cache nvm flags)
   unfolding logRefusalBy logStepBy settleStep
-  taken-none [] n p = step-taken _ _ _ _ p e
-  taken-none (w ∷ f) n p = absurd (words-some f w n)
+  log-settles e s c = rw c (marked-is (Settled (state .clock + 2)) ∙ step-taken _ _ _ _ refl e)
 
-  taken-some : (f : List ℕ) → (length f ≡ 0 → ⊥) → plan .number ≡ logRefusal z L f (machineOf state pairs cache nvm flags) → (step : Step)
+  -- a Log of words that is taken
+  taken-some : (f : List ℕ) → (length f ≡ 0 → ⊥) → logRefusal z L f (machineOf state pairs cache nvm flags) ≡ 0 → (step : Step)
       → step ≡ writtenStep z L f (machineOf state pairs cache nvm flags) → step ≡ logStep z L f (machineOf state pairs cache nvm flags)
   unfolding logRefusalBy logStepBy logTxnStepBy
-  taken-some [] n p step a = absurd (n refl)
-  taken-some (w ∷ f) n p step a = a ∙ step-taken _ _ _ _ p e
+  taken-some [] n e step a = absurd (n refl)
+  taken-some (w ∷ f) n e step a = a ∙ step-taken _ _ _ _ refl e
 
-  module _ (f : List ℕ)
-      (p : Planned plan (logRefusal z L f (machineOf state pairs cache nvm flags)) (writesOn z f (machineOf state pairs cache nvm flags))
-      (latestIn z cache L)) where
-    -- no words settle the lane
-    pub log-settles : length f ≡ 0 → (step : Step) → step ≡ settledStep z L (machineOf (drainedState z cache L state) pairs cache nvm′ flags′)
-        → step ≡ logStep z L f (machineOf state pairs cache nvm flags)
-    log-settles n step a = a ∙ settled-is ∙ taken-none f n (p .number)
+  module _ (f : List ℕ) (w : Writes) (q : Latest) (k : Known z state pairs cache nvm flags L (writesOn z f (machineOf state pairs cache nvm flags)) w q)
+      (e : logRefusal z L f (machineOf state pairs cache nvm flags) ≡ 0) (n : length f ≡ 0 → ⊥) where
+    -- a transaction that writes nothing drains its lane
+    pub log-drains : (before ws : List ℕ) → ws ≡ wordsOf (withLane state L (drainedLane q (laneAt state L))) → w .count ≡ 0
+        → keptBy NoWrites (ws ++ pairs) cache nvm′ flags′ ≡ keeps before (logStep z L f (machineOf state pairs cache nvm flags))
+    unfolding said drainedState
+    log-drains before ws d h =
+        keeps-taken before NoWrites (drainedState z cache L state) ws pairs cache nvm′ flags′ _
+        (rw now-drained (taken-some f n e _ (rw (sym (count-of _ _ (k .writes)) ∙ h)))) refl
+        (d ∙ rw (k .latest))
 
-    module _ (n : length f ≡ 0 → ⊥) where
-      -- a transaction that writes nothing drains its lane
-      pub log-drains : (r : Record) → r ≡ withLane state L (drainedLane (plan .latest) (laneAt state L)) → plan .writes .count ≡ 0
-          → record { answer = NoWrites; machine = machineOf r pairs cache nvm′ flags′ } ≡ logStep z L f (machineOf state pairs cache nvm flags)
-      log-drains r d h =
-          rw (drained-is z state r (plan .latest) cache L (p .latest e) d, now-drained)
-          (taken-some f n (p .number) _ (rw (sym (count-of _ _ (p .writes e)) ∙ h)))
-
-      -- one that writes appends to it
-      pub log-writes : (step : Step)
-          → step ≡ loggedStep z L (take (plan .writes .count) (plan .writes .list)) (machineOf (drainedState z cache L state) pairs cache nvm′ flags′)
-          → (plan .writes .count ≡ 0 → ⊥) → step ≡ logStep z L f (machineOf state pairs cache nvm flags)
-      unfolding loggedStep
-      log-writes step a h =
-          let k = log-known z state pairs cache nvm flags L plan f p e in
-          let c = count-of _ _ (k .writes) in
-          taken-some f n (p .number) step
-          (a
-          ∙ rw (
-            writes-of _ _ (k .writes) (k .few),
-            now-drained,
-            drained-state z L (machineOf state pairs cache nvm flags),
-            drained-clock z cache L state,
-            ne-eqb (length (writesOn z f (machineOf state pairs cache nvm flags))) 0 (λ d. h (c ∙ d)),
-          ))
+    -- one that writes appends to it
+    pub log-writes : (w .count ≡ 0 → ⊥)
+        → loggedStep z L (take (w .count) (w .list)) (machineOf (drainedState z cache L state) pairs cache nvm′ flags′)
+        ≡ logStep z L f (machineOf state pairs cache nvm flags)
+    unfolding loggedStep
+    log-writes h =
+        let c = count-of _ _ (k .writes) in
+        taken-some f n e _
+        (rw (
+          writes-of _ _ (k .writes) (k .few),
+          now-drained,
+          drained-state z L (machineOf state pairs cache nvm flags),
+          drained-clock z cache L state,
+          ne-eqb (length (writesOn z f (machineOf state pairs cache nvm flags))) 0 (λ d. h (c ∙ d)),
+        ))
 
   -- a Mark
-  module _ (p : Planned plan (markRefusal z L (machineOf state pairs cache nvm flags)) [] (latestIn z cache L)) (at : Lane) (machine : Machine)
-      (l : at ≡ drainedLane (plan .latest) (laneAt state L))
-      (a : machine ≡ appended z L (take (plan .writes .count) (plan .writes .list)) Idle (at .redo)
-      (machineOf (drainedState z cache L state) pairs cache nvm′ flags′)) where
-    marked-by : machine ≡ marked z L (machineOf state pairs cache nvm flags)
-    unfolding drainedLane
-    marked-by = a ∙ rw (writes-of _ [] (p .writes e) (omega arith), l, now-drained)
-
-    pub mark-taken : (dropped : Bool) → dropped ≡ isLogged (at .phase)
-        → record { answer = Marked (record { stamp = state .clock + 2; dropped = dropped }); machine = machine }
-        ≡ markStep z L (machineOf state pairs cache nvm flags)
-    unfolding markStep drainedLane
-    mark-taken dropped d = rw (marked-by, d, l) (step-taken _ _ _ _ (p .number) e)
+  pub mark-taken : markRefusal z L (machineOf state pairs cache nvm flags) ≡ 0 → (s : ℕ) (phase : Phase) (dropped : Bool)
+      → s ≡ state .clock + 2 → phase ≡ laneAt state L .phase → dropped ≡ isLogged phase
+      → markedStep z L (Marked (record { stamp = s; dropped = dropped })) (machineOf (drainedState z cache L state) pairs cache nvm′ flags′)
+      ≡ markStep z L (machineOf state pairs cache nvm flags)
+  unfolding markStep
+  mark-taken e s phase dropped c h d = rw (c, d, h) (marked-is _ ∙ step-taken _ _ _ _ refl e)

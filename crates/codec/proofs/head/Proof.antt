@@ -2,6 +2,7 @@
 -- Assumes nothing.
 use borrow.Author.Needs.{needs}
 use Rattle.codec.specs.Fields.{headWords}
+use Rattle.codec.specs.inner.InPlace.{headed}
 use Rattle.codec.proofs.head.Statement.{statement}
 use Rattle.codec.proofs.head.Tie as tie
 
@@ -24,8 +25,8 @@ stamp-of-requires : tie.Need-stamp-of-requires
 stamp-of-requires c κs = search needs
 
 returns : tie.Need-returns
-unfolding headWords
-returns c = let a = c .before in let b = a .before in let d = b .before in let e = d .before in let f = e .before in
+unfolding headWords headed
+returns c = λ l. let a = c .before in let b = a .before in let d = b .before in let e = d .before in let f = e .before in
     rw (c .stamp-of .ensures, a .bit-for2 .ensures, b .is-set .ensures, d .bit-for .ensures, e .is-logged .ensures, f .logged-in .ensures)
 
 pub head-spec : {M : Type 1} → statement M

@@ -115,7 +115,7 @@ part-on n done a e ws ys d f g h =
           ∙ ap (λ (l : List ℕ). l ++ ys) (d .so-far);
     }
 
-head-eight : (l : Lane) → length (headWords l) ≡ headLength
+pub head-eight : (l : Lane) → length (headWords l) ≡ headLength
 unfolding headWords
 head-eight l = refl
 

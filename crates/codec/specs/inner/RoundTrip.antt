@@ -57,27 +57,29 @@ module _ {A : Type 0} (size : ℕ) (of : List ℕ → A) (to : A → List ℕ) w
   row-back (x ∷ xs) rest (more e es) =
       rw (append-assoc (to x) (rowWords to xs) rest, e .1 (rowWords to xs ++ rest), drop-at (to x) (rowWords to xs ++ rest) size (e .0), row-back xs rest es)
 
-phase-back : (p : Phase) (rest : List ℕ) → phaseOf (bitFor (isLogged p) ∷ loggedIn p .first ∷ loggedIn p .count ∷ loggedIn p .stamp ∷ rest) ≡ p
+pub phase-back : (p : Phase) (rest : List ℕ) → phaseOf (bitFor (isLogged p) ∷ loggedIn p .first ∷ loggedIn p .count ∷ loggedIn p .stamp ∷ rest) ≡ p
 unfolding phaseOf bitFor isLogged loggedIn
 phase-back Idle rest = refl
 phase-back (Holds g) rest = refl
 
-floor-back : (f : Timestamp) (rest : List ℕ) → floorOf (bitFor (isSet f) ∷ stampOf f ∷ rest) ≡ f
+pub floor-back : (f : Timestamp) (rest : List ℕ) → floorOf (bitFor (isSet f) ∷ stampOf f ∷ rest) ≡ f
 unfolding floorOf bitFor isSet stampOf
 floor-back None rest = refl
 floor-back (At s) rest = refl
 
-lane-same : (next wrap : ℕ) {p q : Phase} {f g : Timestamp} {ps qs : List Pair} → p ≡ q → f ≡ g → ps ≡ qs
+pub lane-same : (next wrap : ℕ) {p q : Phase} {f g : Timestamp} {ps qs : List Pair} → p ≡ q → f ≡ g → ps ≡ qs
     → _≡_ {A = Lane} (record { phase = p; next = next; wrap = wrap; floor = f; redo = ps })
     (record { phase = q; next = next; wrap = wrap; floor = g; redo = qs })
 lane-same next wrap a b c = rw (a, b, c)
+
+pub redo-back : (ps : List Pair) (rest : List ℕ) → length ps ≡ maxWrites → rowOf 2 pairOf maxWrites (rowWords pairWords ps ++ rest) ≡ ps
+redo-back ps rest e = ap (λ n. rowOf 2 pairOf n (rowWords pairWords ps ++ rest)) (sym e) ∙ row-back 2 pairOf pairWords ps rest (pairs-back ps)
 
 -- a lane of 16 pairs comes back, whatever words follow its own
 pub lane-back : (l : Lane) (rest : List ℕ) → length (l .redo) ≡ maxWrites → laneOf (laneWords l ++ rest) ≡ l
 unfolding laneOf laneWords headWords
 lane-back l rest e =
-    lane-same (l .next) (l .wrap) (phase-back (l .phase) _) (floor-back (l .floor) _)
-    (ap (λ n. rowOf 2 pairOf n (rowWords pairWords (l .redo) ++ rest)) (sym e) ∙ row-back 2 pairOf pairWords (l .redo) rest (pairs-back (l .redo)))
+    lane-same (l .next) (l .wrap) (phase-back (l .phase) _) (floor-back (l .floor) _) (redo-back (l .redo) rest e)
 
 lock-back : (k : Lock) → lockOf (lockWords k) ≡ k
 unfolding lockOf lockWords bitFor isHeld lockedIn
@@ -104,7 +106,7 @@ record-back r e es =
     )
 
 -- ---- encoding what was decoded
-pairs-forth : (n : ℕ) (ws : List ℕ) → n * 2 ≤ length ws → rowWords pairWords (rowOf 2 pairOf n ws) ≡ take (n * 2) ws
+pub pairs-forth : (n : ℕ) (ws : List ℕ) → n * 2 ≤ length ws → rowWords pairWords (rowOf 2 pairOf n ws) ≡ take (n * 2) ws
 unfolding rowWords pairWords rowOf pairOf
 pairs-forth zero ws h = refl
 pairs-forth (suc n) [] h = absurd (omega arith)
@@ -144,7 +146,7 @@ floor-forth : (ws : List ℕ) → floorNormal ws ≡ true → (bitFor (isSet (fl
 unfolding floorNormal floorOf
 floor-forth ws h = floor-pick (eqb (getD ws 0 0) 0) (getD ws 0 0) (getD ws 1 0) refl h
 
-eight-same : {a b c d g h a′ b′ c′ d′ g′ h′ : ℕ} (e f : ℕ) {xs ys : List ℕ} → a ≡ a′ → b ≡ b′ → c ≡ c′ → d ≡ d′ → g ≡ g′ → h ≡ h′ → xs ≡ ys
+pub eight-same : {a b c d g h a′ b′ c′ d′ g′ h′ : ℕ} (e f : ℕ) {xs ys : List ℕ} → a ≡ a′ → b ≡ b′ → c ≡ c′ → d ≡ d′ → g ≡ g′ → h ≡ h′ → xs ≡ ys
     → _≡_ {A = List ℕ} (a ∷ b ∷ c ∷ d ∷ e ∷ f ∷ g ∷ h ∷ xs) (a′ ∷ b′ ∷ c′ ∷ d′ ∷ e ∷ f ∷ g′ ∷ h′ ∷ ys)
 eight-same e f p q r s t u v = rw (p, q, r, s, t, u, v)
 

@@ -1,12 +1,21 @@
 -- `commit::redo_refusal` meets its contract: Drain's causes first, then those of a commit.
-use mathlib.Core.Path.{sym, _∙_}
-use native.Mathlib.Omega.{arith}
-use Rattle.record.specs.Record.{laneAt}
+use mathlib.Core.Path.{_≡_, sym, _∙_}
+use denote.Ref.{now}
+use lib.ListN.{length, take}
+use Rattle.codec.specs.Fields.{recordLength, recordIn, pairsIn}
+use Rattle.store.specs.inner.Checked.{Checked}
 use Rattle.store.specs.inner.StoreLaws.{checked, lane-small}
-use Rattle.commit.specs.inner.CommitLaws.{redo-refused, redo-causes}
+use Rattle.commit.specs.inner.CommitLaws.{redo-refused, redo-causes, words-long}
 use borrow.Author.Needs.{needs}
 use Rattle.commit.proofs.redo_refusal.Statement.{statement}
 use Rattle.commit.proofs.redo_refusal.Tie as tie
+
+known : (c : tie.Else1) → let a = c .before .before .before .before .before .before .args in
+    Checked (a .sizes) (recordIn (now (a .state))) (pairsIn (now (a .state))) (now (a .cache)) (now (a .nvm)) (now (a .flags)) (a .lane)
+known c = checked _ _ _ _ _ _ _ (sym (c .before .drain-refusal .ensures) ∙ c .if1 .left)
+
+long : (c : tie.Else1) → length (take recordLength (now (c .before .before .before .before .before .before .args .state))) ≡ recordLength
+long c = words-long (now (c .before .before .before .before .before .before .args .state)) (known c .in-pairs)
 
 drain-refusal-requires : tie.Need-drain-refusal-requires
 drain-refusal-requires c κs = search needs
@@ -14,34 +23,37 @@ drain-refusal-requires c κs = search needs
 returns : tie.Need-returns
 returns c = redo-refused _ _ _ _ (c .before .drain-refusal .ensures) (c .if1 .taken)
 
-mul-at : tie.Need-mul-at
-mul-at c =
-    let k = checked _ _ _ _ _ _ _ (sym (c .before .drain-refusal .ensures) ∙ c .if1 .left) in
-    omega (arith, lane-small _ _ (k .image .sizes-ok) (k .lane-below))
+slice-aggregate-words : tie.Need-slice-aggregate-words
+slice-aggregate-words c = sym (long (c .before))
 
-element-copy-out-at : tie.Need-element-copy-out-at
-element-copy-out-at c =
-    let k = checked _ _ _ _ _ _ _ (sym (c .before .drain-refusal .ensures) ∙ c .if1 .left) in
-    omega (arith, lane-small _ _ (k .image .sizes-ok) (k .lane-below))
+phase-requires : tie.Need-phase-requires
+phase-requires c κs =
+    let k = known (c .before) in
+    (long (c .before), lane-small _ _ (k .image .sizes-ok) (k .lane-below))
+
+lock-requires : tie.Need-lock-requires
+lock-requires c κs = long (c .before .before)
 
 is-held-requires : tie.Need-is-held-requires
 is-held-requires c κs = search needs
 
 spent-requires : tie.Need-spent-requires
-spent-requires c κs = search needs
+spent-requires c κs = long (c .before .before .before .before)
 
 commit-refusal-requires : tie.Need-commit-refusal-requires
 commit-refusal-requires c κs = search needs
 
 returns-2 : tie.Need-returns-2
-unfolding laneAt
 returns-2 c =
-    let l = c .before .before in
-    let e = l .before .before in
-    redo-causes _ _ _ _ (e .before .drain-refusal .ensures) _ _ _ (e .if1 .left) (l .is-held .ensures) (c .before .spent .ensures) (c .commit-refusal .ensures)
+    let h = c .before .before in
+    let l = h .before in
+    let p = l .before in
+    let e = p .before .before in
+    redo-causes _ _ _ _ (e .before .drain-refusal .ensures) _ _ _ _ _ (e .if1 .left) (p .phase .ensures) (l .lock .ensures) (h .is-held .ensures)
+    (c .before .spent .ensures) (c .commit-refusal .ensures)
 
 pub redo-refusal-spec : {M : Type 1} → statement M
 redo-refusal-spec =
     tie.close
-    (tie.spec drain-refusal-requires returns mul-at element-copy-out-at is-held-requires spent-requires commit-refusal-requires
-    returns-2)
+    (tie.spec drain-refusal-requires returns slice-aggregate-words phase-requires lock-requires is-held-requires
+    spent-requires commit-refusal-requires returns-2)

@@ -13,7 +13,8 @@ use Rattle.image.specs.inner.Facts.{IsImage}
 use Rattle.image.specs.Stores.{Store}
 use Rattle.image.specs.declared.Sizes.{Sizes}
 use Rattle.log.specs.Append.{circular, restampStore}
-use Rattle.record.specs.Record.{noPair, laneAt, isLogged, loggedIn, idleLane, withLane, withClock, withLast, pairsOf}
+use Rattle.log.specs.declared.Latest.{Latest}
+use Rattle.record.specs.Record.{noPair, laneAt, isLogged, loggedIn, drainedLane, idleLane, withLane, withClock, withLast, pairsOf}
 use Rattle.record.specs.inner.RecordLaws.{LoggedIn}
 use Rattle.record.specs.declared.Logged.{Logged}
 use Rattle.record.specs.declared.Pair.{Pair}
@@ -32,9 +33,13 @@ commitRefusal phase held spent =
     ∷ record { number = 8; holds = spent }
     ∷ [])
 
--- the record after a commit
-unfoldable pub committedState : ℕ → Record → Record
-committedState L r = let s = r .clock + 2 in withLast (withLane (withClock r s) L (idleLane (laneAt r L))) s
+-- record r with lane L holding nothing, after its drain, which found this latest sequence
+unfoldable pub releasedState : ℕ → Latest → Record → Record
+releasedState L latest r = withLane r L (idleLane (drainedLane latest (laneAt r L)))
+
+-- and after a commit at timestamp s
+unfoldable pub committedState : ℕ → Latest → (s : ℕ) → Record → Record
+committedState L latest s r = releasedState L latest (withLast (withClock r s) s)
 
 -- the stores of a commit at timestamp s of what lane L has logged: the pairs, then the timestamp in the slot that closes the logged entries
 unfoldable pub commitWords : Sizes → (L : ℕ) → Logged → (s : ℕ) → List Pair → (cache : List ℕ) → List Store
@@ -57,7 +62,7 @@ pub record Restampable (z : Sizes) (cache flags : List ℕ) (L : ℕ) (g : Logge
   pub most : g .count ≤ maxWrites
   pub room : s + 1 < 2 ^ 64
 
--- what a call knows of a drained lane that may commit
+-- what a call knows of a drained lane that may commit; the record may be the one before the drain
 pub record Committable (z : Sizes) (r : Record) (cache flags : List ℕ) (L : ℕ) : Type 0 where
   pub restampable : Restampable z cache flags L (loggedIn (laneAt r L .phase)) (r .clock + 2)
   pub logged : LoggedIn z (r .clock) (laneAt r L .redo) (loggedIn (laneAt r L .phase))

@@ -7,7 +7,7 @@ use mathlib.Core.List.{List, [], _∷_, _++_}
 use native.Mathlib.Omega.{arith}
 use native.Mathlib.Numerals.{add-one}
 use lib.Dec.{eqb, ltb}
-use lib.ListN.{length, getD, set, take, drop, length-set}
+use lib.ListN.{length, getD, set, take, drop, length-set, length-drop}
 use lib.Seq.{take-suc, drop-cons, drop-length, length-take-le, getD-take, getD-set-other}
 use borrow.Author.Tests.{eq-eqb, ne-eqb, lt-ltb, le-ltb, ltb-true, not-false}
 use Rattle.laws.specs.inner.Tests.{and-left, and-right}
@@ -23,28 +23,37 @@ use Rattle.image.specs.inner.FlushLaws.{length-flushAll, flushAll-append, flush
 use Rattle.image.specs.Stores.{Store, stored, places}
 use Rattle.image.specs.inner.StoresLaws.{length-stored, stored-append, stored-snoc, places-append}
 use Rattle.image.specs.declared.Sizes.{Sizes}
-use Rattle.log.specs.Log.{slotAt}
+use Rattle.log.specs.Log.{slotAt, latestIn}
 use Rattle.log.specs.Append.{circular, restampStore}
 use Rattle.log.specs.inner.AppendEntries.{WordsBelow}
 use Rattle.log.specs.inner.SearchLaws.{circular-low}
-use Rattle.record.specs.Record.{noPair, laneAt, isLogged, loggedIn, isHeld, pairsOk, spent, idleLane, withLane, pairsOf}
-use Rattle.record.specs.inner.RecordLaws.{LoggedIn, record-in, lane-in, phase-in, clock-room, pair-below, pairs-cut}
-use Rattle.record.specs.declared.Lane.{Lane}
+use Rattle.log.specs.declared.Cursor.{Cursor}
+use Rattle.log.specs.declared.Latest.{Latest}
+use Rattle.log.specs.declared.Timestamp.{Timestamp}
+use Rattle.record.specs.Record.{lockLength, noPair, laneAt, cursorOf, isLogged, loggedIn, isHeld, pairsOk, spent, floorAfterDrain, drainedLane, idleLane}
+use Rattle.record.specs.Record.{withLane, withClock, withLast, pairsOf}
+use Rattle.record.specs.inner.RecordLaws.{record-in, lane-in, phase-in, clock-room, pair-below, pairs-cut, lane-twice}
+use Rattle.record.specs.declared.Lock.{Lock}
 use Rattle.record.specs.declared.Logged.{Logged}
 use Rattle.record.specs.declared.Pair.{Pair}
 use Rattle.record.specs.declared.Phase.{Phase}
+use Rattle.record.specs.declared.Phase.the-variants.{Idle}
 use Rattle.record.specs.declared.Record.{Record}
-use Rattle.store.specs.declared.Answer.the-variants.{Committed, Stale, Changed}
-use Rattle.store.specs.Machine.{Machine, Step, firstCause}
+use Rattle.codec.specs.Fields.{recordLength, rowOf, recordOf, wordsOf, pairsIn}
+use Rattle.codec.specs.inner.InPlace.{headed}
+use Rattle.store.specs.declared.Answer.the-variants.{Refused, Committed, Stale, Changed}
+use Rattle.store.specs.Machine.{Machine, firstCause, said}
 use Rattle.store.specs.Calls.{badTxn, notLogged, lockHeld, clockSpent, drainRefusal, drained, changed, writesOn, pairStores, commitStores, committed}
 use Rattle.store.specs.Calls.{redoRefusal, isStale, redoPairs, redoStep, entryMatches, entriesMatch, matches, released}
 use Rattle.store.specs.Calls.{validateRefusalBy, validateRefusal, validateStepBy, validateStep}
-use Rattle.store.specs.Interface.{machineOf}
+use Rattle.store.specs.Interface.{machineOf, machineIn, keptBy, keeps}
 use Rattle.store.specs.inner.Checked.{Checked, drainedState}
 use Rattle.store.specs.inner.StoreLaws.{first-holds, first-fails, first-end, first-none, refuses-txn, passes-txn, checked, at-lane, after-lane, lane-passed}
 use Rattle.store.specs.inner.StoreLaws.{step-taken}
-use Rattle.store.specs.inner.StoreLaws.{drained-by, drained-state, drained-clock, drained-last, drained-keeps}
-use Rattle.commit.specs.inner.Commit.{commitRefusal, committedState, commitWords, matchesHeld, Restampable, Committable, redoDrained, validateDrained}
+use Rattle.store.specs.inner.StoreLaws.{drained-by, drained-state, drained-clock, drained-last, drained-lane, drained-keeps}
+use Rattle.store.specs.inner.KeepsLaws.{keeps-taken, keeps-refused}
+use Rattle.commit.specs.inner.Commit.{commitRefusal, releasedState, committedState, commitWords, matchesHeld, Restampable, Committable, redoDrained}
+use Rattle.commit.specs.inner.Commit.{validateDrained}
 
 -- ---- refusals 7, 11 and 8
 module _ (phase : Phase) (held spent b : Bool) (f : b ≡ isLogged phase) where
@@ -65,10 +74,11 @@ module _ (phase : Phase) (held spent b : Bool) (f : b ≡ isLogged phase) where
   commit-free k l g = sym (first-fails _ _ (rw (← f, k)) ∙ first-fails _ _ l ∙ first-fails _ _ g ∙ first-end)
 
 -- the record alone decides them
-commit-causes : (L : ℕ) (m : Machine) (h s : Bool) → h ≡ isHeld (m .state .lock) → s ≡ spent (m .state)
-    → commitRefusal (laneAt (m .state) L .phase) h s ≡ firstCause (notLogged L m ∷ lockHeld m ∷ clockSpent m ∷ [])
+commit-causes : (L : ℕ) (m : Machine) (phase : Phase) (lock : Lock) (held s : Bool) → phase ≡ laneAt (m .state) L .phase → lock ≡ m .state .lock
+    → held ≡ isHeld lock → s ≡ spent (m .state)
+    → commitRefusal phase held s ≡ firstCause (notLogged L m ∷ lockHeld m ∷ clockSpent m ∷ [])
 unfolding commitRefusal notLogged lockHeld clockSpent
-commit-causes L m h s e f = rw (e, f)
+commit-causes L m phase lock held s a b e f = rw (a, e, b, f)
 
 -- ---- the whole refusals, where a call has found Drain's number
 module _ (z : Sizes) (L : ℕ) (m : Machine) (number : ℕ) (e : number ≡ drainRefusal z L m) where
@@ -76,10 +86,10 @@ module _ (z : Sizes) (L : ℕ) (m : Machine) (number : ℕ) (e : number ≡ drai
   unfolding redoRefusal
   redo-refused h = e ∙ sym (at-lane z L m _ (λ k. h (e ∙ k)))
 
-  pub redo-causes : (k : ℕ) (l s : Bool) → number ≡ 0 → l ≡ isHeld (m .state .lock) → s ≡ spent (m .state)
-      → k ≡ commitRefusal (laneAt (m .state) L .phase) l s → k ≡ redoRefusal z L m
+  pub redo-causes : (k : ℕ) (phase : Phase) (lock : Lock) (held s : Bool) → number ≡ 0 → phase ≡ laneAt (m .state) L .phase → lock ≡ m .state .lock
+      → held ≡ isHeld lock → s ≡ spent (m .state) → k ≡ commitRefusal phase held s → k ≡ redoRefusal z L m
   unfolding redoRefusal
-  redo-causes k l s h d g f = f ∙ commit-causes L m l s d g ∙ sym (after-lane z L m _ (sym e ∙ h))
+  redo-causes k phase lock held s h a b c d f = f ∙ commit-causes L m phase lock held s a b c d ∙ sym (after-lane z L m _ (sym e ∙ h))
 
   module _ (t : List ℕ) where
     pub validate-refused : (number ≡ 0 → ⊥) → number ≡ validateRefusal z L t m
@@ -90,11 +100,12 @@ module _ (z : Sizes) (L : ℕ) (m : Machine) (number : ℕ) (e : number ≡ drai
     unfolding validateRefusalBy
     validate-bad h f = sym (after-lane z L m _ (sym e ∙ h) ∙ refuses-txn _ _ z t f)
 
-    pub validate-causes : (k : ℕ) (l s : Bool) → number ≡ 0 → txnOk maxWrites (z .words) t ≡ true → l ≡ isHeld (m .state .lock) → s ≡ spent (m .state)
-        → k ≡ commitRefusal (laneAt (m .state) L .phase) l s
+    pub validate-causes : (k : ℕ) (phase : Phase) (lock : Lock) (held s : Bool) → number ≡ 0 → txnOk maxWrites (z .words) t ≡ true
+        → phase ≡ laneAt (m .state) L .phase → lock ≡ m .state .lock → held ≡ isHeld lock → s ≡ spent (m .state) → k ≡ commitRefusal phase held s
         → k ≡ validateRefusal z L t m
     unfolding validateRefusalBy
-    validate-causes k l s h g c d f = f ∙ commit-causes L m l s c d ∙ sym (after-lane z L m _ (sym e ∙ h) ∙ passes-txn _ _ z t g)
+    validate-causes k phase lock held s h g a b c d f =
+        f ∙ commit-causes L m phase lock held s a b c d ∙ sym (after-lane z L m _ (sym e ∙ h) ∙ passes-txn _ _ z t g)
 
 -- ---- what a call knows that is not refused
 commit-none : (L : ℕ) (m : Machine) → firstCause (notLogged L m ∷ lockHeld m ∷ clockSpent m ∷ []) ≡ 0
@@ -129,23 +140,15 @@ module _ (z : Sizes) (state : Record) (pairs cache nvm flags : List ℕ) (L numb
       let b = commit-none L (machineOf state pairs cache nvm flags) (c .1) in
       (record { known = checked z state pairs cache nvm flags L (a .0); holds = b .0; unspent = b .1 }, not-false _ (c .0))
 
--- what the range check says of a logged transaction, where clock, redo log and phase are equal
-same-logged : (z : Sizes) (k₁ k₂ : ℕ) (r₁ r₂ : List Pair) (p₁ p₂ : Phase) → k₁ ≡ k₂ → r₁ ≡ r₂ → p₁ ≡ p₂ → LoggedIn z k₂ r₂ (loggedIn p₂)
-    → LoggedIn z k₁ r₁ (loggedIn p₁)
-same-logged z k₁ k₂ r₁ r₂ p₁ p₂ e f h g = rw (e, f, h) g
-
--- and after it
-pub committable : (z : Sizes) (state : Record) (pairs cache nvm flags : List ℕ) (L : ℕ) (r : Record) (f : List ℕ) → Accepted z state pairs cache nvm flags L
-    → length (state .lanes) ≡ maxLanes → r ≡ drainedState z cache L state → f ≡ drainedFlags L flags → Committable z r cache f L
-committable z state pairs cache nvm flags L r f a n d e =
+-- and after it, by the record before it
+pub committable : (z : Sizes) (state : Record) (pairs cache nvm flags : List ℕ) (L : ℕ) (f : List ℕ) → Accepted z state pairs cache nvm flags L
+    → length (state .lanes) ≡ maxLanes → f ≡ drainedFlags L flags → Committable z state cache f L
+committable z state pairs cache nvm flags L f a n e =
     let k = a .known in
     let q = record-in z state pairs (k .in-range) in
-    let s = drained-keeps z cache L state in
     let u : L < length (state .lanes) = omega (arith, sizes-in z (k .image .sizes-ok) .lanes-high, k .lane-below) in
-    let g = phase-in z (state .clock) (laneAt state L .redo) (laneAt state L .phase) (a .holds)
+    let h = phase-in z (state .clock) (laneAt state L .redo) (laneAt state L .phase) (a .holds)
     (lane-in z (state .clock) (laneAt state L) (q .lanes L (k .lane-below) u) .phase) in
-    let h : LoggedIn z (r .clock) (laneAt r L .redo) (loggedIn (laneAt r L .phase)) =
-    rw d (same-logged z _ _ _ _ _ _ (drained-clock z cache L state) (s .redo) (s .phase) g) in
     record {
       restampable = record {
         image = k .image;
@@ -153,10 +156,27 @@ committable z state pairs cache nvm flags L r f a n d e =
         lane-below = k .lane-below;
         first = h .first;
         most = h .most;
-        room = rw (d, drained-clock z cache L state) (omega (arith, clock-room state (a .unspent) (q .clock)));
+        room = omega (arith, clock-room state (a .unspent) (q .clock));
       };
       logged = h;
     }
+
+-- ---- the record's words
+-- they are among those lent
+module _ (state : List ℕ) (e : length (pairsIn state) ≡ lockLength) where
+  pub words-there : recordLength ≤ length state
+  words-there = omega (arith, length-drop recordLength state, e)
+
+  pub words-long : length (take recordLength state) ≡ recordLength
+  words-long = length-take-le recordLength state words-there
+
+-- a record read from words has all lanes
+pub lanes-read : (ws : List ℕ) → length (recordOf ws .lanes) ≡ maxLanes
+unfolding recordOf rowOf
+lanes-read ws = refl
+
+pub lane-read : (ws : List ℕ) (L : ℕ) → L < maxLanes → L < length (recordOf ws .lanes)
+lane-read ws L h = rw (lanes-read ws) h
 
 -- ---- pairs written
 pair-snoc : (ps : List Pair) (p : Pair) → pairStores (ps ++ (p ∷ [])) ≡ pairStores ps ++ (record { at = 1 + p .word; value = p .value } ∷ [])
@@ -260,13 +280,61 @@ module _ (z : Sizes) (L : ℕ) (g : Logged) (s : ℕ) (ps : List Pair) (cache ca
       (sym (ap (λ (l : List ℕ). flushAll L l flags) (places-append (pairStores ps) (last-store ∷ []))
       ∙ flushAll-append L (places (pairStores ps)) (places (last-store ∷ [])) flags))
 
--- the machine then, with its record
-pub commit-done : (z : Sizes) (L : ℕ) (g : Logged) (ps : List Pair) (r : Record) (pairs cache nvm flags : List ℕ) (r₂ : Record) (cache₂ flags₂ : List ℕ)
-    → g ≡ loggedIn (laneAt r L .phase) → r₂ ≡ committedState L r
-    → cache₂ ≡ stored (commitWords z L g (r .clock + 2) ps cache) cache → flags₂ ≡ flushAll L (places (commitWords z L g (r .clock + 2) ps cache)) flags
-    → machineOf r₂ pairs cache₂ nvm flags₂ ≡ committed z L ps (machineOf r pairs cache nvm flags)
-unfolding committed changed commitStores commitWords committedState
-commit-done z L g ps r pairs cache nvm flags r₂ cache₂ flags₂ h e f k = rw (e, f, k, h)
+-- ---- the record stored
+-- the head of a lane that is drained and holds nothing
+pub head-released : (r r₂ : Record) (L : ℕ) (q : Latest) (c : Cursor) (before floor : Timestamp) → c ≡ cursorOf (laneAt r L) → before ≡ laneAt r L .floor
+    → floor ≡ floorAfterDrain q before → r₂ ≡ withLane r L (headed Idle c floor (laneAt r L)) → r₂ ≡ releasedState L q r
+unfolding releasedState headed idleLane drainedLane cursorOf
+head-released r r₂ L q c before floor f h g e = e ∙ rw (f, g, h)
+
+pub after-commit : (r r₁ r₂ : Record) (L : ℕ) (q : Latest) (s : ℕ) → r₁ ≡ withClock r s → r₂ ≡ withLast r₁ s → releasedState L q r₂ ≡ committedState L q s r
+unfolding committedState
+after-commit r r₁ r₂ L q s e f = rw (f, e)
+
+-- ---- what a call does with the record before the drain is done with the drained one
+module _ (z : Sizes) (cache : List ℕ) (L : ℕ) (r : Record) where
+  held-drained : (g : Logged) → g ≡ loggedIn (laneAt r L .phase) → g ≡ loggedIn (laneAt (drainedState z cache L r) L .phase)
+  held-drained g f = f ∙ ap loggedIn (sym (drained-keeps z cache L r .phase))
+
+  redo-kept : (redo : List Pair) → redo ≡ laneAt r L .redo → redo ≡ laneAt (drainedState z cache L r) L .redo
+  redo-kept redo e = e ∙ sym (drained-keeps z cache L r .redo)
+
+  clock-kept : (clock : ℕ) → clock ≡ r .clock → clock ≡ drainedState z cache L r .clock
+  clock-kept clock c = c ∙ sym (drained-clock z cache L r)
+
+  last-kept : (last : ℕ) → last ≡ r .last → last ≡ drainedState z cache L r .last
+  last-kept last c = c ∙ sym (drained-last z cache L r)
+
+module _ (z : Sizes) (cache : List ℕ) (L : ℕ) (r : Record) (q : Latest) (found : q ≡ latestIn z cache L) where
+  lane-drained : withLane r L (drainedLane q (laneAt r L)) ≡ drainedState z cache L r
+  unfolding drainedState
+  lane-drained = rw found
+
+  module _ (small : L < length (r .lanes)) where
+    drained-released : releasedState L q r ≡ withLane (drainedState z cache L r) L (idleLane (laneAt (drainedState z cache L r) L))
+    unfolding releasedState drainedState
+    drained-released =
+        rw (found, drained-lane z cache L r small)
+        (sym (lane-twice r L (drainedLane (latestIn z cache L) (laneAt r L)) (idleLane (drainedLane (latestIn z cache L) (laneAt r L)))))
+
+    drained-committed : (s : ℕ) → committedState L q s r
+        ≡ withLast (withLane (withClock (drainedState z cache L r) s) L (idleLane (laneAt (drainedState z cache L r) L))) s
+    unfolding committedState releasedState withLane withClock withLast laneAt
+    drained-committed s = ap (λ (d : Record). withLast (withClock d s) s) drained-released
+
+    -- the machine after a commit
+    committed-by : (g : Logged) (clock : ℕ) (ps : List Pair) (pairs nvm flags cache₂ flags₂ : List ℕ) → g ≡ loggedIn (laneAt r L .phase) → clock ≡ r .clock
+        → cache₂ ≡ stored (commitWords z L g (clock + 2) ps cache) cache → flags₂ ≡ flushAll L (places (commitWords z L g (clock + 2) ps cache)) flags
+        → machineOf (committedState L q (clock + 2) r) pairs cache₂ nvm flags₂ ≡ committed z L ps (machineOf (drainedState z cache L r) pairs cache nvm flags)
+    unfolding committed changed commitStores commitWords
+    committed-by g clock ps pairs nvm flags cache₂ flags₂ h c e f =
+        rw (
+          e,
+          f,
+          drained-committed (clock + 2),
+          held-drained z cache L r g h,
+          clock-kept z cache L r clock c,
+        )
 
 -- ---- writes compared with entries
 -- i writes compared, all matching: what is left to compare from this slot on decides
@@ -319,26 +387,50 @@ module _ (z : Sizes) (L : ℕ) (g : Logged) (list : List Write) (n : ℕ) (k : n
   unfolding matchesHeld
   matches-log part b h p q = q ∙ rw (length-take-le n list k, eq-eqb n (g .count) h, p)
 
-pub held-matches : (z : Sizes) (L : ℕ) (g : Logged) (ws : List Write) (r : Record) (pairs cache nvm flags : List ℕ) → g ≡ loggedIn (laneAt r L .phase)
-    → matchesHeld z L g ws cache ≡ matches z L ws (machineOf r pairs cache nvm flags)
+held-matches : (z : Sizes) (L : ℕ) (g : Logged) (ws : List Write) (r : Record) (pairs cache nvm flags : List ℕ) → g ≡ loggedIn (laneAt r L .phase)
+    → matchesHeld z L g ws cache ≡ matches z L ws (machineOf (drainedState z cache L r) pairs cache nvm flags)
 unfolding matchesHeld matches
-held-matches z L g ws r pairs cache nvm flags f = rw f
+held-matches z L g ws r pairs cache nvm flags f = rw (held-drained z cache L r g f)
 
 -- ---- how Redo ends, on a drained lane
-pub redo-requires : (z : Sizes) (L : ℕ) (r : Record) (cache flags : List ℕ) (g : Logged) → Committable z r cache flags L → g ≡ loggedIn (laneAt r L .phase)
-    → Restampable z cache flags L g (r .clock + 2) × ((g .count ≤ maxWrites) × (pairsOk (z .words) (take (g .count) (laneAt r L .redo)) ≡ true))
-redo-requires z L r cache flags g k f = (rw f (k .restampable), (rw f (k .logged .most), rw f (k .logged .pairs)))
+pub commit-ready : (z : Sizes) (L : ℕ) (r : Record) (cache flags : List ℕ) (g : Logged) (clock : ℕ) (redo : List Pair) → Committable z r cache flags L
+    → g ≡ loggedIn (laneAt r L .phase) → clock ≡ r .clock → redo ≡ laneAt r L .redo
+    → Restampable z cache flags L g (clock + 2) × ((g .count ≤ maxWrites) × (pairsOk (z .words) (take (g .count) redo) ≡ true))
+commit-ready z L r cache flags g clock redo k f c e = (rw (f, c) (k .restampable), (rw f (k .logged .most), rw (f, e) (k .logged .pairs)))
 
-module _ (z : Sizes) (L : ℕ) (r : Record) (pairs cache nvm flags : List ℕ) (g : Logged) (f : g ≡ loggedIn (laneAt r L .phase)) where
-  pub redo-stale : g .stamp < r .last
-      → record { answer = Stale; machine = machineOf r pairs cache nvm flags } ≡ redoDrained z L (machineOf r pairs cache nvm flags)
-  unfolding redoDrained isStale
-  redo-stale h = rw (← f, lt-ltb (g .stamp) (r .last) h)
+module _ (z : Sizes) (L : ℕ) (r : Record) (q : Latest) (cache flags : List ℕ) (g : Logged) (last : ℕ) (found : q ≡ latestIn z cache L)
+    (f : g ≡ loggedIn (laneAt r L .phase)) (h : last ≡ r .last) (before pairs nvm ws : List ℕ) where
+  stale-is : ltb (g .stamp) last ≡ isStale L (machineOf (drainedState z cache L r) pairs cache nvm flags)
+  unfolding isStale
+  stale-is = rw (held-drained z cache L r g f, last-kept z cache L r last h)
 
-  pub redo-commits : (m : Machine) → r .last ≤ g .stamp → m ≡ committed z L (take (g .count) (laneAt r L .redo)) (machineOf r pairs cache nvm flags)
-      → record { answer = Committed (r .clock + 2); machine = m } ≡ redoDrained z L (machineOf r pairs cache nvm flags)
-  unfolding redoDrained isStale redoPairs
-  redo-commits m h d = rw (← f, le-ltb (g .stamp) (r .last) h, d)
+  pub redo-stale : g .stamp < last → ws ≡ wordsOf (withLane r L (drainedLane q (laneAt r L)))
+      → keptBy Stale (ws ++ pairs) cache nvm flags ≡ keeps before (redoDrained z L (machineOf (drainedState z cache L r) pairs cache nvm flags))
+  unfolding redoDrained said
+  redo-stale l e =
+      keeps-taken before Stale (drainedState z cache L r) ws pairs cache nvm flags _
+      (rw (← stale-is, lt-ltb (g .stamp) last l)) refl (e ∙ ap wordsOf (lane-drained z cache L r q found))
+
+  pub redo-commits : L < length (r .lanes) → last ≤ g .stamp → (clock : ℕ) (redo : List Pair) (cache₂ flags₂ : List ℕ) → clock ≡ r .clock
+      → redo ≡ laneAt r L .redo
+      → cache₂ ≡ stored (commitWords z L g (clock + 2) (take (g .count) redo) cache) cache
+      → flags₂ ≡ flushAll L (places (commitWords z L g (clock + 2) (take (g .count) redo) cache)) flags
+      → ws ≡ wordsOf (committedState L q (clock + 2) r)
+      → keptBy (Committed (clock + 2)) (ws ++ pairs) cache₂ nvm flags₂
+      ≡ keeps before (redoDrained z L (machineOf (drainedState z cache L r) pairs cache nvm flags))
+  unfolding redoDrained redoPairs said
+  redo-commits small l clock redo cache₂ flags₂ c d e₁ e₂ e =
+      keeps-taken before (Committed (clock + 2)) (committedState L q (clock + 2) r) ws pairs cache₂ nvm flags₂ _
+      (ap (λ (m : Machine). record { answer = Committed (clock + 2); machine = m })
+      (committed-by z cache L r q found small g clock (take (g .count) redo) pairs nvm flags cache₂ flags₂ f c e₁ e₂)
+      ∙ rw (
+        ← stale-is,
+        le-ltb (g .stamp) last l,
+        held-drained z cache L r g f,
+        redo-kept z cache L r redo d,
+        clock-kept z cache L r clock c,
+      ))
+      refl e
 
 -- ---- how Validate ends, on a drained lane
 pairs-low : (W : ℕ) {ws : List Write} → WordsBelow W ws → pairsOk W (pairsOf (length ws) ws) ≡ true
@@ -354,19 +446,30 @@ module _ (z : Sizes) (list : List Write) (n : ℕ) (k : n ≤ maxWrites) (long :
   pub validate-pairs : WordsBelow (z .words) (take n list) → pairsOk (z .words) (take n redo) ≡ true
   validate-pairs a = rw first-pairs (pairs-low (z .words) a)
 
-  pub validate-commits : (L : ℕ) (r : Record) (pairs cache nvm flags : List ℕ) (b : Bool) (m : Machine)
-      → b ≡ matches z L (take n list) (machineOf r pairs cache nvm flags)
-      → b ≡ true
-      → m ≡ committed z L (take n redo) (machineOf r pairs cache nvm flags)
-      → record { answer = Committed (r .clock + 2); machine = m } ≡ validateDrained z L (take n list) (machineOf r pairs cache nvm flags)
-  unfolding validateDrained
-  validate-commits L r pairs cache nvm flags b m e h d = rw (← e, h, d, first-pairs)
+  pub validate-commits : (L : ℕ) (r : Record) (q : Latest) (cache flags : List ℕ) (g : Logged) → q ≡ latestIn z cache L → g ≡ loggedIn (laneAt r L .phase)
+      → (b : Bool) → b ≡ matchesHeld z L g (take n list) cache → (before pairs nvm ws : List ℕ) → L < length (r .lanes) → b ≡ true
+      → (clock : ℕ) (cache₂ flags₂ : List ℕ) → clock ≡ r .clock
+      → cache₂ ≡ stored (commitWords z L g (clock + 2) (take n redo) cache) cache
+      → flags₂ ≡ flushAll L (places (commitWords z L g (clock + 2) (take n redo) cache)) flags
+      → ws ≡ wordsOf (committedState L q (clock + 2) r)
+      → keptBy (Committed (clock + 2)) (ws ++ pairs) cache₂ nvm flags₂
+      ≡ keeps before (validateDrained z L (take n list) (machineOf (drainedState z cache L r) pairs cache nvm flags))
+  unfolding validateDrained said
+  validate-commits L r q cache flags g found f b m before pairs nvm ws small t clock cache₂ flags₂ c e₁ e₂ e =
+      keeps-taken before (Committed (clock + 2)) (committedState L q (clock + 2) r) ws pairs cache₂ nvm flags₂ _
+      (ap (λ (m : Machine). record { answer = Committed (clock + 2); machine = m })
+      (committed-by z cache L r q found small g clock (take n redo) pairs nvm flags cache₂ flags₂ f c e₁ e₂)
+      ∙ rw (← held-matches z L g (take n list) r pairs cache nvm flags f, ← m, t, first-pairs, clock-kept z cache L r clock c))
+      refl e
 
-pub validate-changed : (z : Sizes) (L : ℕ) (r : Record) (pairs cache nvm flags : List ℕ) (ws : List Write) (b : Bool) (i : Lane) (r₂ : Record)
-    → b ≡ matches z L ws (machineOf r pairs cache nvm flags) → b ≡ false → i ≡ idleLane (laneAt r L) → r₂ ≡ withLane r L i
-    → record { answer = Changed; machine = machineOf r₂ pairs cache nvm flags } ≡ validateDrained z L ws (machineOf r pairs cache nvm flags)
-unfolding validateDrained released
-validate-changed z L r pairs cache nvm flags ws b i r₂ e h f g = rw (← e, h, g, f)
+pub validate-changed : (z : Sizes) (L : ℕ) (r : Record) (q : Latest) (cache flags : List ℕ) (g : Logged) (list : List Write) → q ≡ latestIn z cache L
+    → g ≡ loggedIn (laneAt r L .phase) → (b : Bool) → b ≡ matchesHeld z L g list cache → (before pairs nvm ws : List ℕ) → L < length (r .lanes) → b ≡ false
+    → ws ≡ wordsOf (releasedState L q r)
+    → keptBy Changed (ws ++ pairs) cache nvm flags ≡ keeps before (validateDrained z L list (machineOf (drainedState z cache L r) pairs cache nvm flags))
+unfolding validateDrained released said
+validate-changed z L r q cache flags g list found f b m before pairs nvm ws small t e =
+    keeps-taken before Changed (releasedState L q r) ws pairs cache nvm flags _
+    (rw (← held-matches z L g list r pairs cache nvm flags f, ← m, t, drained-released z cache L r q found small)) refl e
 
 -- ---- the drain before: it keeps all that Redo and Validate look at
 module _ (z : Sizes) (L : ℕ) (m : Machine) where
@@ -410,21 +513,33 @@ module _ (z : Sizes) (L : ℕ) (m : Machine) where
   unfolding validateDrained
   validate-drained ws = rw (same-matches ws, same-clock)
 
--- ---- the calls, where they are not refused
-module _ (z : Sizes) (L : ℕ) (state : Record) (pairs cache nvm flags : List ℕ) (r : Record) (nvm₁ flags₁ : List ℕ)
-    (d : r ≡ drainedState z cache L state) (e : nvm₁ ≡ drainedNvm L flags cache nvm) (f : flags₁ ≡ drainedFlags L flags) (number : ℕ) (step : Step) where
-  pub redo-taken : number ≡ redoRefusal z L (machineOf state pairs cache nvm flags) → number ≡ 0 → step ≡ redoDrained z L (machineOf r pairs cache nvm₁ flags₁)
-      → step ≡ redoStep z L (machineOf state pairs cache nvm flags)
+-- ---- the calls, where they are refused
+module _ (z : Sizes) (L : ℕ) (state cache nvm flags : List ℕ) (number : ℕ) (h : number ≡ 0 → ⊥) where
+  pub redo-refuses : number ≡ redoRefusal z L (machineIn state cache nvm flags)
+      → keptBy (Refused number) state cache nvm flags ≡ keeps state (redoStep z L (machineIn state cache nvm flags))
   unfolding redoStep
-  redo-taken n h s =
-      s ∙ ap (redoDrained z L) (drained-by z L state pairs cache nvm flags r nvm₁ flags₁ d e f) ∙ redo-drained z L (machineOf state pairs cache nvm flags)
-      ∙ step-taken number _ (machineOf state pairs cache nvm flags) _ n h
+  redo-refuses e = rw (← e) (keeps-refused number state cache nvm flags _ h)
 
-  pub validate-taken : (t : List ℕ) (ws : List Write) → number ≡ validateRefusal z L t (machineOf state pairs cache nvm flags) → number ≡ 0
-      → ws ≡ run (z .words) t (dataOf z cache) → step ≡ validateDrained z L ws (machineOf r pairs cache nvm₁ flags₁)
-      → step ≡ validateStep z L t (machineOf state pairs cache nvm flags)
+  pub validate-refuses : (t : List ℕ) → number ≡ validateRefusal z L t (machineIn state cache nvm flags)
+      → keptBy (Refused number) state cache nvm flags ≡ keeps state (validateStep z L t (machineIn state cache nvm flags))
+  unfolding validateStepBy
+  validate-refuses t e = rw (← e) (keeps-refused number state cache nvm flags _ h)
+
+-- ---- the calls, where they are not refused
+module _ (z : Sizes) (L : ℕ) (r : Record) (pairs cache nvm flags nvm₁ flags₁ : List ℕ) (e : nvm₁ ≡ drainedNvm L flags cache nvm)
+    (f : flags₁ ≡ drainedFlags L flags) (number : ℕ) where
+  pub redo-taken : number ≡ redoRefusal z L (machineOf r pairs cache nvm flags) → number ≡ 0
+      → redoDrained z L (machineOf (drainedState z cache L r) pairs cache nvm₁ flags₁) ≡ redoStep z L (machineOf r pairs cache nvm flags)
+  unfolding redoStep
+  redo-taken n h =
+      ap (redoDrained z L) (drained-by z L r pairs cache nvm flags _ nvm₁ flags₁ refl e f) ∙ redo-drained z L (machineOf r pairs cache nvm flags)
+      ∙ step-taken number _ (machineOf r pairs cache nvm flags) _ n h
+
+  pub validate-taken : (t : List ℕ) (ws : List Write) → number ≡ validateRefusal z L t (machineOf r pairs cache nvm flags) → number ≡ 0
+      → ws ≡ run (z .words) t (dataOf z cache)
+      → validateDrained z L ws (machineOf (drainedState z cache L r) pairs cache nvm₁ flags₁) ≡ validateStep z L t (machineOf r pairs cache nvm flags)
   unfolding validateStepBy writesOn
-  validate-taken t ws n h w s =
-      s ∙ rw w (ap (validateDrained z L (run (z .words) t (dataOf z cache))) (drained-by z L state pairs cache nvm flags r nvm₁ flags₁ d e f)
-      ∙ validate-drained z L (machineOf state pairs cache nvm flags) (run (z .words) t (dataOf z cache)))
-      ∙ step-taken number _ (machineOf state pairs cache nvm flags) _ n h
+  validate-taken t ws n h w =
+      rw w (ap (validateDrained z L (run (z .words) t (dataOf z cache))) (drained-by z L r pairs cache nvm flags _ nvm₁ flags₁ refl e f)
+      ∙ validate-drained z L (machineOf r pairs cache nvm flags) (run (z .words) t (dataOf z cache)))
+      ∙ step-taken number _ (machineOf r pairs cache nvm flags) _ n h

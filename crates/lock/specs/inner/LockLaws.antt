@@ -1,14 +1,17 @@
 -- Inner: how the code goes, need not be believed. Laws of Lock and Continue: a law for each return of their checks, of Lock's plan and of their steps; what
 -- they know where they are not refused. Assumes nothing.
 use Prim.Native.Nat.{ℕ, _+_, _-_, _/_, _^_, _≤_, _<_}
-use mathlib.Core.Path.{_≡_, sym, _∙_, ap}
+use mathlib.Core.Path.{_≡_, refl, sym, _∙_, ap}
 use mathlib.Core.Bool.{Bool, true, false, cond, _&&_}
-use mathlib.Core.List.{List, [], _∷_}
+use mathlib.Core.List.{List, [], _∷_, _++_, append-nil}
 use native.Mathlib.Omega.{arith}
 use native.Mathlib.Decide.{ℕ-discrete}
 use lib.Dec.{leb, eqb}
-use lib.ListN.{length, take}
+use lib.ListN.{length, take, drop, length-drop, drop-of-length-le}
+use lib.Seq.{take-at, drop-at}
+use borrow.Rule.Slice.PartMut.{putMid}
 use borrow.Author.Tests.{eq-eqb, ne-eqb, eqb-true, le-leb, lt-ltb, le-ltb, ltb-false, not-false}
+use Rattle.laws.specs.inner.Tests.{split}
 use Rattle.txn.specs.Txn.{maxWrites, maxLong, current, txnOk, run}
 use Rattle.txn.specs.inner.CheckLaws.{ok-some}
 use Rattle.txn.specs.inner.Writes.{padded, writesOf, longWritesOf}
@@ -17,6 +20,7 @@ use Rattle.txn.specs.declared.LongWrites.{LongWrites}
 use Rattle.txn.specs.declared.Write.{Write}
 use Rattle.txn.specs.declared.Writes.{Writes}
 use Rattle.image.specs.Image.{maxWords, maxLanes, dataOf, logStart}
+use Rattle.image.specs.inner.Facts.{IsImage}
 use Rattle.image.specs.inner.ImageLaws.{sizes-in}
 use Rattle.image.specs.Flush.{flushAll, drainedNvm, drainedFlags}
 use Rattle.image.specs.inner.FlushLaws.{length-drainedFlags}
@@ -25,32 +29,37 @@ use Rattle.image.specs.declared.Sizes.{Sizes}
 use Rattle.log.specs.Log.{latestIn}
 use Rattle.log.specs.Append.{advance, appendStores}
 use Rattle.log.specs.inner.AppendEntries.{Loggable}
+use Rattle.log.specs.declared.Cursor.{Cursor}
 use Rattle.log.specs.declared.Latest.{Latest}
+use Rattle.log.specs.declared.Timestamp.{Timestamp}
 use Rattle.record.specs.Record.{laneAt, cursorOf, isLogged, lockLength, pairsFrom, isHeld, lockedIn, partLength, pairsOk, spent, pairsOf, wordsOfPairs}
-use Rattle.record.specs.Record.{withLane, withClock, withLast, withLock, drainedLane, appendedLane}
-use Rattle.record.specs.inner.RecordLaws.{HeldIn, held-in, record-in, part-most, part-few, clock-next}
-use Rattle.record.specs.declared.Lane.{Lane}
+use Rattle.record.specs.Record.{withLane, withClock, withLast, withLock, floorAfterDrain, floorAfterAppend, drainedLane, appendedLane}
+use Rattle.record.specs.inner.RecordLaws.{HeldIn, held-in, record-in, part-most, part-few, clock-next, lane-twice}
 use Rattle.record.specs.declared.Locked.{Locked}
 use Rattle.record.specs.declared.Lock.the-variants.{Free, Held}
 use Rattle.record.specs.declared.Pair.{Pair}
 use Rattle.record.specs.declared.Phase.the-variants.{Idle}
 use Rattle.record.specs.declared.Record.{Record}
+use Rattle.codec.specs.Fields.{recordLength, stateLength, recordIn, pairsIn, wordsOf}
+use Rattle.codec.specs.inner.FieldsLaws.{tail-is}
+use Rattle.codec.specs.inner.InPlace.{headed}
 use Rattle.store.specs.declared.Answer.the-variants as answer
-use Rattle.store.specs.Machine.{Machine, Step, Cause, firstCause}
+use Rattle.store.specs.Machine.{Machine, Step, Cause, firstCause, said}
 use Rattle.store.specs.Calls.{badBuffers, badRecord, badLane, badTxn, alreadyLogged, lockHeld, clockSpent, drainRefusal, drained, changed, wouldLag, wouldHit}
 use Rattle.store.specs.Calls.{writesOn, pairStores}
 use Rattle.store.specs.Locks.{slotsCounted, lockRefusal, locked, lockStep, proceedRefusal, partOf, pairWrites, partLogged, partWrittenState, partWritten}
 use Rattle.store.specs.Locks.{nextStep, proceedStep}
-use Rattle.store.specs.Interface.{machineOf}
+use Rattle.store.specs.Interface.{machineOf, machineIn, keptBy, keeps}
 use Rattle.store.specs.inner.Checked.{Checked, drainedState}
 use Rattle.store.specs.inner.StoreLaws.{first-holds, first-fails, first-none, first-end, refuses-txn, passes-txn, checked, lane-small, at-lane, after-lane}
-use Rattle.store.specs.inner.StoreLaws.{lane-passed, step-taken, drained-by, drained-clock, drained-keeps}
+use Rattle.store.specs.inner.StoreLaws.{lane-passed, step-taken, drained-by, drained-lane}
+use Rattle.store.specs.inner.KeepsLaws.{keeps-taken, pairs-long, record-long}
 use Rattle.store.specs.inner.CachedWritesLaws.{data-part, count-of, full-list, writes-of}
 use Rattle.append.specs.inner.Plans.{roomRefusal, Searchable, Appendable}
 use Rattle.commit.specs.inner.Commit.{PairsInside}
-use Rattle.append.specs.inner.LogMarkLaws.{room-bound, first-more, some, lane-held, searchable}
+use Rattle.append.specs.inner.LogMarkLaws.{room-bound, first-more, some, lanes-all, lane-held, searchable, refuses}
 use Rattle.lock.specs.declared.Plan.{Plan}
-use Rattle.lock.specs.inner.Parts.{tooMany, lockChecks, Planned, PairsHeld, loggedHeld, PartAt, loggedStep, writtenStep}
+use Rattle.lock.specs.inner.Parts.{tooMany, lockChecks, Planned, takenState, PairsHeld, loggedHeld, loggedState, PartAt, loggedStep, writtenStep}
 use Rattle.lock.specs.inner.PartsLaws.{pairs-padded, length-pairs, length-writes, writes-low, part-inside, part-ok, part-words}
 
 -- ---- Lock's refusals before it runs the transaction
@@ -242,45 +251,61 @@ module _ (z : Sizes) (state : Record) (pairs cache nvm flags : List ℕ) (L : �
         room = λ h. clock-next state (lock-unspent z L f machine u (plan .writes) (p .writes e) n h);
       }
 
-  pub room-drained : (r : Record) → r ≡ withLane state L (drainedLane (plan .latest) (laneAt state L)) → (plan .writes .count ≡ 0 → ⊥)
-      → r .clock + 2 < 2 ^ 64
-  unfolding withLane
-  room-drained r d h = rw d (lock-known .room h)
-
   -- ---- Lock's steps, from the plan and from what the drain leaves
-  module _ (nvm′ flags′ : List ℕ) (f₁ : nvm′ ≡ drainedNvm L flags cache nvm) (f₂ : flags′ ≡ drainedFlags L flags) (r : Record)
-      (d : r ≡ withLane state L (drainedLane (plan .latest) (laneAt state L))) where
-    now-drained : machineOf r pairs cache nvm′ flags′ ≡ drained z L machine
-    unfolding drainedState
-    now-drained = drained-by z L state pairs cache nvm flags r nvm′ flags′ (d ∙ rw (p .latest e)) f₁ f₂
+  module _ (nvm′ flags′ : List ℕ) (f₁ : nvm′ ≡ drainedNvm L flags cache nvm) (f₂ : flags′ ≡ drainedFlags L flags) where
+    now-drained : machineOf (drainedState z cache L state) pairs cache nvm′ flags′ ≡ drained z L machine
+    now-drained = drained-by z L state pairs cache nvm flags (drainedState z cache L state) nvm′ flags′ refl f₁ f₂
 
     taken : (step : Step) → step ≡ lockTaken z L f machine → step ≡ lockStep z L f machine
     unfolding lockStep
     taken step a = a ∙ step-taken _ _ _ _ (p .number) e
 
     -- a transaction that writes nothing drains its lane
-    pub lock-drains : plan .writes .count ≡ 0
-        → record { answer = answer.NoWrites; machine = machineOf r pairs cache nvm′ flags′ } ≡ lockStep z L f (machineOf state pairs cache nvm flags)
-    lock-drains h = rw now-drained (taken _ (rw (sym (long-count _ _ (p .writes e)) ∙ h)))
+    pub lock-drains : (before ws : List ℕ) → ws ≡ wordsOf (withLane state L (drainedLane (plan .latest) (laneAt state L))) → plan .writes .count ≡ 0
+        → keptBy answer.NoWrites (ws ++ pairs) cache nvm′ flags′ ≡ keeps before (lockStep z L f (machineOf state pairs cache nvm flags))
+    unfolding said drainedState
+    lock-drains before ws d h =
+        keeps-taken before answer.NoWrites (drainedState z cache L state) ws pairs cache nvm′ flags′ _
+        (rw now-drained (taken _ (rw (sym (long-count _ _ (p .writes e)) ∙ h)))) refl
+        (d ∙ rw (p .latest e))
 
     -- one that writes takes the lock
-    module _ (r₂ : Record) (pairs′ : List ℕ) (q : pairs′ ≡ wordsOfPairs (pairsOf maxLong (plan .writes .list)))
-        (g : r₂ ≡ withLock (withClock r (r .clock + 2))
-        (Held (record { lane = L; stamp = r .clock + 2; count = plan .writes .count; logged = 0; written = 0 }))) where
-      locked-is : machineOf r₂ pairs′ cache nvm′ flags′ ≡ locked L (writesOn z f machine) (machineOf r pairs cache nvm′ flags′)
-      unfolding locked
-      locked-is = rw (g, q, long-pairs _ _ (p .writes e), long-count _ _ (p .writes e))
+    module _ (pairs′ : List ℕ) (q : pairs′ ≡ wordsOfPairs (pairsOf maxLong (plan .writes .list))) (s : ℕ) (c : s ≡ state .clock + 2) where
+      locked-is : machineOf (takenState state L (plan .latest) s (plan .writes .count)) pairs′ cache nvm′ flags′
+          ≡ locked L (writesOn z f machine) (machineOf (drainedState z cache L state) pairs cache nvm′ flags′)
+      unfolding locked takenState drainedState withLane
+      locked-is = rw (q, c, p .latest e, long-pairs _ _ (p .writes e), long-count _ _ (p .writes e))
 
-      same-clock : r .clock ≡ state .clock
-      unfolding withLane
-      same-clock = ap (λ (s : Record). s .clock) d
+      pub lock-takes : (before ws exit : List ℕ) → exit ≡ ws ++ pairs′ → ws ≡ wordsOf (takenState state L (plan .latest) s (plan .writes .count))
+          → (plan .writes .count ≡ 0 → ⊥)
+          → keptBy (answer.Locked (record { left = plan .writes .count; stamp = s })) exit cache nvm′ flags′
+          ≡ keeps before (lockStep z L f (machineOf state pairs cache nvm flags))
+      unfolding said
+      lock-takes before ws exit x d h =
+          let n : plan .writes .count ≡ length (writesOn z f machine) = long-count _ _ (p .writes e) in
+          rw x
+          (keeps-taken before _ (takenState state L (plan .latest) s (plan .writes .count)) ws pairs′ cache nvm′ flags′ _
+          (taken _ (rw (locked-is, now-drained, c, n, ne-eqb (length (writesOn z f machine)) 0 (λ b. h (n ∙ b))))) refl d)
 
-      pub lock-takes : (plan .writes .count ≡ 0 → ⊥)
-          → record { answer = answer.Locked (record { left = plan .writes .count; stamp = r .clock + 2 }); machine = machineOf r₂ pairs′ cache nvm′ flags′ }
-          ≡ lockStep z L f (machineOf state pairs cache nvm flags)
-      lock-takes h =
-          let c : plan .writes .count ≡ length (writesOn z f machine) = long-count _ _ (p .writes e) in
-          taken _ (rw (locked-is, now-drained, same-clock, c, ne-eqb (length (writesOn z f machine)) 0 (λ b. h (c ∙ b))))
+-- pairs put behind the record's words, as a part of the slice: as many as there were, and the slice is then the words and they
+pub pairs-lent : (ws ps : List ℕ) → length ws ≡ recordLength → length ps ≡ lockLength
+    → length (take (length (ws ++ ps) - recordLength) (drop recordLength (ws ++ ps))) ≡ lockLength
+pairs-lent ws ps e h = ap length (tail-is recordLength (ws ++ ps) ∙ drop-at ws ps recordLength e) ∙ h
+
+pub pairs-put : (ws ps new : List ℕ) → length ws ≡ recordLength
+    → putMid recordLength (length (ws ++ ps) - recordLength) (ws ++ ps) new ≡ ws ++ new
+pairs-put ws ps new e =
+    let xs = ws ++ ps in
+    ap (λ (t : List ℕ). t ++ (new ++ drop (length xs - recordLength) (drop recordLength xs))) (take-at ws ps recordLength e)
+    ∙ ap (λ (t : List ℕ). ws ++ (new ++ t))
+    (drop-of-length-le (drop recordLength xs) {i = length xs - recordLength} (omega (arith, length-drop recordLength xs)))
+    ∙ ap (λ (t : List ℕ). ws ++ t) (append-nil new)
+
+-- a refused Lock
+pub lock-refuses : (z : Sizes) (L : ℕ) (f state cache nvm flags : List ℕ) (number : ℕ) → number ≡ lockRefusal z L f (machineIn state cache nvm flags)
+    → (number ≡ 0 → ⊥) → keptBy (answer.Refused number) state cache nvm flags ≡ keeps state (lockStep z L f (machineIn state cache nvm flags))
+unfolding lockStep
+lock-refuses z L f state cache nvm flags number e h = refuses state cache nvm flags number _ _ e h
 
 -- ---- Continue's refusals
 module _ (z : Sizes) (L : ℕ) (m : Machine) (number : ℕ) (e : number ≡ drainRefusal z L m) where
@@ -318,23 +343,30 @@ module _ (z : Sizes) (state : Record) (pairs cache nvm flags : List ℕ) (L : �
       let c = first-none _ _ (λ d. omega arith) (b .1) in
       record { known = checked z state pairs cache nvm flags L (a .0); held = not-false _ (b .0); own = eqb-true _ L (not-false _ (c .0)) }
 
-  -- and after it
-  pub part-at : (r : Record) (flags′ : List ℕ) (k : Locked) → Accepted z state pairs cache nvm flags L → length (state .lanes) ≡ maxLanes
-      → r ≡ drainedState z cache L state → flags′ ≡ drainedFlags L flags → k ≡ lockedIn (state .lock) → PartAt z r pairs cache flags′ k
-  unfolding cursorOf
-  part-at r flags′ k a eight d e g =
-      let c = a .known in
-      let l = lane-held z state pairs cache nvm flags L c eight in
-      let s = drained-keeps z cache L state in
-      let o : k .lane ≡ L = ap (λ (x : Locked). x .lane) g ∙ a .own in
-      let h = held-in z state pairs (state .lock) (a .held) (record-in z state pairs (c .in-range) .lock) in
-      record {
-        image = c .image;
-        same-flags = rw e (length-drainedFlags L flags ∙ c .same-flags);
-        in-pairs = c .in-pairs;
-        place = rw (o, d) (record { slot = rw (s .next) (l .next); wrap = rw (s .wrap) (l .wrap) });
-        held = rw (d, drained-clock z cache L state, g) h;
-      }
+-- and after it
+pub part-at : (z : Sizes) (state cache nvm flags : List ℕ) (L : ℕ) (q : Latest) (flags′ : List ℕ) (k : Locked)
+    → Accepted z (recordIn state) (pairsIn state) cache nvm flags L
+    → q ≡ latestIn z cache L → flags′ ≡ drainedFlags L flags → k ≡ lockedIn (recordIn state .lock) → PartAt z state q cache flags′ k
+unfolding cursorOf
+part-at z state cache nvm flags L q flags′ k a f e g =
+    let c = a .known in
+    let l = lane-held z (recordIn state) (pairsIn state) cache nvm flags L c (lanes-all (take recordLength state)) in
+    let o : k .lane ≡ L = ap (λ (x : Locked). x .lane) g ∙ a .own in
+    record {
+      image = c .image;
+      same-flags = rw e (length-drainedFlags L flags ∙ c .same-flags);
+      in-pairs = c .in-pairs;
+      found = rw o f;
+      place = rw o (record { slot = l .next; wrap = l .wrap });
+      held = rw g
+          (held-in z (recordIn state) (pairsIn state) (recordIn state .lock) (a .held) (record-in z (recordIn state) (pairsIn state) (c .in-range) .lock));
+    }
+
+-- a refused Continue
+pub proceed-refuses : (z : Sizes) (L : ℕ) (state cache nvm flags : List ℕ) (number : ℕ) → number ≡ proceedRefusal z L (machineIn state cache nvm flags)
+    → (number ≡ 0 → ⊥) → keptBy (answer.Refused number) state cache nvm flags ≡ keeps state (proceedStep z L (machineIn state cache nvm flags))
+unfolding proceedStep
+proceed-refuses z L state cache nvm flags number e h = refuses state cache nvm flags number _ _ e h
 
 -- ---- a part
 pub pairs-held : (z : Sizes) (clock : ℕ) (ps : List ℕ) (k : Locked) → HeldIn z clock ps k → PairsHeld (z .words) ps k
@@ -349,6 +381,10 @@ pub part-made : (ps : List ℕ) (k : Locked) (n : ℕ) (ws₁ ws₂ : List ℕ) 
     → w ≡ writesOf maxWrites (pairWrites (pairsFrom ps (k .written) n) ws₁) → w ≡ writesOf maxWrites (pairWrites (partOf k ps) ws₂)
 unfolding partOf
 part-made ps k n ws₁ ws₂ w e g h = h ∙ rw (e, g)
+
+pub writes-tail : (k : Locked) (ps ps₂ ws : List ℕ) (w : Writes) → ps ≡ ps₂ → w ≡ writesOf maxWrites (pairWrites (partOf k ps) ws)
+    → w ≡ writesOf maxWrites (pairWrites (partOf k ps₂) ws)
+writes-tail k ps ps₂ ws w t e = e ∙ rw t
 
 -- and may be appended
 module _ (z : Sizes) (ps ws : List ℕ) (k : Locked) (w : Writes) (e : w ≡ writesOf maxWrites (pairWrites (partOf k ps) ws)) where
@@ -367,92 +403,160 @@ module _ (z : Sizes) (ps ws : List ℕ) (k : Locked) (w : Writes) (e : w ≡ wri
     low = rw part-list (writes-low (z .words) maxWords _ ws (part-ok (z .words) ps k h) l);
   }
 
-pub part-appendable : (z : Sizes) (r : Record) (pairs cache flags : List ℕ) (k : Locked) (at : Lane) (w : Writes) → PartAt z r pairs cache flags k
-    → at ≡ laneAt r (k .lane) → w ≡ writesOf maxWrites (pairWrites (partOf k pairs) (dataOf z cache)) → k .stamp < 2 ^ 64
-    → Appendable z at cache flags (k .lane) w (k .stamp)
-part-appendable z r pairs cache flags k at w p l e b = record {
+pub part-appendable : (z : Sizes) (state : List ℕ) (q : Latest) (cache flags : List ℕ) (k : Locked) (cursor : Cursor) (w : Writes)
+    → PartAt z state q cache flags k → cursor ≡ cursorOf (laneAt (recordIn state) (k .lane))
+    → w ≡ writesOf maxWrites (pairWrites (partOf k (pairsIn state)) (dataOf z cache)) → k .stamp < 2 ^ 64
+    → Appendable z cursor cache flags (k .lane) w (k .stamp)
+part-appendable z state q cache flags k cursor w p l e b = record {
   image = p .image;
   same-flags = p .same-flags;
   lane-below = p .held .lane;
   place = rw l (p .place);
   room = omega (arith, p .held .stamp .even);
-  writes = part-loggable z pairs (dataOf z cache) k w e (pairs-held z (r .clock) pairs k (p .held)) (sizes-in z (p .image .sizes-ok) .words-high);
+  writes = part-loggable z (pairsIn state) (dataOf z cache) k w e (pairs-held z (recordIn state .clock) (pairsIn state) k (p .held))
+      (sizes-in z (p .image .sizes-ok) .words-high);
 }
 
--- the record then
-pub part-room : (z : Sizes) (r : Record) (pairs cache flags : List ℕ) (k : Locked) → PartAt z r pairs cache flags k → k .logged ≡ k .written
-    → (k .lane < maxLanes) × (k .logged + partLength k < 2 ^ 64)
-part-room z r pairs cache flags k p e = (
-  lane-small z (k .lane) (p .image .sizes-ok) (p .held .lane),
-  omega (arith, part-most k (p .held .left), p .held .most),
-)
+module _ (z : Sizes) (state : List ℕ) (q : Latest) (cache flags : List ℕ) (k : Locked) (p : PartAt z state q cache flags k) where
+  -- the words are as many as a record and its pairs have
+  pub part-long : length state ≡ stateLength
+  part-long = pairs-long state (p .in-pairs)
 
--- its pairs may be copied and written
-module _ (z : Sizes) (r : Record) (pairs cache flags : List ℕ) (k : Locked) (p : PartAt z r pairs cache flags k) (n : ℕ) (e : n ≡ partLength k) where
-  pub part-left : k .written + n ≤ k .count
-  part-left = rw e (part-most k (p .held .left))
+  pub part-record : length (take recordLength state) ≡ recordLength
+  part-record = record-long state part-long
 
-  pub part-copyable : (length pairs ≡ lockLength) × ((k .written + n ≤ maxLong) × (n ≤ maxWrites))
-  part-copyable = (p .in-pairs, (omega (arith, part-left, p .held .most), rw e (part-few k)))
+  pub part-small : k .lane < maxLanes
+  part-small = lane-small z (k .lane) (p .image .sizes-ok) (p .held .lane)
 
-  pub part-writable : (part : List Pair) → take n part ≡ pairsFrom pairs (k .written) n
-      → (k .lane < maxLanes) × ((n ≤ maxWrites) × ((length flags ≡ length cache) × PairsInside (length cache) n part))
-  part-writable part t =
-      let o : pairsOk (z .words) (pairsFrom pairs (k .written) n) ≡ true =
-      rw e (part-ok (z .words) pairs k (pairs-held z (r .clock) pairs k (p .held))) in (
-        lane-small z (k .lane) (p .image .sizes-ok) (p .held .lane),
-        (part-copyable .1 .1, (p .same-flags, part-words (z .words) pairs (k .written) n (length cache) part t o (data-part z cache (p .image) .inside))),
-      )
+  pub part-lanes : k .lane < length (recordIn state .lanes)
+  part-lanes = omega (arith, part-small, lanes-all (take recordLength state))
 
--- ---- the record after a part is written
-module _ (k : Locked) (r : Record) (n : ℕ) (e : n ≡ partLength k) where
-  pub state-last : k .written + n ≡ k .count → withLock (withLast r (k .stamp)) Free ≡ partWrittenState k r
+  -- the part's pairs may be read
+  pub part-readable : (ps : List ℕ) → ps ≡ pairsIn state → (IsImage z cache) × ((length ps ≡ lockLength) × PairsHeld (z .words) ps k)
+  part-readable ps e = rw e (p .image, (p .in-pairs, pairs-held z (recordIn state .clock) (pairsIn state) k (p .held)))
+
+  -- the record may be stored once it is logged
+  pub part-room : k .logged ≡ k .written → k .logged + partLength k < 2 ^ 64
+  part-room e = omega (arith, part-most k (p .held .left), p .held .most)
+
+  -- its pairs may be copied and written
+  pub part-left : (n : ℕ) → n ≡ partLength k → k .written + n ≤ k .count
+  part-left n e = rw e (part-most k (p .held .left))
+
+  module _ (n : ℕ) (e : n ≡ partLength k) (ps : List ℕ) (t : ps ≡ pairsIn state) where
+    pub part-copyable : (length ps ≡ lockLength) × ((k .written + n ≤ maxLong) × (n ≤ maxWrites))
+    part-copyable = (rw t (p .in-pairs), (omega (arith, part-left n e, p .held .most), rw e (part-few k)))
+
+    pub part-writable : (part : List Pair) → take n part ≡ pairsFrom ps (k .written) n
+        → (k .lane < maxLanes) × ((n ≤ maxWrites) × ((length flags ≡ length cache) × PairsInside (length cache) n part))
+    part-writable part c =
+        let o : pairsOk (z .words) (pairsFrom ps (k .written) n) ≡ true =
+        rw (e, t) (part-ok (z .words) (pairsIn state) k (pairs-held z (recordIn state .clock) (pairsIn state) k (p .held))) in
+        let i = part-words (z .words) ps (k .written) n (length cache) part c o (data-part z cache (p .image) .inside) in
+        (part-small, (part-copyable .1 .1, (p .same-flags, i)))
+
+-- ---- the record as it is stored
+-- a lock taken: the clock, the lock, then the lane's floor
+pub taken-words : (r r₁ r₂ : Record) (ws : List ℕ) (L : ℕ) (q : Latest) (s n : ℕ) → r₁ ≡ withClock r s
+    → r₂ ≡ withLock r₁ (Held (record { lane = L; stamp = s; count = n; logged = 0; written = 0 }))
+    → ws ≡ wordsOf (withLane r₂ L (drainedLane q (laneAt r₂ L))) → ws ≡ wordsOf (takenState r L q s n)
+unfolding takenState withClock withLock withLane laneAt
+taken-words r r₁ r₂ ws L q s n e₁ e₂ e₃ = e₃ ∙ rw (e₂, e₁)
+
+-- a part logged: the lock, then the lane without its redo log
+pub logged-words : (r r₁ r₂ : Record) (ws : List ℕ) (q : Latest) (k : Locked) (end : Cursor) (n : ℕ) (old drained floor : Timestamp) → n ≡ partLength k
+    → old ≡ laneAt r (k .lane) .floor → drained ≡ floorAfterDrain q old → floor ≡ floorAfterAppend (k .stamp) drained
+    → r₁ ≡ withLock r (Held (record { lane = k .lane; stamp = k .stamp; count = k .count; logged = k .logged + n; written = k .written }))
+    → r₂ ≡ withLane r₁ (k .lane) (headed Idle end floor (laneAt r₁ (k .lane))) → ws ≡ wordsOf r₂ → ws ≡ wordsOf (loggedState r q k end)
+unfolding loggedState loggedHeld headed appendedLane drainedLane withLock laneAt
+logged-words r r₁ r₂ ws q k end n old drained floor e₁ e₂ e₃ e₄ e₅ e₆ e₇ = e₇ ∙ rw (e₆, e₅, e₄, e₃, e₂, e₁)
+
+-- a part written: the last one commits, and frees the lock
+module _ (k : Locked) (r r₂ : Record) (n : ℕ) (e : n ≡ partLength k) where
+  pub state-last : (r₁ : Record) → r₁ ≡ withLast r (k .stamp) → r₂ ≡ withLock r₁ Free → k .written + n ≡ k .count → r₂ ≡ partWrittenState k r
   unfolding partWrittenState
-  state-last h = rw (← e, eq-eqb (k .written + n) (k .count) h)
+  state-last r₁ f g h = g ∙ rw (f, ← e, eq-eqb (k .written + n) (k .count) h)
 
-  pub state-more : (k .written + n ≡ k .count → ⊥)
-      → withLock r (Held (record { lane = k .lane; stamp = k .stamp; count = k .count; logged = k .logged; written = k .written + n })) ≡ partWrittenState k r
+  pub state-more : r₂ ≡ withLock r (Held (record { lane = k .lane; stamp = k .stamp; count = k .count; logged = k .logged; written = k .written + n }))
+      → (k .written + n ≡ k .count → ⊥) → r₂ ≡ partWrittenState k r
   unfolding partWrittenState
-  state-more h = rw (← e, ne-eqb (k .written + n) (k .count) h)
+  state-more g h = g ∙ rw (← e, ne-eqb (k .written + n) (k .count) h)
 
--- ---- Continue's steps on a drained machine
-module _ (k : Locked) (r : Record) (pairs cache nvm flags : List ℕ) (r₂ : Record) (cache′ flags′ : List ℕ) where
+-- and a lane drained: in either order
+written-drained : (k : Locked) (r : Record) (L : ℕ) (q : Latest)
+    → withLane (partWrittenState k r) L (drainedLane q (laneAt (partWrittenState k r) L)) ≡ partWrittenState k (withLane r L (drainedLane q (laneAt r L)))
+unfolding partWrittenState withLock withLast withLane laneAt
+written-drained k r L q = split (eqb (k .written + partLength k) (k .count)) (λ e. rw e) (λ e. rw e)
+
+-- ---- Continue's steps on a drained machine, from the record before the drain
+module _ (z : Sizes) (k : Locked) (r : Record) (pairs cache nvm flags : List ℕ) (q : Latest) (d : q ≡ latestIn z cache (k .lane))
+    (before ws cache′ flags′ : List ℕ) where
   -- a part logged
-  pub part-logs : (z : Sizes) (at after : Lane) (w : Writes) → at ≡ laneAt r (k .lane) → w ≡ writesOf maxWrites (pairWrites (partOf k pairs) (dataOf z cache))
-      → after ≡ appendedLane (k .stamp) (advance (z .slots) (w .count + 1) (cursorOf at)) Idle (at .redo) at
-      → cache′ ≡ stored (appendStores (logStart z (k .lane)) (z .slots) (k .stamp) (cursorOf at) (take (w .count) (w .list))) cache
-      → flags′ ≡ flushAll (k .lane) (places (appendStores (logStart z (k .lane)) (z .slots) (k .stamp) (cursorOf at) (take (w .count) (w .list)))) flags
-      → r₂ ≡ withLane (withLock r (Held (loggedHeld k))) (k .lane) after
-      → record { answer = answer.Locked (record { left = k .count - k .written; stamp = k .stamp }); machine = machineOf r₂ pairs cache′ nvm flags′ }
-      ≡ loggedStep z k (machineOf r pairs cache nvm flags)
-  unfolding loggedStep partLogged changed loggedHeld
-  part-logs z at after w l e a c f g =
-      let n = part-count z pairs (dataOf z cache) k w e in
-      rw (g, c, f, a, part-list z pairs (dataOf z cache) k w e, count-of w _ e, n, l)
+  module _ (w : Writes) (cursor end : Cursor) (small : k .lane < length (r .lanes)) (e : w ≡ writesOf maxWrites (pairWrites (partOf k pairs) (dataOf z cache)))
+      (l : cursor ≡ cursorOf (laneAt r (k .lane))) (a : end ≡ advance (z .slots) (w .count + 1) cursor) where
+    logged-once : loggedState r q k end
+        ≡ withLane (withLock (drainedState z cache (k .lane) r) (Held (loggedHeld k))) (k .lane)
+        (appendedLane (k .stamp) end Idle (laneAt r (k .lane) .redo) (drainedLane (latestIn z cache (k .lane)) (laneAt r (k .lane))))
+    unfolding loggedState drainedState withLock withLane
+    logged-once = rw d (sym (lane-twice (withLock r (Held (loggedHeld k))) (k .lane) _ _))
+
+    logged-is : cache′ ≡ stored (appendStores (logStart z (k .lane)) (z .slots) (k .stamp) cursor (take (w .count) (w .list))) cache
+        → flags′ ≡ flushAll (k .lane) (places (appendStores (logStart z (k .lane)) (z .slots) (k .stamp) cursor (take (w .count) (w .list)))) flags
+        → machineOf (loggedState r q k end) pairs cache′ nvm flags′ ≡ partLogged z k (machineOf (drainedState z cache (k .lane) r) pairs cache nvm flags)
+    unfolding partLogged changed loggedHeld cursorOf drainedLane
+    logged-is c f =
+        let n = part-count z pairs (dataOf z cache) k w e in
+        rw (
+          logged-once,
+          c,
+          f,
+          a,
+          l,
+          part-list z pairs (dataOf z cache) k w e,
+          count-of w _ e,
+          n,
+          drained-lane z cache (k .lane) r small,
+        )
+
+    pub part-logs : cache′ ≡ stored (appendStores (logStart z (k .lane)) (z .slots) (k .stamp) cursor (take (w .count) (w .list))) cache
+        → flags′ ≡ flushAll (k .lane) (places (appendStores (logStart z (k .lane)) (z .slots) (k .stamp) cursor (take (w .count) (w .list)))) flags
+        → ws ≡ wordsOf (loggedState r q k end)
+        → keptBy (answer.Locked (record { left = k .count - k .written; stamp = k .stamp })) (ws ++ pairs) cache′ nvm flags′
+        ≡ keeps before (loggedStep z k (machineOf (drainedState z cache (k .lane) r) pairs cache nvm flags))
+    unfolding loggedStep said
+    part-logs c f g = keeps-taken before _ (loggedState r q k end) ws pairs cache′ nvm flags′ _ (rw (logged-is c f)) refl g
 
   -- a part written
-  pub part-writes : (part : List Pair) (n : ℕ) → n ≡ partLength k → take n part ≡ pairsFrom pairs (k .written) n
+  pub part-writes : (part : List Pair) (n : ℕ) (ps : List ℕ) (r₁ : Record) → n ≡ partLength k → ps ≡ pairs → take n part ≡ pairsFrom ps (k .written) n
       → cache′ ≡ stored (pairStores (take n part)) cache
-      → flags′ ≡ flushAll (k .lane) (places (pairStores (take n part))) flags → r₂ ≡ partWrittenState k r
-      → record { answer = answer.Locked (record { left = k .count - (k .written + n); stamp = k .stamp }); machine = machineOf r₂ pairs cache′ nvm flags′ }
-      ≡ writtenStep k (machineOf r pairs cache nvm flags)
-  unfolding writtenStep partWritten changed partOf
-  part-writes part n e t c f g = rw (g, c, f, t, e)
+      → flags′ ≡ flushAll (k .lane) (places (pairStores (take n part))) flags → r₁ ≡ partWrittenState k r
+      → ws ≡ wordsOf (withLane r₁ (k .lane) (drainedLane q (laneAt r₁ (k .lane))))
+      → keptBy (answer.Locked (record { left = k .count - (k .written + n); stamp = k .stamp })) (ws ++ pairs) cache′ nvm flags′
+      ≡ keeps before (writtenStep k (machineOf (drainedState z cache (k .lane) r) pairs cache nvm flags))
+  unfolding writtenStep partWritten changed partOf drainedState said
+  part-writes part n ps r₁ e t s c f g h =
+      keeps-taken before _ (partWrittenState k (drainedState z cache (k .lane) r)) ws pairs cache′ nvm flags′ _ (rw (c, f, s, t, e)) refl
+      (h ∙ rw (g, d, written-drained k r (k .lane) (latestIn z cache (k .lane))))
 
 -- and as the whole call
-module _ (z : Sizes) (L : ℕ) (state : Record) (pairs cache nvm flags : List ℕ) (r : Record) (nvm′ flags′ : List ℕ) (d : r ≡ drainedState z cache L state)
+module _ (z : Sizes) (L : ℕ) (state : Record) (pairs cache nvm flags : List ℕ) (nvm′ flags′ : List ℕ)
     (f₁ : nvm′ ≡ drainedNvm L flags cache nvm) (f₂ : flags′ ≡ drainedFlags L flags) (k : Locked) (g : k ≡ lockedIn (state .lock)) (number : ℕ)
-    (p : number ≡ proceedRefusal z L (machineOf state pairs cache nvm flags)) (e : number ≡ 0) (step : Step) where
-  proceeds : step ≡ nextStep z k (machineOf r pairs cache nvm′ flags′) → step ≡ proceedStep z L (machineOf state pairs cache nvm flags)
+    (p : number ≡ proceedRefusal z L (machineOf state pairs cache nvm flags)) (e : number ≡ 0) where
+  now-next : nextStep z k (machineOf (drainedState z cache (k .lane) state) pairs cache nvm′ flags′) ≡ proceedStep z L (machineOf state pairs cache nvm flags)
   unfolding proceedStep
-  proceeds a = a ∙ rw (g, drained-by z L state pairs cache nvm flags r nvm′ flags′ d f₁ f₂) (step-taken _ _ _ _ p e)
+  now-next =
+      let o : k .lane ≡ L = ap (λ (x : Locked). x .lane) g ∙ proceed-accepted z state pairs cache nvm flags L number p e .own in
+      ap (λ (l : ℕ). nextStep z k (machineOf (drainedState z cache l state) pairs cache nvm′ flags′)) o
+      ∙ ap (nextStep z k) (drained-by z L state pairs cache nvm flags (drainedState z cache L state) nvm′ flags′ refl f₁ f₂)
+      ∙ ap (λ (x : Locked). nextStep z x (drained z L (machineOf state pairs cache nvm flags))) g
+      ∙ step-taken _ _ _ _ p e
 
-  pub proceed-logs : k .logged ≡ k .written → step ≡ loggedStep z k (machineOf r pairs cache nvm′ flags′)
-      → step ≡ proceedStep z L (machineOf state pairs cache nvm flags)
+  pub proceed-logs : k .logged ≡ k .written → loggedStep z k (machineOf (drainedState z cache (k .lane) state) pairs cache nvm′ flags′)
+      ≡ proceedStep z L (machineOf state pairs cache nvm flags)
   unfolding loggedStep nextStep
-  proceed-logs h a = proceeds (a ∙ rw (eq-eqb (k .logged) (k .written) h))
+  proceed-logs h = rw (eq-eqb (k .logged) (k .written) h) at now-next
 
-  pub proceed-writes : (k .logged ≡ k .written → ⊥) → step ≡ writtenStep k (machineOf r pairs cache nvm′ flags′)
-      → step ≡ proceedStep z L (machineOf state pairs cache nvm flags)
+  pub proceed-writes : (k .logged ≡ k .written → ⊥) → writtenStep k (machineOf (drainedState z cache (k .lane) state) pairs cache nvm′ flags′)
+      ≡ proceedStep z L (machineOf state pairs cache nvm flags)
   unfolding writtenStep nextStep
-  proceed-writes h a = proceeds (a ∙ rw (ne-eqb (k .logged) (k .written) h))
+  proceed-writes h = rw (ne-eqb (k .logged) (k .written) h) at now-next

@@ -11,13 +11,18 @@ use Rattle.txn.specs.inner.Writes.{longWritesOf}
 use Rattle.txn.specs.declared.Write.{Write}
 use Rattle.image.specs.inner.Facts.{IsImage}
 use Rattle.image.specs.declared.Sizes.{Sizes}
+use Rattle.log.specs.Log.{latestIn}
 use Rattle.log.specs.inner.AppendEntries.{Within}
+use Rattle.log.specs.declared.Cursor.{Cursor}
 use Rattle.log.specs.declared.Latest.{Latest}
-use Rattle.record.specs.Record.{laneAt, cursorOf, lockLength, pairAt, pairsFrom, partLength, pairsOk}
+use Rattle.record.specs.Record.{laneAt, cursorOf, lockLength, pairAt, pairsFrom, partLength, pairsOk, withLane, withClock, withLock, drainedLane, appendedLane}
 use Rattle.record.specs.inner.RecordLaws.{HeldIn}
 use Rattle.record.specs.declared.Locked.{Locked}
+use Rattle.record.specs.declared.Lock.the-variants.{Held}
 use Rattle.record.specs.declared.Pair.{Pair}
+use Rattle.record.specs.declared.Phase.the-variants.{Idle}
 use Rattle.record.specs.declared.Record.{Record}
+use Rattle.codec.specs.Fields.{recordIn, pairsIn}
 use Rattle.store.specs.declared.Answer.the-variants as answer
 use Rattle.store.specs.Machine.{Machine, Step, Cause, firstCause}
 use Rattle.store.specs.Calls.{badBuffers, badRecord, badLane, badTxn, alreadyLogged, lockHeld}
@@ -48,6 +53,11 @@ pub record Planned (plan : Plan) (refusal : ℕ) (ws : List Write) (q : Latest) 
   pub writes : plan .number ≡ 0 → plan .writes ≡ longWritesOf maxLong ws
   pub latest : plan .number ≡ 0 → plan .latest ≡ q
 
+-- record r once lane L, whose latest sequence its drain found, has taken the lock at timestamp s for n writes
+unfoldable pub takenState : Record → (L : ℕ) → Latest → (s n : ℕ) → Record
+takenState r L q s n =
+    withLock (withClock (withLane r L (drainedLane q (laneAt r L))) s) (Held (record { lane = L; stamp = s; count = n; logged = 0; written = 0 }))
+
 -- ---- pairs
 -- data words after pairs are written
 unfoldable pub pairsWritten : List Pair → List ℕ → List ℕ
@@ -70,13 +80,20 @@ pub record PairsHeld (W : ℕ) (ps : List ℕ) (k : Locked) : Type 0 where
 unfoldable pub loggedHeld : Locked → Locked
 loggedHeld k = record { lane = k .lane; stamp = k .stamp; count = k .count; logged = k .logged + partLength k; written = k .written }
 
--- what Continue knows of the transaction that holds the lock, once it has drained the lane
-pub record PartAt (z : Sizes) (r : Record) (pairs cache flags : List ℕ) (k : Locked) : Type 0 where
+-- record r after the present part is logged by an append that ended at a cursor; the lane's latest sequence was found by its drain
+unfoldable pub loggedState : Record → Latest → Locked → Cursor → Record
+loggedState r q k end =
+    let l = laneAt r (k .lane) in
+    withLane (withLock r (Held (loggedHeld k))) (k .lane) (appendedLane (k .stamp) end Idle (l .redo) (drainedLane q l))
+
+-- what Continue knows of the transaction that holds the lock, once it has drained the lane: the words are still those before the drain
+pub record PartAt (z : Sizes) (state : List ℕ) (q : Latest) (cache flags : List ℕ) (k : Locked) : Type 0 where
   pub image : IsImage z cache
   pub same-flags : length flags ≡ length cache
-  pub in-pairs : length pairs ≡ lockLength
-  pub place : Within (z .slots) (cursorOf (laneAt r (k .lane)))
-  pub held : HeldIn z (r .clock) pairs k
+  pub in-pairs : length (pairsIn state) ≡ lockLength
+  pub found : q ≡ latestIn z cache (k .lane)
+  pub place : Within (z .slots) (cursorOf (laneAt (recordIn state) (k .lane)))
+  pub held : HeldIn z (recordIn state .clock) (pairsIn state) k
 
 -- its two steps on a drained machine
 unfoldable pub loggedStep : Sizes → Locked → Machine → Step

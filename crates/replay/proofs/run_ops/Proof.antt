@@ -7,12 +7,12 @@ use Rattle.replay.proofs.run_ops.Statement.{statement}
 use Rattle.replay.proofs.run_ops.Tie as tie
 
 abbrev Inv-loop : tie.InvT-loop
-Inv-loop input pairs₀ cache₀ nvm₀ flags₀ run₀ counter₀ end pairs cache nvm flags run counter =
-    (counter ≤ end) × (run .at ≤ length input) × (length pairs ≡ length pairs₀) × (length cache ≡ length cache₀) × (length nvm ≡ length nvm₀)
+Inv-loop input state₀ cache₀ nvm₀ flags₀ run₀ counter₀ end state cache nvm flags run counter =
+    (counter ≤ end) × (run .at ≤ length input) × (length state ≡ length state₀) × (length cache ≡ length cache₀) × (length nvm ≡ length nvm₀)
     × (length flags ≡ length flags₀)
 
 abbrev μ-loop : tie.MeasureT-loop
-μ-loop input pairs₀ cache₀ nvm₀ flags₀ run₀ counter₀ end pairs cache nvm flags run counter = end - counter
+μ-loop input state₀ cache₀ nvm₀ flags₀ run₀ counter₀ end state cache nvm flags run counter = end - counter
 
 loop-holds : tie.Need-loop-holds Inv-loop μ-loop
 loop-holds c = search needs

@@ -78,7 +78,7 @@ same-length-4 c = search needs
 returns-2 : tie.Need-returns-2
 returns-2 c =
     let p = c .before .before .before .before .before .before .before .before in
-    let o = p .before .before .before .before .before .before .before .before .before .before .before in
+    let o = p .before .before .before .before .before .before .before .before .before .before in
     let s = o .before .before .before .before .before .before .before in
     within (s .args .input .now) _ _ _ (s .pre .0) (o .op-length .ensures) (p .perform .ensures)
 

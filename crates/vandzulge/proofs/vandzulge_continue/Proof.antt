@@ -1,11 +1,8 @@
--- `vandzulge_continue` leaves and answers what the call's own step says: slices of another length are the call unfit, and otherwise `reply` and
--- `put_record` write.
+-- `vandzulge_continue` leaves and answers what the call's own step says: slices of another length are the call unfit, and otherwise `reply` writes the answer.
 -- Assumes nothing.
 use mathlib.Core.Path.{refl}
-use native.Mathlib.Omega.{arith}
-use lib.ListN.{length-take}
+use Rattle.vandzulge.specs.inner.ExportsLaws.{both, both-not-state, both-not-answer, left-unfit, left-by, reply-unfit, reply-by}
 use borrow.Author.Needs.{needs}
-use Rattle.vandzulge.specs.inner.ExportsLaws.{both, both-not-state, both-not-answer, left-unfit, left-kept, reply-unfit, reply-part}
 use Rattle.vandzulge.proofs.vandzulge_continue.Statement.{statement}
 use Rattle.vandzulge.proofs.vandzulge_continue.Tie as tie
 
@@ -15,32 +12,11 @@ returns c = let e = both-not-state _ _ _ (c .if1 .taken) refl in (left-unfit _ _
 returns-2 : tie.Need-returns-2
 returns-2 c = let e = both-not-answer _ _ (c .before .if1 .left) (c .if2 .taken) in (left-unfit _ _ _ _ _ _ _ _ e, reply-unfit _ _ _ _ _ _ _ _ e)
 
-slice-reshare-prefix-record-from : tie.Need-slice-reshare-prefix-record-from
-slice-reshare-prefix-record-from c = search needs
-
-slice-aggregate-record-from : tie.Need-slice-aggregate-record-from
-slice-aggregate-record-from c = simp length-take (omega arith)
-
-record-from-requires : tie.Need-record-from-requires
-record-from-requires c κs = simp length-take (omega arith)
-
-sub-proceed : tie.Need-sub-proceed
-sub-proceed c = search needs
-
-part-proceed-start : tie.Need-part-proceed-start
-part-proceed-start c = search needs
-
-part-proceed-end : tie.Need-part-proceed-end
-part-proceed-end c = search needs
-
 proceed-requires : tie.Need-proceed-requires
 proceed-requires c κs = search needs
 
 reply-requires : tie.Need-reply-requires
 reply-requires c κs = search needs
-
-put-record-requires : tie.Need-put-record-requires
-put-record-requires c κs = search needs
 
 same-length : tie.Need-same-length
 same-length c = search needs
@@ -59,14 +35,12 @@ same-length-5 c = search needs
 
 returns-3 : tie.Need-returns-3
 returns-3 c =
-    let s = c .before .before in
-    let p = s .before .before .before .before in
-    let d = p .before .before .before .before .before .before .before .before in
-    let f = d .before .before .before .before .before .before in
-    let e = f .before .before in
+    let r = c .before .before in
+    let l = r .before .before .before .before .before .before .before .before .before .before in
+    let e = l .before .before .before .before .before in
     let b = both _ _ (e .before .if1 .left) (e .if2 .left) in (
-      left-kept _ _ _ _ _ _ _ _ _ _ _ _ _ _ b (f .record-from .ensures) (d .proceed .ensures) (s .put-record .ensures .0) (s .put-record .ensures .1),
-      reply-part _ _ _ _ _ _ _ _ _ _ _ _ _ _ b (f .record-from .ensures) (d .proceed .ensures) (p .reply .ensures),
+      left-by _ _ _ _ _ _ _ _ _ _ _ _ _ _ b (l .proceed .ensures) (r .reply .ensures .0),
+      reply-by _ _ _ _ _ _ _ _ _ _ _ _ _ _ _ b (l .proceed .ensures) (r .reply .ensures .1),
     )
 
 pub vandzulge-continue-spec : {M : Type 1} → statement M
@@ -75,15 +49,8 @@ vandzulge-continue-spec =
     (tie.spec
     returns
     returns-2
-    slice-reshare-prefix-record-from
-    slice-aggregate-record-from
-    record-from-requires
-    sub-proceed
-    part-proceed-start
-    part-proceed-end
     proceed-requires
     reply-requires
-    put-record-requires
     same-length
     same-length-2
     same-length-3

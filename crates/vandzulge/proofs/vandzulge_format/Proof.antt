@@ -2,7 +2,7 @@
 -- otherwise the record's words are written by `start`. Assumes nothing.
 use mathlib.Core.Path.{refl}
 use borrow.Author.Needs.{needs}
-use Rattle.vandzulge.specs.inner.ExportsLaws.{fits, fits-not, left-unfit, left-by}
+use Rattle.vandzulge.specs.inner.ExportsLaws.{fits, fits-not, left-unfit, left-start}
 use Rattle.vandzulge.proofs.vandzulge_format.Statement.{statement}
 use Rattle.vandzulge.proofs.vandzulge_format.Tie as tie
 
@@ -32,7 +32,7 @@ returns-2 c =
     let s = c .before .before in
     let d = s .before .before .before .before .before .before .before .before in
     let e = d .before .before .before .before in
-    left-by _ _ _ _ _ _ _ _ _ _ _ _ _ _ _ _ _ (fits _ (e .if1 .left)) refl refl (d .format .ensures) (s .start .ensures .0) (s .start .ensures .1)
+    left-start _ _ _ _ _ _ _ _ _ _ _ _ _ _ (fits _ (e .if1 .left)) (d .format .ensures) (s .start .ensures .0) (s .start .ensures .1)
 
 pub vandzulge-format-spec : {M : Type 1} → statement M
 vandzulge-format-spec =

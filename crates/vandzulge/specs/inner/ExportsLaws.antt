@@ -9,21 +9,17 @@ use lib.ListN.{length, take, drop, replicate, length-drop, drop-of-length-le, ta
 use lib.Seq.{take-all, length-take-le, take-at, drop-at}
 use borrow.Rule.Slice.PartMut.{putMid}
 use borrow.Author.Tests.{eq-eqb, ne-eqb, eqb-false}
-use Rattle.image.specs.declared.Sizes.{Sizes}
 use Rattle.record.specs.Record.{lockLength, noPairs}
 use Rattle.record.specs.declared.Record.{Record}
 use Rattle.store.specs.declared.Answer.{Answer}
-use Rattle.store.specs.declared.Answer.the-variants.{Refused, NoWrites, Locked}
+use Rattle.store.specs.Machine.{Machine, Step, said}
 use Rattle.store.specs.declared.Outcome.{Outcome}
-use Rattle.store.specs.Machine.{Machine, Step, unless, said}
-use Rattle.store.specs.Calls.{drained, writesOn}
-use Rattle.store.specs.Locks.{lockRefusal, locked, lockStep}
-use Rattle.store.specs.Interface.{machineOf, stepOf, blankStepOf}
+use Rattle.store.specs.Interface.{machineOf, stepOf, blankStepOf, whereTaken, Kept, keptBy, keeps}
 use Rattle.recovery.specs.declared.Restart.{Restart}
 use Rattle.recovery.specs.Recovery.{Restarted, told}
 use Rattle.recovery.specs.Interface.{restartedOf}
-use Rattle.codec.specs.Fields.{recordLength, stateLength, wordsOf}
-use Rattle.vandzulge.specs.Exports.{pairsIn, answerLength, recordFits, bothFit, saidWords, whereTaken, leftBy, leaves, replies}
+use Rattle.codec.specs.Fields.{recordLength, stateLength, pairsIn, wordsOf}
+use Rattle.vandzulge.specs.Exports.{answerLength, recordFits, bothFit, saidWords, leftBy, leaves, replies}
 use Rattle.vandzulge.specs.Exports.{whereFinished, toldWords, restarts, restartReplies}
 
 -- ---- lengths: n is the one that the code asks for
@@ -82,114 +78,33 @@ module _ (state : List ℕ) (call : Machine → Step) (r : Record) (ps cache nvm
   unfolding leaves
   left-unfit fits e = rw e
 
-  pub left-by : (fits : Bool) (before : Record) (pairs : List ℕ) (o : Outcome) (pairs′ cache′ nvm′ flags′ : List ℕ) (number : ℕ) (words : List ℕ)
-      → fits ≡ true → before ≡ r → pairs ≡ ps
-      → stepOf o pairs′ cache′ nvm′ flags′ ≡ call (machineOf before pairs cache nvm flags)
-      → number ≡ said (o .answer) .number → words ≡ whereTaken (said (o .answer) .number) (wordsOf (o .state) ++ pairs′) state
+  pub left-by : (fits : Bool) (a : Answer) (state′ cache′ nvm′ flags′ : List ℕ) (number : ℕ) → fits ≡ true
+      → keptBy a state′ cache′ nvm′ flags′ ≡ keeps state (call (machineOf r ps cache nvm flags)) → number ≡ said a .number
+      → leftBy number state′ cache′ nvm′ flags′ ≡ leaves fits state call (machineOf r ps cache nvm flags)
+  unfolding leaves keeps
+  left-by fits a state′ cache′ nvm′ flags′ number e k n =
+      rw (e, n) (ap (λ (t : Kept). leftBy (said (t .answer) .number) (t .state) (t .cache) (t .nvm) (t .flags)) k)
+
+  -- Format, which returns the record of its start
+  pub left-start : (fits : Bool) (o : Outcome) (cache′ nvm′ flags′ : List ℕ) (number : ℕ) (words : List ℕ) → fits ≡ true
+      → stepOf o noPairs cache′ nvm′ flags′ ≡ call (machineOf r ps cache nvm flags)
+      → number ≡ said (o .answer) .number → words ≡ whereTaken (said (o .answer) .number) (wordsOf (o .state) ++ noPairs) state
       → leftBy number words cache′ nvm′ flags′ ≡ leaves fits state call (machineOf r ps cache nvm flags)
   unfolding leaves
-  left-by fits before pairs o pairs′ cache′ nvm′ flags′ number words e b p s n w = rw (e, ← b, ← p, ← s, n, w)
-
--- of a call that leaves the pairs, which it is lent as a part of the slice
-pub left-kept : (state : List ℕ) (call : Machine → Step) (r : Record) (cache nvm flags : List ℕ) (fits : Bool) (before : Record) (o : Outcome)
-    (cache′ nvm′ flags′ : List ℕ) (number : ℕ) (words : List ℕ) → fits ≡ true → before ≡ r
-    → (let pairs = take (length state - recordLength) (drop recordLength state) in
-    stepOf o pairs cache′ nvm′ flags′ ≡ call (machineOf before pairs cache nvm flags))
-    → number ≡ said (o .answer) .number → words ≡ whereTaken (said (o .answer) .number) (wordsOf (o .state) ++ pairsIn state) state
-    → leftBy number words cache′ nvm′ flags′ ≡ leaves fits state call (machineOf r (pairsIn state) cache nvm flags)
-left-kept state call r cache nvm flags fits before o cache′ nvm′ flags′ number words e b s n w =
-    let p = pairs-part state in
-    left-by state call r (pairsIn state) cache nvm flags fits before _ o _ cache′ nvm′ flags′ number words e b p s n
-    (w ∙ ap (λ (l : List ℕ). whereTaken (said (o .answer) .number) (wordsOf (o .state) ++ l) state) (sym p))
+  left-start fits o cache′ nvm′ flags′ number words e s n w = rw (e, ← s, n, w)
 
 module _ (answer : List ℕ) (call : Machine → Step) (r : Record) (ps cache nvm flags : List ℕ) where
   pub reply-unfit : (fits : Bool) → fits ≡ false → answer ≡ replies fits answer call (machineOf r ps cache nvm flags)
   unfolding replies
   reply-unfit fits e = rw e
 
-  pub reply-by : (fits : Bool) (before : Record) (pairs : List ℕ) (o : Outcome) (pairs′ cache′ nvm′ flags′ : List ℕ) (words : List ℕ)
-      → fits ≡ true → before ≡ r → pairs ≡ ps
-      → stepOf o pairs′ cache′ nvm′ flags′ ≡ call (machineOf before pairs cache nvm flags)
-      → words ≡ whereTaken (said (o .answer) .number) (saidWords (said (o .answer))) answer
+  pub reply-by : (fits : Bool) (a : Answer) (state state′ cache′ nvm′ flags′ : List ℕ) (words : List ℕ) → fits ≡ true
+      → keptBy a state′ cache′ nvm′ flags′ ≡ keeps state (call (machineOf r ps cache nvm flags))
+      → words ≡ whereTaken (said a .number) (saidWords (said a)) answer
       → words ≡ replies fits answer call (machineOf r ps cache nvm flags)
-  unfolding replies
-  reply-by fits before pairs o pairs′ cache′ nvm′ flags′ words e b p s w = rw (e, ← b, ← p, ← s, w)
-
--- of a call that is lent the pairs as a part of the slice
-pub reply-part : (state answer : List ℕ) (call : Machine → Step) (r : Record) (cache nvm flags : List ℕ) (before : Record) (o : Outcome)
-    (pairs′ cache′ nvm′ flags′ : List ℕ) (words : List ℕ) → bothFit state answer ≡ true → before ≡ r
-    → stepOf o pairs′ cache′ nvm′ flags′ ≡ call (machineOf before (take (length state - recordLength) (drop recordLength state)) cache nvm flags)
-    → words ≡ whereTaken (said (o .answer) .number) (saidWords (said (o .answer))) answer
-    → words ≡ replies (bothFit state answer) answer call (machineOf r (pairsIn state) cache nvm flags)
-reply-part state answer call r cache nvm flags before o pairs′ cache′ nvm′ flags′ words e b s w =
-    reply-by answer call r (pairsIn state) cache nvm flags (bothFit state answer) before _ o pairs′ cache′ nvm′ flags′ words e b (pairs-part state) s w
-
--- ---- Lock, which alone stores pairs
--- a refused one stores none
-unless-refused : (n : ℕ) (m : Machine) (s : Step) → said (s .answer) .number ≡ 0 → (said (unless n m s .answer) .number ≡ 0 → ⊥)
-    → unless n m s .machine ≡ m
-unfolding unless
-unless-refused n m s e h = by (eqb n 0) h
-  where
-    by : (t : Bool) → (said (cond t s (record { answer = Refused n; machine = m }) .answer) .number ≡ 0 → ⊥)
-        → cond t s (record { answer = Refused n; machine = m }) .machine ≡ m
-    by true g = absurd (g e)
-    by false g = refl
-
-lock-refused : (z : Sizes) (L : ℕ) (f : List ℕ) (m : Machine) → (said (lockStep z L f m .answer) .number ≡ 0 → ⊥) → lockStep z L f m .machine ≡ m
-unfolding lockStep said
-lock-refused z L f m h = unless-refused (lockRefusal z L f m) m _ (by (eqb (length (writesOn z f m)) 0)) h
-  where
-    by : (t : Bool) → said
-        (cond {A = Step} t (record { answer = NoWrites; machine = drained z L m })
-        (record {
-          answer = Locked (record { left = length (writesOn z f m); stamp = m .state .clock + 2 });
-          machine = locked L (writesOn z f m) (drained z L m);
-        }) .answer) .number
-        ≡ 0
-    by true = refl
-    by false = refl
-
--- the pairs stored to their part of the slice
-pairs-put : (state ps : List ℕ) → length state ≡ stateLength → putMid recordLength (length state - recordLength) state ps ≡ take recordLength state ++ ps
-pairs-put state ps e =
-    ap (λ (l : List ℕ). take recordLength state ++ (ps ++ l))
-    (drop-of-length-le (drop recordLength state) {i = length state - recordLength} (omega (arith, length-drop recordLength state)))
-    ∙ ap (λ (l : List ℕ). take recordLength state ++ l) (append-nil ps)
-
-other-before : (k : ℕ) (new a b : List ℕ) → ((k ≡ 0 → ⊥) → a ≡ b) → whereTaken k new a ≡ whereTaken k new b
-unfolding whereTaken
-other-before k new a b h = by (eqb k 0) refl
-  where
-    by : (t : Bool) → eqb k 0 ≡ t → cond t new a ≡ cond t new b
-    by true e = refl
-    by false e = h (eqb-false k 0 e)
-
-pub left-locked : (state : List ℕ) (z : Sizes) (L : ℕ) (f : List ℕ) (r : Record) (cache nvm flags : List ℕ) (fits : Bool) (before : Record) (o : Outcome)
-    (ps cache′ nvm′ flags′ : List ℕ) (number : ℕ) (words : List ℕ) → fits ≡ true → length state ≡ stateLength → before ≡ r
-    → stepOf o ps cache′ nvm′ flags′ ≡ lockStep z L f (machineOf before (take (length state - recordLength) (drop recordLength state)) cache nvm flags)
-    → number ≡ said (o .answer) .number
-    → (let stored = putMid recordLength (length state - recordLength) state ps in
-    words ≡ whereTaken (said (o .answer) .number) (wordsOf (o .state) ++ pairsIn stored) stored)
-    → leftBy number words cache′ nvm′ flags′ ≡ leaves fits state (lockStep z L f) (machineOf r (pairsIn state) cache nvm flags)
-left-locked state z L f r cache nvm flags fits before o ps cache′ nvm′ flags′ number words e m b s n w =
-    let p = pairs-part state in
-    let k = said (o .answer) .number in
-    let new = wordsOf (o .state) ++ ps in
-    let stored = putMid recordLength (length state - recordLength) state ps in
-    let put = pairs-put state ps m in
-    let kept : (k ≡ 0 → ⊥) → take recordLength state ++ ps ≡ state =
-    λ h. ap (λ (l : List ℕ). take recordLength state ++ l)
-    (ap (λ (x : Step). x .machine .pairs) s
-    ∙ ap (λ (x : Machine). x .pairs) (lock-refused z L f _ (λ g. h (ap (λ (x : Step). said (x .answer) .number) s ∙ g)))
-    ∙ p)
-    ∙ take-append-drop recordLength state in
-    left-by state (lockStep z L f) r (pairsIn state) cache nvm flags fits before _ o ps cache′ nvm′ flags′ number words e b p s n
-    (w
-    ∙ ap (λ (l : List ℕ). whereTaken k (wordsOf (o .state) ++ l) stored)
-    (ap pairsIn put ∙ drop-at (take recordLength state) ps recordLength (length-take-le recordLength state (omega (arith, m))))
-    ∙ ap (λ (l : List ℕ). whereTaken k new l) put
-    ∙ other-before k new (take recordLength state ++ ps) state kept)
+  unfolding replies keeps
+  reply-by fits a state state′ cache′ nvm′ flags′ words e k w =
+      rw e (w ∙ ap (λ (t : Kept). whereTaken (said (t .answer) .number) (saidWords (said (t .answer))) answer) k)
 
 -- ---- recovery
 module _ (state : List ℕ) (call : Machine → Restarted) (r : Record) (ps cache nvm flags : List ℕ) where

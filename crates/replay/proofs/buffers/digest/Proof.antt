@@ -6,10 +6,10 @@ use Rattle.replay.proofs.buffers.digest.Statement.{statement}
 use Rattle.replay.proofs.buffers.digest.Tie as tie
 
 abbrev Inv-loop : tie.InvT-loop
-Inv-loop from words all₀ i₀ i-end all i = i ≤ length words
+Inv-loop words all₀ i₀ i-end all i = i ≤ length words
 
 abbrev μ-loop : tie.MeasureT-loop
-μ-loop from words all₀ i₀ i-end all i = length words - i
+μ-loop words all₀ i₀ i-end all i = length words - i
 
 loop-holds : tie.Need-loop-holds Inv-loop μ-loop
 loop-holds c = search needs
