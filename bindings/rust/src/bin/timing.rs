@@ -3,7 +3,8 @@
 //!
 //! A round copies a prepared state some times, makes the call once on each copy, and takes the time of that; copying is not timed. The two implementations
 //! take turns, and the first of a round is the second of the next. The number given is the median of all rounds. Time is the thread's own processor time, less
-//! what reading it costs, so that other work on the machine disturbs it less.
+//! what reading it costs, so that other work on the machine disturbs it less. In the table of the greatest sizes against the small ones the two sizes take turns,
+//! in place of the two implementations.
 
 #[path = "../../tests/common/mod.rs"]
 mod common;
@@ -96,25 +97,31 @@ fn round(calls: &Calls, case: &Case, states: &mut [World]) -> f64 {
     (now() - start - reading()) / (times * states.len()) as f64
 }
 
+/// The medians of two rounds that take turns: `round(true)` is the one, `round(false)` the other.
+fn in_turns(mut round: impl FnMut(bool) -> f64) -> (f64, f64) {
+    let mut ones = Vec::new();
+    let mut others = Vec::new();
+    let start = Instant::now();
+    while ones.len() < LEAST_ROUNDS || (ones.len() < MOST_ROUNDS && start.elapsed() < BUDGET) {
+        if ones.len() % 2 == 0 {
+            ones.push(round(true));
+            others.push(round(false));
+        } else {
+            others.push(round(false));
+            ones.push(round(true));
+        }
+    }
+    (median(ones), median(others))
+}
+
 fn measure(case: &Case) -> Times {
-    let mut library = Vec::new();
-    let mut plain = Vec::new();
     let mut states = vec![case.state.clone(); copies(&case.state)];
     let mut check = case.state.clone();
     let mut same = case.state.clone();
     assert_eq!(same.call(&LIBRARY, &case.call), check.call(&PLAIN, &case.call), "{}", case.name);
     assert!(same == check, "{}", case.name);
-    let start = Instant::now();
-    while library.len() < LEAST_ROUNDS || (library.len() < MOST_ROUNDS && start.elapsed() < BUDGET) {
-        if library.len() % 2 == 0 {
-            library.push(round(&LIBRARY, case, &mut states));
-            plain.push(round(&PLAIN, case, &mut states));
-        } else {
-            plain.push(round(&PLAIN, case, &mut states));
-            library.push(round(&LIBRARY, case, &mut states));
-        }
-    }
-    Times { library: median(library), plain: median(plain) }
+    let (library, plain) = in_turns(|one| round(if one { &LIBRARY } else { &PLAIN }, case, &mut states));
+    Times { library, plain }
 }
 
 /// The time of a copy of the image's words.
@@ -284,6 +291,22 @@ fn table(title: &str, sizes: Sizes) {
     }
 }
 
+/// The library alone at two sizes, which take turns: each call on a lane that both have.
+fn against(small: Sizes, great: Sizes) {
+    let sizes = |Sizes { words, lanes, slots }: Sizes| format!("W {words}, T {lanes}, N {slots}");
+    println!("\n### Greatest sizes against small: calls on a lane, library\n");
+    println!("| Call | {}, ns | {}, ns | ratio |", sizes(great), sizes(small));
+    println!("|---|---:|---:|---:|");
+    let great_cases = steps(great);
+    for low in steps(small).iter().filter(|case| case.call.drains().is_some()) {
+        let Some(high) = great_cases.iter().find(|case| case.name == low.name) else { continue };
+        let mut low_states = vec![low.state.clone(); copies(&low.state)];
+        let mut high_states = vec![high.state.clone(); copies(&high.state)];
+        let (high_time, low_time) = in_turns(|one| if one { round(&LIBRARY, high, &mut high_states) } else { round(&LIBRARY, low, &mut low_states) });
+        println!("| {} | {} | {} | {:.2} |", low.name, number(high_time), number(low_time), high_time / low_time);
+    }
+}
+
 /// The calls of the growth tables.
 fn growing(sizes: Sizes) -> Vec<Case> {
     let shown = ["Format", "Drain, after a Log of 16 writes", "Log, 16 writes", "Redo, 16 writes", "Validate, 16 writes", "Mark", "Log, settling"];
@@ -310,9 +333,12 @@ fn growth(letter: &str, rest: &str, sizes: &[(usize, Sizes)]) {
 }
 
 fn main() {
-    table("Small", Sizes { words: 16, lanes: 1, slots: 34 });
+    let small = Sizes { words: 16, lanes: 1, slots: 34 };
+    let greatest = Sizes { words: 1024, lanes: 8, slots: 256 };
+    table("Small", small);
     table("Middle", Sizes { words: 256, lanes: 4, slots: 64 });
-    table("Greatest", Sizes { words: 1024, lanes: 8, slots: 256 });
+    table("Greatest", greatest);
+    against(small, greatest);
     let by = |values: &[usize], sizes: fn(usize) -> Sizes| -> Vec<(usize, Sizes)> { values.iter().map(|&value| (value, sizes(value))).collect() };
     growth("W", "T 4, N 64", &by(&[16, 64, 256, 1024], |words| Sizes { words, lanes: 4, slots: 64 }));
     growth("T", "W 256, N 64", &by(&[1, 2, 4, 8], |lanes| Sizes { words: 256, lanes, slots: 64 }));
