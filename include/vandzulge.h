@@ -49,7 +49,7 @@
  *     earlier stores anew, so that a word which is undone twice has for a moment the first of these two values again, and the base word, behind which nothing is undone any more,
  *     may become persistent in that moment.
  * Format is not safe against power cuts: have a sign of your own that one is complete, as the example has in the name of its file. A trailer is no sign.
- * Stack: 27 KB for recovery and Lock, 19 for Continue, 13 to 16 for the other steps and Drain, 7 for Format. docs/PERFORMANCE.md has the time that each call takes.
+ * Stack: 27 KB for recovery, 7 for Lock, 6 for Format, less than 3 for every other call. docs/PERFORMANCE.md has the time that each call takes.
  *
  * ==== What the caller owes
  * At every power-up recovery comes first, until it has finished, before any other call but Format. Every call gets the sizes and buffers as the last one left them: nobody else
@@ -67,7 +67,7 @@
  *   record       VANDZULGE_RECORD_WORDS words that Format or a finished recovery makes and the calls keep: clock, last commit, then 40 words a lane (VANDZULGE_RECORD_LANE):
  *                phase (0 idle), first slot, count, timestamp, next slot, wrap bit, floor (0 none), floor's value, 16 pairs of word number and value; then the lag limit
  *                (word VANDZULGE_RECORD_LAG); then the lock (word VANDZULGE_RECORD_LOCK: 0 free), its lane, timestamp, count of pairs, how many of them are logged, how many
- *                are written, and its 64 pairs. A taken call writes all but the 64 pairs: a phase, floor or lock word that is set becomes 1, words that say nothing 0, in lanes
+ *                are written, and its 64 pairs. A taken call leaves all but the 64 pairs in normal form: a phase, floor or lock word that is set becomes 1, words that say nothing 0, in lanes
  *                not in use too. The 64 pairs are written by Lock, all of them, those that it does not need as 0, 0, and made 0 by Format and a finished recovery
  *   max_lag      the lag limit, an even number from VANDZULGE_LAG_MIN to VANDZULGE_LAG_MAX, given to Format and to each recovery
  *   answer       VANDZULGE_ANSWER_WORDS words
@@ -134,8 +134,8 @@
  * Refusals: enum vandzulge_refusal has them. The lowest number wins, but 11 and 12 come between 7 and 8, 14 and 16 before 10, in this order, and 15 before 9.
  * What recovery may need, for 9: the sequences that are not below the least floor, floors as after the drain that Log, Mark or Lock begins with; none where no lane has a floor.
  *
- * Costs are given in passes: over the flags or the image (its whole length), over one lane's log (N slots). Calls with a record read and write it whole, but for the lock's 64 pairs:
- * those are read where the lock is held, and written by Lock alone.
+ * Costs are given in passes: over the flags or the image (its whole length), over one lane's log (N slots). Calls with a record check the lanes in use and the lock in it, and
+ * store what they change; the lock's 64 pairs are read where the lock is held, and written by Lock alone.
  */
 #ifndef VANDZULGE_H
 #define VANDZULGE_H
@@ -217,8 +217,8 @@ uint64_t vandzulge_write_back(size_t words, size_t lanes, size_t slots,
     const uint64_t *cache, size_t cache_len, uint64_t *nvm, size_t nvm_len, const uint8_t *flags, size_t flags_len, size_t word);
 
 /* Drain: copies every word that the lane has flushed to nvm, clears its bits, and moves or ends its floor. Refusals 1 to 3. One pass over the flags, one over the lane's log.
- * Log, Redo, Validate, Mark, Lock and Continue begin with it. The pass over the log is repeated for each greatest timestamp in it that is not complete, which no run of calls
- * leaves there. */
+ * Log, Redo, Validate, Mark, Lock and Continue begin with it. Where the slot before the lane's next one does not close its latest sequence alone, which calls seldom leave, the log is passed over up to
+ * three times more, whatever it holds. */
 uint64_t vandzulge_drain(size_t words, size_t lanes, size_t slots,
     const uint64_t *cache, size_t cache_len, uint64_t *nvm, size_t nvm_len, uint8_t *flags, size_t flags_len,
     uint64_t *record, size_t record_len, size_t lane);
