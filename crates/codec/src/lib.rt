@@ -1,9 +1,8 @@
 // The record as words: clock, last commit, for each lane phase, first slot, count, timestamp, next slot, wrap bit,
 // whether there is a floor, floor, and 16 pairs, then the lag limit, and of the lock whether it is held, its lane,
-// timestamp, count, how many are logged and how many written. A field of a lane is read in `lane_from` and written in
-// `head`. The lock's pairs follow, which are words already and so are nothing to this crate. Here the record is read and
-// written whole; in read.rt, check.rt and write.rt fields are read, checked and stored where they stand, which is what
-// calls do.
+// timestamp, count, how many are logged and how many written. The lock's pairs follow, which are words already and so
+// are nothing to this crate. Here the record is read and written whole, a lane by `lane_from` and by `head` and
+// `put_pairs`; in read.rt, check.rt and write.rt fields are read, checked and stored where they stand, as calls do.
 pub mod check;
 pub mod read;
 pub mod write;

@@ -1,6 +1,6 @@
-// Fields of the record stored where they stand in its words, and the words brought to normal form. Each setter says what
-// record is then read from the words: what a lane or a lock does not have is left as it stands there. A call ends with
-// `normalise`, which makes that 0.
+// Fields of the record stored where they stand in its words, and the words brought to normal form. Each setter says
+// what record is then read from the words, and leaves all others, also words that say nothing. A call ends with
+// `normalise`, which makes those 0.
 use crate::HEAD_WORDS;
 use crate::LANE_WORDS;
 use crate::LANES_END;

@@ -64,13 +64,13 @@ pub enum Answer {
     Locked(Progress),
 }
 
-// The answer with the record: an enum cannot hold the record's arrays.
+// Format's answer with the record that it makes: an enum cannot hold the record's arrays.
 pub struct Outcome {
     pub answer: Answer,
     pub state: Record,
 }
 
-// A refusal leaves the record as it was.
+// A refused Format, with the record that stands for none.
 fn refused(number: u64, state: Record) -> Outcome
     ensures { λ r. ⌜ r ≡ record { answer = Answer.Refused number; state = state } ⌝ }
 {
@@ -292,7 +292,8 @@ pub fn put_drained(words: &mut [u64], lane: usize, latest: Latest)
     codec::write::normalise(words);
 }
 
-// Drains a lane: one pass over the flags, and one over the lane's log where its greatest timestamp is complete.
+// Drains a lane: one pass over the flags, and one over the lane's log where the slot before its next one closes the
+// latest sequence.
 pub fn drain(
     sizes: Sizes,
     state: &mut [u64],

@@ -7,7 +7,8 @@ use borrow.Author.Needs.{needs}
 use denote.Ref.{now}
 use Rattle.record.specs.Record.{isLogged, isHeld}
 use Rattle.store.specs.inner.StoreLaws.{checked, lane-small}
-use Rattle.append.specs.inner.LogMarkLaws.{checks-lane, checks-txn, checks-logged, checks-held, checks-none, record-words}
+use Rattle.store.specs.inner.KeepsLaws.{words-long}
+use Rattle.append.specs.inner.LogMarkLaws.{checks-lane, checks-txn, checks-logged, checks-held, checks-none}
 use Rattle.append.proofs.log_checks.Statement.{statement}
 use Rattle.append.proofs.log_checks.Tie as tie
 
@@ -31,14 +32,14 @@ slice-aggregate-words : tie.Need-slice-aggregate-words
 slice-aggregate-words c =
     let e = c .before .before in
     let k = checked _ _ _ _ _ _ _ (sym (e .before .drain-refusal .ensures) ∙ e .if1 .left) in
-    sym (record-words _ (now (e .before .before .before .before .before .before .before .args .state)) _ _ _ _ k)
+    sym (words-long (now (e .before .before .before .before .before .before .before .args .state)) (k .in-pairs))
 
 phase-requires : tie.Need-phase-requires
 phase-requires c κs =
     let e = c .before .before in
     let k = checked _ _ _ _ _ _ _ (sym (e .before .drain-refusal .ensures) ∙ e .if1 .left) in
     let s = e .before .before .before .before .before .before .before in
-    (record-words _ (now (s .args .state)) _ _ _ _ k, lane-small _ _ (k .image .sizes-ok) (k .lane-below))
+    (words-long (now (s .args .state)) (k .in-pairs), lane-small _ _ (k .image .sizes-ok) (k .lane-below))
 
 is-logged-requires : tie.Need-is-logged-requires
 is-logged-requires c κs = search needs
@@ -56,7 +57,7 @@ lock-requires : tie.Need-lock-requires
 lock-requires c κs =
     let e = c .before .before .before .before .before in
     let k = checked _ _ _ _ _ _ _ (sym (e .before .drain-refusal .ensures) ∙ e .if1 .left) in
-    record-words _ (now (e .before .before .before .before .before .before .before .args .state)) _ _ _ _ k
+    words-long (now (e .before .before .before .before .before .before .before .args .state)) (k .in-pairs)
 
 is-held-requires : tie.Need-is-held-requires
 is-held-requires c κs = search needs

@@ -4,7 +4,9 @@ use mathlib.Core.Path.{refl, sym, _∙_}
 use borrow.Author.Needs.{needs}
 use denote.Ref.{now}
 use Rattle.store.specs.inner.StoreLaws.{checked}
-use Rattle.append.specs.inner.LogMarkLaws.{log-refused, unrefused, log-room, count-on, log-searchable, record-words, lanes-all}
+use Rattle.codec.specs.inner.ReadLaws.{lanes-read}
+use Rattle.store.specs.inner.KeepsLaws.{words-long}
+use Rattle.append.specs.inner.LogMarkLaws.{log-refused, unrefused, log-room, count-on, log-searchable}
 use Rattle.append.proofs.log_refusal.Statement.{statement}
 use Rattle.append.proofs.log_refusal.Tie as tie
 
@@ -23,7 +25,7 @@ slice-aggregate-plan-log : tie.Need-slice-aggregate-plan-log
 slice-aggregate-plan-log c =
     let e = c .before .before in
     let k = checked _ _ _ _ _ _ _ (unrefused _ _ _ _ (sym (e .before .log-checks .ensures) ∙ e .if1 .left) .at-lane) in
-    sym (record-words _ (now (e .before .before .before .before .before .before .before .args .state)) _ _ _ _ k)
+    sym (words-long (now (e .before .before .before .before .before .before .before .args .state)) (k .in-pairs))
 
 plan-log-requires : tie.Need-plan-log-requires
 plan-log-requires c κs =
@@ -31,8 +33,8 @@ plan-log-requires c κs =
     let e = r .before in
     let h = sym (e .before .log-checks .ensures) ∙ e .if1 .left in
     let k = checked _ _ _ _ _ _ _ (unrefused _ _ _ _ h .at-lane) in (
-      record-words _ (now (e .before .before .before .before .before .before .before .args .state)) _ _ _ _ k,
-      log-searchable _ _ _ _ _ _ _ _ _ (lanes-all _) h (count-on _ _ _ _ _ _ _ _ (r .count-of .ensures)),
+      words-long (now (e .before .before .before .before .before .before .before .args .state)) (k .in-pairs),
+      log-searchable _ _ _ _ _ _ _ _ _ (lanes-read _) h (count-on _ _ _ _ _ _ _ _ (r .count-of .ensures)),
     )
 
 returns-2 : tie.Need-returns-2

@@ -7,7 +7,9 @@ use denote.Ref.{now}
 use Rattle.store.specs.Interface.{keeps}
 use Rattle.store.specs.inner.StoreLaws.{checked, lane-small}
 use Rattle.store.specs.inner.CachedWritesLaws.{count-of, run-on}
-use Rattle.append.specs.inner.LogMarkLaws.{unrefused, log-room, log-refuses, log-searchable, log-known, log-after, record-words, words-inside, lanes-all}
+use Rattle.codec.specs.inner.ReadLaws.{lanes-read}
+use Rattle.store.specs.inner.KeepsLaws.{words-long, words-there}
+use Rattle.append.specs.inner.LogMarkLaws.{unrefused, log-room, log-refuses, log-searchable, log-known, log-after}
 use Rattle.append.specs.inner.LogMarkLaws.{log-drains, log-writes}
 use Rattle.append.proofs.log_txn.Statement.{statement}
 use Rattle.append.proofs.log_txn.Tie as tie
@@ -21,19 +23,19 @@ writes-on-requires c κs =
 slice-reshare-prefix-plan-log : tie.Need-slice-reshare-prefix-plan-log
 slice-reshare-prefix-plan-log c =
     let s = c .before .before .before .before .before .before .before in
-    words-inside _ (now (s .args .state)) _ _ _ _ (checked _ _ _ _ _ _ _ (unrefused _ _ _ _ (s .pre .0) .at-lane))
+    words-there (now (s .args .state)) (checked _ _ _ _ _ _ _ (unrefused _ _ _ _ (s .pre .0) .at-lane) .in-pairs)
 
 slice-aggregate-plan-log : tie.Need-slice-aggregate-plan-log
 slice-aggregate-plan-log c =
     let s = c .before .before .before .before .before .before .before .before in
-    sym (record-words _ (now (s .args .state)) _ _ _ _ (checked _ _ _ _ _ _ _ (unrefused _ _ _ _ (s .pre .0) .at-lane)))
+    sym (words-long (now (s .args .state)) (checked _ _ _ _ _ _ _ (unrefused _ _ _ _ (s .pre .0) .at-lane) .in-pairs))
 
 plan-log-requires : tie.Need-plan-log-requires
 plan-log-requires c κs =
     let r = c .before .before in
     let s = r .before .before .before .before .before .before .before in (
-      record-words _ (now (s .args .state)) _ _ _ _ (checked _ _ _ _ _ _ _ (unrefused _ _ _ _ (s .pre .0) .at-lane)),
-      log-searchable _ _ _ _ _ _ _ _ _ (lanes-all _) (s .pre .0) (count-of _ _ (run-on _ _ _ _ _ _ _ _ (r .writes-on .ensures))),
+      words-long (now (s .args .state)) (checked _ _ _ _ _ _ _ (unrefused _ _ _ _ (s .pre .0) .at-lane) .in-pairs),
+      log-searchable _ _ _ _ _ _ _ _ _ (lanes-read _) (s .pre .0) (count-of _ _ (run-on _ _ _ _ _ _ _ _ (r .writes-on .ensures))),
     )
 
 same-length : tie.Need-same-length
@@ -63,20 +65,20 @@ slice-relend-prefix-words : tie.Need-slice-relend-prefix-words
 slice-relend-prefix-words c =
     let e = c .before .before .before .before .before .before .before .before .before in
     let s = e .before .before .before .before .before .before .before .before .before .before in
-    words-inside _ (now (s .args .state)) _ _ _ _ (checked _ _ _ _ _ _ _ (unrefused _ _ _ _ (s .pre .0) .at-lane))
+    words-there (now (s .args .state)) (checked _ _ _ _ _ _ _ (unrefused _ _ _ _ (s .pre .0) .at-lane) .in-pairs)
 
 slice-aggregate-words : tie.Need-slice-aggregate-words
 slice-aggregate-words c =
     let e = c .before .before .before .before .before .before .before .before .before .before in
     let s = e .before .before .before .before .before .before .before .before .before .before in
-    sym (record-words _ (now (s .args .state)) _ _ _ _ (checked _ _ _ _ _ _ _ (unrefused _ _ _ _ (s .pre .0) .at-lane)))
+    sym (words-long (now (s .args .state)) (checked _ _ _ _ _ _ _ (unrefused _ _ _ _ (s .pre .0) .at-lane) .in-pairs))
 
 put-drained-requires : tie.Need-put-drained-requires
 put-drained-requires c κs =
     let e = c .before .before .before .before .before .before .before .before .before .before .before .before in
     let s = e .before .before .before .before .before .before .before .before .before .before in
     let k = checked _ _ _ _ _ _ _ (unrefused _ _ _ _ (s .pre .0) .at-lane) in
-    (record-words _ (now (s .args .state)) _ _ _ _ k, lane-small _ _ (k .image .sizes-ok) (k .lane-below))
+    (words-long (now (s .args .state)) (k .in-pairs), lane-small _ _ (k .image .sizes-ok) (k .lane-below))
 
 same-length-3 : tie.Need-same-length-3
 same-length-3 c = search needs
@@ -117,8 +119,8 @@ log-writes-requires c κs =
     let u = unrefused _ _ _ _ (s .pre .0) in
     let n = p .plan-log .ensures .number ∙ log-room _ _ _ _ u _ (count-of _ _ v) _ (sym (ne-eqb _ 0 (s .pre .1))) in
     let l = p .plan-log .ensures .latest (e .if1 .left) in (
-      record-words _ (now (s .args .state)) _ _ _ _ (checked _ _ _ _ _ _ _ (u .at-lane)),
-      log-after _ _ _ _ _ _ _ _ _ l _ (log-known _ _ _ _ _ _ _ _ _ l _ (s .pre .0) v) (sym n ∙ e .if1 .left) (o .if2 .left) (lanes-all _) _
+      words-long (now (s .args .state)) (checked _ _ _ _ _ _ _ (u .at-lane) .in-pairs),
+      log-after _ _ _ _ _ _ _ _ _ l _ (log-known _ _ _ _ _ _ _ _ _ l _ (s .pre .0) v) (sym n ∙ e .if1 .left) (o .if2 .left) (lanes-read _) _
           (d .drain .ensures .1),
     )
 

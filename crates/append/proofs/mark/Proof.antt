@@ -7,7 +7,9 @@ use Rattle.store.specs.Machine.{said}
 use Rattle.store.specs.Calls.{markStep}
 use Rattle.store.specs.Interface.{keeps}
 use Rattle.store.specs.inner.StoreLaws.{checked, lane-small}
-use Rattle.append.specs.inner.LogMarkLaws.{refuses, mark-lane, record-words, words-inside, lanes-all, mark-after, mark-taken}
+use Rattle.codec.specs.inner.ReadLaws.{lanes-read}
+use Rattle.store.specs.inner.KeepsLaws.{words-long, words-there}
+use Rattle.append.specs.inner.LogMarkLaws.{refuses, mark-lane, mark-after, mark-taken}
 use Rattle.append.proofs.mark.Statement.{statement}
 use Rattle.append.proofs.mark.Tie as tie
 
@@ -41,14 +43,14 @@ slice-relend-prefix-words c =
     let e = c .before .before .before .before .before .before .before .before in
     let p = e .before in
     let k = checked _ _ _ _ _ _ _ (mark-lane _ _ _ (sym (p .plan-mark .ensures .number) ∙ e .if1 .left)) in
-    words-inside _ (now (p .before .before .before .before .before .before .before .before .before .args .state)) _ _ _ _ k
+    words-there (now (p .before .before .before .before .before .before .before .before .before .args .state)) (k .in-pairs)
 
 slice-aggregate-words : tie.Need-slice-aggregate-words
 slice-aggregate-words c =
     let e = c .before .before .before .before .before .before .before .before .before in
     let p = e .before in
     let k = checked _ _ _ _ _ _ _ (mark-lane _ _ _ (sym (p .plan-mark .ensures .number) ∙ e .if1 .left)) in
-    sym (record-words _ (now (p .before .before .before .before .before .before .before .before .before .args .state)) _ _ _ _ k)
+    sym (words-long (now (p .before .before .before .before .before .before .before .before .before .args .state)) (k .in-pairs))
 
 phase-requires : tie.Need-phase-requires
 phase-requires c κs =
@@ -56,7 +58,7 @@ phase-requires c κs =
     let p = e .before in
     let s = p .before .before .before .before .before .before .before .before .before in
     let k = checked _ _ _ _ _ _ _ (mark-lane _ _ _ (sym (p .plan-mark .ensures .number) ∙ e .if1 .left)) in
-    (record-words _ (now (s .args .state)) _ _ _ _ k, lane-small _ _ (k .image .sizes-ok) (k .lane-below))
+    (words-long (now (s .args .state)) (k .in-pairs), lane-small _ _ (k .image .sizes-ok) (k .lane-below))
 
 is-logged-requires : tie.Need-is-logged-requires
 is-logged-requires c κs = search needs
@@ -68,8 +70,8 @@ put-mark-requires c κs =
     let p = e .before in
     let n = sym (p .plan-mark .ensures .number) ∙ e .if1 .left in
     let k = checked _ _ _ _ _ _ _ (mark-lane _ _ _ n) in (
-      record-words _ (now (p .before .before .before .before .before .before .before .before .before .args .state)) _ _ _ _ k,
-      mark-after _ _ _ _ _ _ _ _ (p .plan-mark .ensures .latest (e .if1 .left)) n (lanes-all _) _ (d .drain .ensures .1),
+      words-long (now (p .before .before .before .before .before .before .before .before .before .args .state)) (k .in-pairs),
+      mark-after _ _ _ _ _ _ _ _ (p .plan-mark .ensures .latest (e .if1 .left)) n (lanes-read _) _ (d .drain .ensures .1),
     )
 
 same-length-5 : tie.Need-same-length-5

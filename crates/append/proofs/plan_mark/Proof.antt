@@ -7,7 +7,9 @@ use denote.Ref.{now}
 use Rattle.image.specs.inner.ImageLaws.{sizes-in}
 use Rattle.record.specs.Record.{isHeld}
 use Rattle.store.specs.inner.StoreLaws.{checked}
-use Rattle.append.specs.inner.LogMarkLaws.{mark-refused, mark-held, mark-room, planned-refused, record-words, lanes-all, searchable}
+use Rattle.codec.specs.inner.ReadLaws.{lanes-read}
+use Rattle.store.specs.inner.KeepsLaws.{words-long}
+use Rattle.append.specs.inner.LogMarkLaws.{mark-refused, mark-held, mark-room, planned-refused, searchable}
 use Rattle.append.proofs.plan_mark.Statement.{statement}
 use Rattle.append.proofs.plan_mark.Tie as tie
 
@@ -22,13 +24,13 @@ slice-aggregate-words : tie.Need-slice-aggregate-words
 slice-aggregate-words c =
     let e = c .before in
     let k = checked _ _ _ _ _ _ _ (sym (e .before .drain-refusal .ensures) ∙ e .if1 .left) in
-    sym (record-words _ (now (e .before .before .before .before .before .before .args .state)) _ _ _ _ k)
+    sym (words-long (now (e .before .before .before .before .before .before .args .state)) (k .in-pairs))
 
 lock-requires : tie.Need-lock-requires
 lock-requires c κs =
     let e = c .before in
     let k = checked _ _ _ _ _ _ _ (sym (e .before .drain-refusal .ensures) ∙ e .if1 .left) in
-    record-words _ (now (e .before .before .before .before .before .before .args .state)) _ _ _ _ k
+    words-long (now (e .before .before .before .before .before .before .args .state)) (k .in-pairs)
 
 is-held-requires : tie.Need-is-held-requires
 is-held-requires c κs = search needs
@@ -46,15 +48,15 @@ latest-near-requires : tie.Need-latest-near-requires
 latest-near-requires c κs =
     let e = c .before .before .before .before in
     let k = checked _ _ _ _ _ _ _ (sym (e .before .drain-refusal .ensures) ∙ e .if1 .left) in
-    (k .image, (k .lane-below, record-words _ (now (e .before .before .before .before .before .before .args .state)) _ _ _ _ k))
+    (k .image, (k .lane-below, words-long (now (e .before .before .before .before .before .before .args .state)) (k .in-pairs)))
 
 append-refusal-requires : tie.Need-append-refusal-requires
 append-refusal-requires c κs =
     let e = c .before .before .before .before .before in
     let s = e .before .before .before .before .before .before in
     let k = checked _ _ _ _ _ _ _ (sym (e .before .drain-refusal .ensures) ∙ e .if1 .left) in (
-      record-words _ (now (s .args .state)) _ _ _ _ k,
-      searchable _ _ _ _ _ _ _ k (lanes-all _) _ _ (c .latest-near .ensures) (omega arith) (omega (arith, sizes-in _ (k .image .sizes-ok) .slots-low)),
+      words-long (now (s .args .state)) (k .in-pairs),
+      searchable _ _ _ _ _ _ _ k (lanes-read _) _ _ (c .latest-near .ensures) (omega arith) (omega (arith, sizes-in _ (k .image .sizes-ok) .slots-low)),
     )
 
 returns-3 : tie.Need-returns-3

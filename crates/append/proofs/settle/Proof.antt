@@ -6,7 +6,9 @@ use denote.Ref.{now}
 use Rattle.store.specs.Machine.{said}
 use Rattle.store.specs.Interface.{keeps}
 use Rattle.store.specs.inner.StoreLaws.{checked, lane-small}
-use Rattle.append.specs.inner.LogMarkLaws.{unrefused, log-room, log-refuses, log-searchable, settle-count, record-words, words-inside, lanes-all}
+use Rattle.codec.specs.inner.ReadLaws.{lanes-read}
+use Rattle.store.specs.inner.KeepsLaws.{words-long, words-there}
+use Rattle.append.specs.inner.LogMarkLaws.{unrefused, log-room, log-refuses, log-searchable, settle-count}
 use Rattle.append.specs.inner.LogMarkLaws.{settle-after, log-settles}
 use Rattle.append.proofs.settle.Statement.{statement}
 use Rattle.append.proofs.settle.Tie as tie
@@ -14,18 +16,18 @@ use Rattle.append.proofs.settle.Tie as tie
 slice-reshare-prefix-plan-log : tie.Need-slice-reshare-prefix-plan-log
 slice-reshare-prefix-plan-log c =
     let s = c .before .before .before .before in
-    words-inside _ (now (s .args .state)) _ _ _ _ (checked _ _ _ _ _ _ _ (unrefused _ _ _ _ (s .pre) .at-lane))
+    words-there (now (s .args .state)) (checked _ _ _ _ _ _ _ (unrefused _ _ _ _ (s .pre) .at-lane) .in-pairs)
 
 slice-aggregate-plan-log : tie.Need-slice-aggregate-plan-log
 slice-aggregate-plan-log c =
     let s = c .before .before .before .before .before in
-    sym (record-words _ (now (s .args .state)) _ _ _ _ (checked _ _ _ _ _ _ _ (unrefused _ _ _ _ (s .pre) .at-lane)))
+    sym (words-long (now (s .args .state)) (checked _ _ _ _ _ _ _ (unrefused _ _ _ _ (s .pre) .at-lane) .in-pairs))
 
 plan-log-requires : tie.Need-plan-log-requires
 plan-log-requires c κs =
     let s = c .before .before .before .before .before .before in (
-      record-words _ (now (s .args .state)) _ _ _ _ (checked _ _ _ _ _ _ _ (unrefused _ _ _ _ (s .pre) .at-lane)),
-      log-searchable _ _ _ _ _ _ _ _ _ (lanes-all _) (s .pre) (settle-count _ _),
+      words-long (now (s .args .state)) (checked _ _ _ _ _ _ _ (unrefused _ _ _ _ (s .pre) .at-lane) .in-pairs),
+      log-searchable _ _ _ _ _ _ _ _ _ (lanes-read _) (s .pre) (settle-count _ _),
     )
 
 same-length : tie.Need-same-length
@@ -51,13 +53,13 @@ slice-relend-prefix-words : tie.Need-slice-relend-prefix-words
 slice-relend-prefix-words c =
     let e = c .before .before .before .before .before .before in
     let s = e .before .before .before .before .before .before .before .before .before .before in
-    words-inside _ (now (s .args .state)) _ _ _ _ (checked _ _ _ _ _ _ _ (unrefused _ _ _ _ (s .pre) .at-lane))
+    words-there (now (s .args .state)) (checked _ _ _ _ _ _ _ (unrefused _ _ _ _ (s .pre) .at-lane) .in-pairs)
 
 slice-aggregate-words : tie.Need-slice-aggregate-words
 slice-aggregate-words c =
     let e = c .before .before .before .before .before .before .before in
     let s = e .before .before .before .before .before .before .before .before .before .before in
-    sym (record-words _ (now (s .args .state)) _ _ _ _ (checked _ _ _ _ _ _ _ (unrefused _ _ _ _ (s .pre) .at-lane)))
+    sym (words-long (now (s .args .state)) (checked _ _ _ _ _ _ _ (unrefused _ _ _ _ (s .pre) .at-lane) .in-pairs))
 
 put-mark-requires : tie.Need-put-mark-requires
 put-mark-requires c κs =
@@ -67,8 +69,8 @@ put-mark-requires c κs =
     let s = p .before .before .before .before .before .before .before in
     let u = unrefused _ _ _ _ (s .pre) in
     let n = p .plan-log .ensures .number ∙ log-room _ _ _ _ u _ (settle-count _ _) _ refl in (
-      record-words _ (now (s .args .state)) _ _ _ _ (checked _ _ _ _ _ _ _ (u .at-lane)),
-      settle-after _ _ _ _ _ _ _ _ (p .plan-log .ensures .latest (e .if1 .left)) (sym n ∙ e .if1 .left) (lanes-all _) _ (d .drain .ensures .1),
+      words-long (now (s .args .state)) (checked _ _ _ _ _ _ _ (u .at-lane) .in-pairs),
+      settle-after _ _ _ _ _ _ _ _ (p .plan-log .ensures .latest (e .if1 .left)) (sym n ∙ e .if1 .left) (lanes-read _) _ (d .drain .ensures .1),
     )
 
 same-length-3 : tie.Need-same-length-3

@@ -7,7 +7,7 @@ use mathlib.Core.List.{List, [], _∷_, _++_}
 use native.Mathlib.Omega.{arith}
 use native.Mathlib.Decide.{ℕ-discrete}
 use lib.Dec.{eqb}
-use lib.ListN.{length, take, drop, length-map, length-take, length-drop}
+use lib.ListN.{length, take, length-map}
 use lib.Seq.{getD-set-same, length-take-le}
 use borrow.Author.Tests.{eq-eqb, ne-eqb, eqb-true, eqb-false, le-leb, not-false}
 use Rattle.laws.specs.inner.Tests.{split}
@@ -38,8 +38,9 @@ use Rattle.record.specs.declared.Pair.{Pair}
 use Rattle.record.specs.declared.Phase.{Phase}
 use Rattle.record.specs.declared.Phase.the-variants.{Idle, Holds}
 use Rattle.record.specs.declared.Record.{Record}
-use Rattle.codec.specs.Fields.{laneLength, recordLength, rowOf, laneOf, recordOf, wordsOf, recordIn, pairsIn}
+use Rattle.codec.specs.Fields.{recordOf, wordsOf}
 use Rattle.codec.specs.inner.InPlace.{headed, redone}
+use Rattle.codec.specs.inner.ReadLaws.{lanes-read}
 use Rattle.store.specs.declared.Answer.{Answer}
 use Rattle.store.specs.declared.Answer.the-variants.{Refused, NoWrites, Logged, Settled, Marked}
 use Rattle.store.specs.Machine.{Machine, Step, Cause, firstCause, unless, said}
@@ -314,27 +315,8 @@ pub planned-refused : (p : Plan) (refusal : ℕ) (q : Latest) → p .number ≡ 
 planned-refused p refusal q e h = record { number = e; latest = λ d. absurd (h d) }
 
 -- ---- what a call knows that is not refused 1, 2 or 3: its lane is in range
--- the words before the pairs are as many as a record has
-pub record-words : (z : Sizes) (state cache nvm flags : List ℕ) (L : ℕ) → Checked z (recordIn state) (pairsIn state) cache nvm flags L
-    → length (take recordLength state) ≡ recordLength
-record-words z state cache nvm flags L k = omega (arith, k .in-pairs, length-drop recordLength state, length-take recordLength state)
-
-pub words-inside : (z : Sizes) (state cache nvm flags : List ℕ) (L : ℕ) → Checked z (recordIn state) (pairsIn state) cache nvm flags L
-    → recordLength ≤ length state
-words-inside z state cache nvm flags L k = omega (arith, k .in-pairs, length-drop recordLength state)
-
--- a record read from words has all its lanes
-row-length : {A : Type 0} (size : ℕ) (of : List ℕ → A) (n : ℕ) (ws : List ℕ) → length (rowOf size of n ws) ≡ n
-unfolding rowOf
-row-length size of zero ws = refl
-row-length size of (suc n) ws = ap suc (row-length size of n (drop size ws))
-
-pub lanes-all : (ws : List ℕ) → length (recordOf ws .lanes) ≡ maxLanes
-unfolding recordOf
-lanes-all ws = row-length laneLength laneOf maxLanes (drop 2 ws)
-
 pub lane-inside : (z : Sizes) (L : ℕ) (ws : List ℕ) → sizesOk z ≡ true → L < z .lanes → L < length (recordOf ws .lanes)
-lane-inside z L ws ok h = omega (arith, lane-small z L ok h, lanes-all ws)
+lane-inside z L ws ok h = omega (arith, lane-small z L ok h, lanes-read ws)
 
 module _ (z : Sizes) (state : Record) (pairs cache nvm flags : List ℕ) (L : ℕ) (k : Checked z state pairs cache nvm flags L)
     (eight : length (state .lanes) ≡ maxLanes) where

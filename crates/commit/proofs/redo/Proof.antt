@@ -5,7 +5,9 @@ use lib.ListN.{length, take}
 use Rattle.codec.specs.Fields.{recordLength, recordIn, pairsIn}
 use Rattle.store.specs.inner.StoreLaws.{lane-small}
 use Rattle.store.specs.Interface.{keeps}
-use Rattle.commit.specs.inner.CommitLaws.{Accepted, redo-accepted, committable, lanes-read, words-there, words-long, redo-refuses, redo-taken}
+use Rattle.codec.specs.inner.ReadLaws.{lanes-read}
+use Rattle.store.specs.inner.KeepsLaws.{words-there, words-long}
+use Rattle.commit.specs.inner.CommitLaws.{Accepted, redo-accepted, committable, redo-refuses, redo-taken}
 use borrow.Author.Needs.{needs}
 use Rattle.commit.proofs.redo.Statement.{statement}
 use Rattle.commit.proofs.redo.Tie as tie
@@ -97,5 +99,6 @@ pub redo-spec : {M : Type 1} → statement M
 redo-spec =
     tie.close
     (tie.spec redo-refusal-requires same-length same-length-2 same-length-3 same-length-4 returns slice-reshare-prefix-latest-near
-    slice-aggregate-latest-near latest-near-requires drain-requires slice-relend-prefix-redo-drained slice-aggregate-redo-drained redo-drained-requires same-length-5
+    slice-aggregate-latest-near latest-near-requires drain-requires slice-relend-prefix-redo-drained slice-aggregate-redo-drained
+    redo-drained-requires same-length-5
     same-length-6 same-length-7 same-length-8 returns-2)

@@ -5,7 +5,8 @@ use lib.ListN.{length, take}
 use Rattle.codec.specs.Fields.{recordLength, recordIn, pairsIn}
 use Rattle.store.specs.inner.Checked.{Checked}
 use Rattle.store.specs.inner.StoreLaws.{checked, lane-small}
-use Rattle.commit.specs.inner.CommitLaws.{redo-refused, redo-causes, words-long}
+use Rattle.store.specs.inner.KeepsLaws.{words-long}
+use Rattle.commit.specs.inner.CommitLaws.{redo-refused, redo-causes}
 use borrow.Author.Needs.{needs}
 use Rattle.commit.proofs.redo_refusal.Statement.{statement}
 use Rattle.commit.proofs.redo_refusal.Tie as tie

@@ -8,7 +8,9 @@ use Rattle.codec.specs.Fields.{recordLength, recordIn, pairsIn}
 use Rattle.store.specs.inner.StoreLaws.{lane-small}
 use Rattle.store.specs.inner.CachedWritesLaws.{full-list, writes-few, writes-run, writes-low}
 use Rattle.store.specs.Interface.{keeps}
-use Rattle.commit.specs.inner.CommitLaws.{Accepted, validate-accepted, committable, lanes-read, words-there, words-long, validate-refuses, validate-taken}
+use Rattle.codec.specs.inner.ReadLaws.{lanes-read}
+use Rattle.store.specs.inner.KeepsLaws.{words-there, words-long}
+use Rattle.commit.specs.inner.CommitLaws.{Accepted, validate-accepted, committable, validate-refuses, validate-taken}
 use borrow.Author.Needs.{needs}
 use Rattle.commit.proofs.validate.Statement.{statement}
 use Rattle.commit.proofs.validate.Tie as tie
@@ -72,7 +74,8 @@ slice-relend-prefix-validate-drained c =
     words-there (now (start e .args .state)) (accepted e .0 .known .in-pairs)
 
 slice-aggregate-validate-drained : tie.Need-slice-aggregate-validate-drained
-slice-aggregate-validate-drained c = sym (long (c .before .before .before .before .before .before .before .before .before .before .before .before .before .before))
+slice-aggregate-validate-drained c =
+    sym (long (c .before .before .before .before .before .before .before .before .before .before .before .before .before .before))
 
 validate-drained-requires : tie.Need-validate-drained-requires
 validate-drained-requires c κs =
@@ -119,5 +122,6 @@ pub validate-spec : {M : Type 1} → statement M
 validate-spec =
     tie.close
     (tie.spec validate-refusal-requires same-length same-length-2 same-length-3 same-length-4 returns writes-on-requires
-    slice-reshare-prefix-latest-near slice-aggregate-latest-near latest-near-requires drain-requires slice-relend-prefix-validate-drained slice-aggregate-validate-drained
+    slice-reshare-prefix-latest-near slice-aggregate-latest-near latest-near-requires drain-requires slice-relend-prefix-validate-drained
+    slice-aggregate-validate-drained
     validate-drained-requires same-length-5 same-length-6 same-length-7 same-length-8 returns-2)

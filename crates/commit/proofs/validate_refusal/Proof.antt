@@ -6,7 +6,8 @@ use Rattle.codec.specs.Fields.{recordLength, recordIn, pairsIn}
 use Rattle.store.specs.inner.Checked.{Checked}
 use Rattle.store.specs.inner.StoreLaws.{checked, lane-small}
 use borrow.Author.Tests.{not-true, not-false}
-use Rattle.commit.specs.inner.CommitLaws.{validate-refused, validate-bad, validate-causes, words-long}
+use Rattle.store.specs.inner.KeepsLaws.{words-long}
+use Rattle.commit.specs.inner.CommitLaws.{validate-refused, validate-bad, validate-causes}
 use borrow.Author.Needs.{needs}
 use Rattle.commit.proofs.validate_refusal.Statement.{statement}
 use Rattle.commit.proofs.validate_refusal.Tie as tie

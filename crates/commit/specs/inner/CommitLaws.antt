@@ -7,7 +7,7 @@ use mathlib.Core.List.{List, [], _∷_, _++_}
 use native.Mathlib.Omega.{arith}
 use native.Mathlib.Numerals.{add-one}
 use lib.Dec.{eqb, ltb}
-use lib.ListN.{length, getD, set, take, drop, length-set, length-drop}
+use lib.ListN.{length, getD, set, take, drop, length-set}
 use lib.Seq.{take-suc, drop-cons, drop-length, length-take-le, getD-take, getD-set-other}
 use borrow.Author.Tests.{eq-eqb, ne-eqb, lt-ltb, le-ltb, ltb-true, not-false}
 use Rattle.laws.specs.inner.Tests.{and-left, and-right}
@@ -30,7 +30,7 @@ use Rattle.log.specs.inner.SearchLaws.{circular-low}
 use Rattle.log.specs.declared.Cursor.{Cursor}
 use Rattle.log.specs.declared.Latest.{Latest}
 use Rattle.log.specs.declared.Timestamp.{Timestamp}
-use Rattle.record.specs.Record.{lockLength, noPair, laneAt, cursorOf, isLogged, loggedIn, isHeld, pairsOk, spent, floorAfterDrain, drainedLane, idleLane}
+use Rattle.record.specs.Record.{noPair, laneAt, cursorOf, isLogged, loggedIn, isHeld, pairsOk, spent, floorAfterDrain, drainedLane, idleLane}
 use Rattle.record.specs.Record.{withLane, withClock, withLast, pairsOf}
 use Rattle.record.specs.inner.RecordLaws.{record-in, lane-in, phase-in, clock-room, pair-below, pairs-cut, lane-twice}
 use Rattle.record.specs.declared.Lock.{Lock}
@@ -39,8 +39,9 @@ use Rattle.record.specs.declared.Pair.{Pair}
 use Rattle.record.specs.declared.Phase.{Phase}
 use Rattle.record.specs.declared.Phase.the-variants.{Idle}
 use Rattle.record.specs.declared.Record.{Record}
-use Rattle.codec.specs.Fields.{recordLength, rowOf, recordOf, wordsOf, pairsIn}
+use Rattle.codec.specs.Fields.{recordOf, wordsOf}
 use Rattle.codec.specs.inner.InPlace.{headed}
+use Rattle.codec.specs.inner.ReadLaws.{lanes-read}
 use Rattle.store.specs.declared.Answer.the-variants.{Refused, Committed, Stale, Changed}
 use Rattle.store.specs.Machine.{Machine, firstCause, said}
 use Rattle.store.specs.Calls.{badTxn, notLogged, lockHeld, clockSpent, drainRefusal, drained, changed, writesOn, pairStores, commitStores, committed}
@@ -161,20 +162,7 @@ committable z state pairs cache nvm flags L f a n e =
       logged = h;
     }
 
--- ---- the record's words
--- they are among those lent
-module _ (state : List ℕ) (e : length (pairsIn state) ≡ lockLength) where
-  pub words-there : recordLength ≤ length state
-  words-there = omega (arith, length-drop recordLength state, e)
-
-  pub words-long : length (take recordLength state) ≡ recordLength
-  words-long = length-take-le recordLength state words-there
-
--- a record read from words has all lanes
-pub lanes-read : (ws : List ℕ) → length (recordOf ws .lanes) ≡ maxLanes
-unfolding recordOf rowOf
-lanes-read ws = refl
-
+-- ---- a record read from words has all lanes
 pub lane-read : (ws : List ℕ) (L : ℕ) → L < maxLanes → L < length (recordOf ws .lanes)
 lane-read ws L h = rw (lanes-read ws) h
 

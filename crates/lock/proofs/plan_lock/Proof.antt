@@ -8,7 +8,7 @@ use Rattle.codec.specs.Fields.{recordLength}
 use Rattle.store.specs.Interface.{machineIn}
 use Rattle.store.specs.inner.StoreLaws.{checked}
 use Rattle.store.specs.inner.KeepsLaws.{pairs-long, record-long}
-use Rattle.append.specs.inner.LogMarkLaws.{lanes-all}
+use Rattle.codec.specs.inner.ReadLaws.{lanes-read}
 use Rattle.lock.specs.inner.LockLaws.{lock-refused, Unrefused, unrefused, long-on, lock-nothing, lock-room, lock-searchable, planned-refused}
 use Rattle.lock.proofs.plan_lock.Statement.{statement}
 use Rattle.lock.proofs.plan_lock.Tie as tie
@@ -68,7 +68,7 @@ append-refusal-requires c κs =
     let e = d .before .before .before in
     let s = now (start e .args .state) in (
       record-long s (pairs-long s (checked _ _ _ _ _ _ _ (passed e .at-lane) .in-pairs)),
-      lock-searchable _ _ _ _ _ _ _ _ (passed e) (lanes-all (take recordLength s)) _ _ (d .latest-near .ensures) (c .slots-counted .ensures),
+      lock-searchable _ _ _ _ _ _ _ _ (passed e) (lanes-read (take recordLength s)) _ _ (d .latest-near .ensures) (c .slots-counted .ensures),
     )
 
 returns-3 : tie.Need-returns-3

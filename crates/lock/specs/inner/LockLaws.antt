@@ -43,6 +43,7 @@ use Rattle.record.specs.declared.Record.{Record}
 use Rattle.codec.specs.Fields.{recordLength, stateLength, recordIn, pairsIn, wordsOf}
 use Rattle.codec.specs.inner.FieldsLaws.{tail-is}
 use Rattle.codec.specs.inner.InPlace.{headed}
+use Rattle.codec.specs.inner.ReadLaws.{lanes-read}
 use Rattle.store.specs.declared.Answer.the-variants as answer
 use Rattle.store.specs.Machine.{Machine, Step, Cause, firstCause, said}
 use Rattle.store.specs.Calls.{badBuffers, badRecord, badLane, badTxn, alreadyLogged, lockHeld, clockSpent, drainRefusal, drained, changed, wouldLag, wouldHit}
@@ -57,7 +58,7 @@ use Rattle.store.specs.inner.KeepsLaws.{keeps-taken, pairs-long, record-long}
 use Rattle.store.specs.inner.CachedWritesLaws.{data-part, count-of, full-list, writes-of}
 use Rattle.append.specs.inner.Plans.{roomRefusal, Searchable, Appendable}
 use Rattle.commit.specs.inner.Commit.{PairsInside}
-use Rattle.append.specs.inner.LogMarkLaws.{room-bound, first-more, some, lanes-all, lane-held, searchable, refuses}
+use Rattle.append.specs.inner.LogMarkLaws.{room-bound, first-more, some, lane-held, searchable, refuses}
 use Rattle.lock.specs.declared.Plan.{Plan}
 use Rattle.lock.specs.inner.Parts.{tooMany, lockChecks, Planned, takenState, PairsHeld, loggedHeld, loggedState, PartAt, loggedStep, writtenStep}
 use Rattle.lock.specs.inner.PartsLaws.{pairs-padded, length-pairs, length-writes, writes-low, part-inside, part-ok, part-words}
@@ -350,7 +351,7 @@ pub part-at : (z : Sizes) (state cache nvm flags : List ℕ) (L : ℕ) (q : Late
 unfolding cursorOf
 part-at z state cache nvm flags L q flags′ k a f e g =
     let c = a .known in
-    let l = lane-held z (recordIn state) (pairsIn state) cache nvm flags L c (lanes-all (take recordLength state)) in
+    let l = lane-held z (recordIn state) (pairsIn state) cache nvm flags L c (lanes-read (take recordLength state)) in
     let o : k .lane ≡ L = ap (λ (x : Locked). x .lane) g ∙ a .own in
     record {
       image = c .image;
@@ -429,7 +430,7 @@ module _ (z : Sizes) (state : List ℕ) (q : Latest) (cache flags : List ℕ) (k
   part-small = lane-small z (k .lane) (p .image .sizes-ok) (p .held .lane)
 
   pub part-lanes : k .lane < length (recordIn state .lanes)
-  part-lanes = omega (arith, part-small, lanes-all (take recordLength state))
+  part-lanes = omega (arith, part-small, lanes-read (take recordLength state))
 
   -- the part's pairs may be read
   pub part-readable : (ps : List ℕ) → ps ≡ pairsIn state → (IsImage z cache) × ((length ps ≡ lockLength) × PairsHeld (z .words) ps k)

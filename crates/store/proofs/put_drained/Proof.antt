@@ -37,7 +37,9 @@ returns c =
     let k = f .before .before in
     let p = k .before .before in
     n .normalise .ensures
-    ∙ ap wordsOf (h .set-head .ensures ∙ drained-head _ _ _ _ _ _ _ (p .phase .ensures) (k .cursor .ensures) (f .floor .ensures) (a .floor-after-drain .ensures))
+    ∙ ap wordsOf
+    (h .set-head .ensures
+    ∙ drained-head _ _ _ _ _ _ _ (p .phase .ensures) (k .cursor .ensures) (f .floor .ensures) (a .floor-after-drain .ensures))
 
 pub put-drained-spec : {M : Type 1} → statement M
 put-drained-spec =

@@ -1,12 +1,12 @@
 -- Inner: how the code goes, need not be believed. Laws of calls on record and pairs in words: what a taken and a refused step leave there, and how long
 -- the words are. Assumes nothing.
-use Prim.Native.Nat.{ℕ, _+_, _-_}
-use mathlib.Core.Path.{_≡_, refl, sym, _∙_, ap}
+use Prim.Native.Nat.{ℕ, _≤_}
+use mathlib.Core.Path.{_≡_, _∙_, ap}
 use mathlib.Core.Bool.{true, false}
 use mathlib.Core.List.{List, _++_}
 use native.Mathlib.Omega.{arith}
 use lib.Dec.{eqb}
-use lib.ListN.{length, take, drop, length-take, length-drop}
+use lib.ListN.{length, take, length-take, length-drop}
 use borrow.Author.Tests.{eq-eqb, ne-eqb}
 use Rattle.image.specs.declared.Sizes.{Sizes}
 use Rattle.log.specs.Log.{latestIn}
@@ -55,6 +55,13 @@ state-short state h = ne-eqb (length (pairsIn state)) lockLength (λ e. h (pairs
 
 pub record-long : (state : List ℕ) → length state ≡ stateLength → length (take recordLength state) ≡ recordLength
 record-long state e = omega (arith, e, length-take recordLength state)
+
+-- by the length of the pairs, which a call knows that is not refused 1
+pub words-there : (state : List ℕ) → length (pairsIn state) ≡ lockLength → recordLength ≤ length state
+words-there state e = omega (arith, e, length-drop recordLength state)
+
+pub words-long : (state : List ℕ) → length (pairsIn state) ≡ lockLength → length (take recordLength state) ≡ recordLength
+words-long state e = record-long state (pairs-long state e)
 
 -- ---- the record after a drain, by what is read and stored of the lane's head
 pub drained-head : (r : Record) (L : ℕ) (latest : Latest) (phase : Phase) (cursor : Cursor) (old floor : Timestamp) → phase ≡ laneAt r L .phase
