@@ -149,8 +149,8 @@ fn refusal(
             txn_refusal(arena, state, cache, nvm, flags, words)
         }
         second::WRITE_BACK => store::write_back_refusal(sizes, cache, nvm, flags, number(arena)),
-        second::RECOVER => recovery::recover_refusal(sizes, lag(arena), cache, nvm, flags),
-        second::RECOVER_READ => recovery::recover_read_refusal(lag(arena), cache, nvm, flags),
+        second::RECOVER => restart::recover_refusal(sizes, lag(arena), cache, nvm, flags),
+        second::RECOVER_READ => restart::recover_read_refusal(lag(arena), cache, nvm, flags),
         second::FORMAT => store::format_refusal(sizes, lag(arena), words, cache, nvm, flags),
         _ => lane_refusal(arena, state, cache, nvm, flags),
     }
@@ -227,13 +227,13 @@ fn format(arena: &mut Arena, cache: &mut [u64], nvm: &mut [u64], flags: &mut [u8
 
 fn recover(arena: &mut Arena, cache: &mut [u64], nvm: &mut [u64], flags: &mut [u8]) {
     let sizes = convert::sizes(arena);
-    let restart = recovery::recover(sizes, lag(arena), cache, nvm, flags, number(arena));
+    let restart = restart::recover(sizes, lag(arena), cache, nvm, flags, number(arena));
     put_restart(arena, restart);
 }
 
 // It is given no sizes.
 fn recover_read(arena: &mut Arena, cache: &mut [u64], nvm: &mut [u64], flags: &mut [u8]) {
-    let restart = recovery::recover_read(lag(arena), cache, nvm, flags, number(arena));
+    let restart = restart::recover_read(lag(arena), cache, nvm, flags, number(arena));
     put_restart(arena, restart);
 }
 

@@ -4,7 +4,6 @@ use crate::regions::SAVED;
 use crate::regions::STORED;
 use crate::regions::TALLY;
 use second::fields;
-use second::restart;
 use second::words::Arena;
 use second::words::LAG;
 use second::words::NVM_LENGTH;
@@ -70,7 +69,7 @@ pub fn expect(arena: &mut Arena, holds: bool) {
 }
 
 pub fn set_sizes(arena: &mut Arena, words: u64, lanes: u64, slots: u64) {
-    restart::set_sizes(arena, words, lanes, slots);
+    second::restart::set_sizes(arena, words, lanes, slots);
 }
 
 pub fn set_lengths(arena: &mut Arena, cache: u64, nvm: u64, flags: u64) {
@@ -84,13 +83,13 @@ pub fn set_lag(arena: &mut Arena, lag: u64) {
 
 // Buffers as long as an image with its trailer.
 pub fn fit(arena: &mut Arena) {
-    let all = restart::length(arena);
+    let all = second::restart::length(arena);
     set_lengths(arena, all, all, all);
 }
 
 // The same without a trailer.
 pub fn fit_former(arena: &mut Arena) {
-    let all = restart::former(arena);
+    let all = second::restart::former(arena);
     set_lengths(arena, all, all, all);
 }
 
@@ -105,7 +104,7 @@ pub fn length(arena: &Arena) -> u64
 pub fn recovery(arena: &Arena) -> u64
     ensures { λ r. ⌜ r ≡ recoveryIn (now (arena .entry)) ⌝ }
 {
-    if length(arena) == restart::former(arena) {
+    if length(arena) == second::restart::former(arena) {
         return second::RECOVER;
     }
     second::RECOVER_READ

@@ -48,7 +48,7 @@ fn list_given(
 {
     let sizes = reading::sizes_in(input);
     reading::decode(input, 3, nvm);
-    if recovery::recover_refusal(sizes, record::MAX_LAG, cache, nvm, flags) != 0 {
+    if restart::recover_refusal(sizes, record::MAX_LAG, cache, nvm, flags) != 0 {
         return 0;
     }
     list_image(sizes, nvm, output)
@@ -64,7 +64,7 @@ fn list_told(input: &[u8], cache: &[u64], nvm: &mut [u64], flags: &[u8], output:
         (now (output .exit)) ⌝ }
 {
     reading::decode(input, 0, nvm);
-    if recovery::recover_read_refusal(record::MAX_LAG, cache, nvm, flags) != 0 {
+    if restart::recover_read_refusal(record::MAX_LAG, cache, nvm, flags) != 0 {
         return 0;
     }
     list_image(image::sizes_at_end(nvm), nvm, output)

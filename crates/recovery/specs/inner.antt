@@ -16,7 +16,6 @@ pub mod TurnLaws
 pub mod UndoLaws
 pub mod UndoWords
 pub mod ListLaws
-pub mod RecoveryLaws
 pub mod OrderLaws
 pub mod UndoOrderLaws
 pub mod UndoneLaws

@@ -175,7 +175,7 @@ fn recover(
 )
     requires { ⌜ length (now state) ≡ stateLength ⌝ }
 {
-    let restart = recovery::recover(sizes, lag, cache, nvm, flags, limit);
+    let restart = restart::recover(sizes, lag, cache, nvm, flags, limit);
     restarted(restart, state);
 }
 
@@ -190,7 +190,7 @@ fn recover_read(
 )
     requires { ⌜ length (now state) ≡ stateLength ⌝ }
 {
-    let restart = recovery::recover_read(lag, cache, nvm, flags, limit);
+    let restart = restart::recover_read(lag, cache, nvm, flags, limit);
     restarted(restart, state);
 }
 

@@ -81,7 +81,7 @@ fn recover_given(
 {
     let sizes = reading::sizes_in(input);
     reading::decode(input, 3, nvm);
-    let restart = recovery::recover(sizes, record::MAX_LAG, cache, nvm, flags, NO_LIMIT);
+    let restart = restart::recover(sizes, record::MAX_LAG, cache, nvm, flags, NO_LIMIT);
     let answer = restart.answer;
     put_answer(output, sizes, nvm, answer)
 }
@@ -105,7 +105,7 @@ fn recover_told(
         return printing::put_refused(output, 14);
     }
     let sizes = image::sizes_at_end(nvm);
-    let restart = recovery::recover_read(record::MAX_LAG, cache, nvm, flags, NO_LIMIT);
+    let restart = restart::recover_read(record::MAX_LAG, cache, nvm, flags, NO_LIMIT);
     let answer = restart.answer;
     put_answer(output, sizes, nvm, answer)
 }

@@ -381,7 +381,7 @@ pub extern "C" fn vandzulge_recover(
         lanes,
         slots,
     };
-    let result = recovery::recover(sizes, lag, cache, nvm, flags, limit);
+    let result = restart::recover(sizes, lag, cache, nvm, flags, limit);
     let given = result.answer;
     answers::reply_restart(given, answer);
     answers::restart(result, state)
@@ -413,7 +413,7 @@ pub extern "C" fn vandzulge_recover_read(
     if answer.len() != ANSWER_WORDS {
         return 1;
     }
-    let result = recovery::recover_read(lag, cache, nvm, flags, limit);
+    let result = restart::recover_read(lag, cache, nvm, flags, limit);
     let given = result.answer;
     answers::reply_restart(given, answer);
     answers::restart(result, state)

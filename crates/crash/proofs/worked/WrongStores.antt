@@ -11,7 +11,7 @@ use Rattle.image.specs.Image.{formerLength, allAre, formatOk, sizesAtEnd, trail
 use Rattle.image.specs.Flush.{flushAll}
 use Rattle.image.specs.Stores.{Store, stored}
 use Rattle.image.specs.declared.Sizes.{Sizes}
-use Rattle.log.specs.Log.{Old, Complete, completeIn, ordered, latestIn, given, contribution}
+use Rattle.log.specs.Log.{Old, Complete, completeIn, ordered, latestIn, given, contribution, hits}
 use Rattle.log.specs.Append.{circular}
 use Rattle.log.specs.declared.Latest.{Latest}
 use Rattle.log.specs.declared.Latest.the-variants.{Nothing, Is}
@@ -26,7 +26,7 @@ use Rattle.record.specs.declared.Lock.the-variants.{Free, Held}
 use Rattle.store.specs.Machine.{Machine, Step, firstCause, unless, said}
 use Rattle.store.specs.Calls.{badLag, startImage, started, drained, wouldLag, wouldHit, writesOn, appended, marked, logged}
 use Rattle.store.specs.Calls.{formatStep, writeBackStep, drainStep, logTxnStepBy, settleRefusal, settleStep, logRefusalBy}
-use Rattle.store.specs.Calls.{logStepBy, redoStep, validateStepBy, markStep}
+use Rattle.store.specs.Calls.{logStepBy, redoStep, validateStepBy, markRefusal, markStep}
 use Rattle.store.specs.Locks.{lockRefusal, locked, lockStep, proceedRefusal, nextStep, proceedStep}
 use Rattle.record.specs.declared.Phase.the-variants.{Idle}
 use Rattle.store.specs.declared.Answer.the-variants.{Refused, NoWrites, Logged, Settled, Stale, Locked as LockedAnswer}
@@ -1267,3 +1267,39 @@ countsLogged =
 counts-logged : CrashTheorem countsLogged → ⊥
 unfolding long countsLogged
 counts-logged = wrong-answer countsLogged small maxLag (0 ∷ 0 ∷ []) (call (lock 0 (set0 2)) ∷ []) (proceed 0) (0 ∷ 2 ∷ 0 ∷ []) (0 ∷ 2 ∷ 1 ∷ []) refl
+
+-- ---- refusal 9 by the floors before the lane's drain
+-- would n slots of lane L, from its next one on, hit by the floors that are recorded
+unfoldable hitsRecorded : Sizes → (L n : ℕ) → Machine → Bool
+hitsRecorded z L n m = hits z.slots (laneAt (m .state) L .next) n (boundOf z (m .state)) (completeIn z (m .cache) L)
+
+-- 74. Of Log. Lane 0 commits at 4, in slots 0 to 16, and is marked in slot 17, so that its floor is 4 until its next drain ends it: seventeen slots more
+-- then reach slot 0
+unfoldable logsRecorded : Design
+logsRecorded =
+    calling
+    (logging
+    (λ r z L f m.
+    cond (eqb (logRefusalBy r z L f m) 0 && (isWriting z f m && hitsRecorded z L (length (writesOn z f m) + 1) m))
+    (record { answer = Refused 9; machine = m }) (logStepBy r z L f m))
+    callStep)
+
+logs-recorded : CrashTheorem logsRecorded → ⊥
+unfolding made logsRecorded hitsRecorded isWriting additions
+logs-recorded =
+    wrong-answer logsRecorded small maxLag (0 ∷ 0 ∷ []) (call (log 0 (additions 16)) ∷ call (redo 0) ∷ call (mark 0) ∷ [])
+    (log 0 (additions 16)) (9 ∷ []) (0 ∷ 8 ∷ []) refl
+
+-- 75. Of Mark. Lane 0 commits at 4, in slots 0 to 16, and logs at 6, in slots 17 to 33, so that its floor is 4 until the Mark, in slot 0, drains it
+unfoldable marksRecorded : Design
+marksRecorded =
+    calling
+    (marking
+    (λ z L m. cond (eqb (markRefusal z L m) 0 && hitsRecorded z L 1 m) (record { answer = Refused 9; machine = m }) (markStep z L m))
+    callStep)
+
+marks-recorded : CrashTheorem marksRecorded → ⊥
+unfolding made marksRecorded hitsRecorded additions
+marks-recorded =
+    wrong-answer marksRecorded small maxLag (0 ∷ 0 ∷ []) (call (log 0 (additions 16)) ∷ call (redo 0) ∷ call (log 0 (additions 16)) ∷ [])
+    (mark 0) (9 ∷ []) (0 ∷ 8 ∷ []) refl
