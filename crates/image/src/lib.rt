@@ -28,7 +28,7 @@ pub const MAX_FORMER: usize = 1 + MAX_WORDS + 2 * MAX_LANES * MAX_SLOTS;
 pub const MAX_IMAGE: usize = MAX_FORMER + 4;
 
 // W data words, T lanes and N log slots a lane.
-#[derive(Drop)]
+#[derive(Clone, Copy)]
 pub struct Sizes {
     pub words: usize,
     pub lanes: usize,

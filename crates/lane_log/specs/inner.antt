@@ -2,7 +2,6 @@
 pub mod LogLaws
 pub mod OrderLaws
 pub mod Search
-pub mod SearchLaws
 pub mod LatestLaws
 pub mod AppendEntries
 pub mod AppendLaws

@@ -14,14 +14,14 @@ pub mod search;
 pub mod tail;
 
 // A timestamp or none: a lane's floor, the lower bound (the least of the floors), the boundary.
-#[derive(Drop)]
+#[derive(Clone, Copy)]
 pub enum Timestamp {
     None,
     At(u64),
 }
 
 // A complete sequence: its timestamp, the count of its entries, and the slot of the timestamp, which follows them.
-#[derive(Drop)]
+#[derive(Clone, Copy)]
 pub struct Sequence {
     pub stamp: u64,
     pub count: usize,
@@ -29,14 +29,14 @@ pub struct Sequence {
 }
 
 // A lane's latest sequence, if there is one.
-#[derive(Drop)]
+#[derive(Clone, Copy)]
 pub enum Latest {
     Nothing,
     Is(Sequence),
 }
 
 // Where a log goes on: the next slot, and the wrap bit that it is written with.
-#[derive(Drop)]
+#[derive(Clone, Copy)]
 pub struct Cursor {
     pub slot: usize,
     pub wrap: u64,

@@ -21,7 +21,7 @@ const GROUP: usize = 4;
 
 // The slot with the greatest timestamp, by the words of the slots that can hold one, which are not read. A value word
 // is a timestamp, which is even, and a wrap bit, so halves of words compare as timestamps do.
-#[derive(Drop)]
+#[derive(Clone, Copy)]
 struct Candidate {
     // the half of its value word, that of the base where none is above it
     half: u64,

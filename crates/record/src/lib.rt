@@ -15,27 +15,27 @@ use lane_log::{Cursor, Latest, Timestamp};
 use txn::{MAX_LONG, MAX_WRITES, Writes};
 
 // A word number and its new value.
-#[derive(Drop)]
+#[derive(Clone, Copy)]
 pub struct Pair {
     pub word: usize,
     pub value: u64,
 }
 
 // A logged transaction: its first slot, the count of its entries, its timestamp.
-#[derive(Drop)]
+#[derive(Clone, Copy)]
 pub struct Logged {
     pub first: usize,
     pub count: usize,
     pub stamp: u64,
 }
 
-#[derive(Drop)]
+#[derive(Clone, Copy)]
 pub enum Phase {
     Idle,
     Holds(Logged),
 }
 
-#[derive(Drop)]
+#[derive(Clone, Copy)]
 pub struct Lane {
     pub phase: Phase,
     // the next slot of the log, and the wrap bit it is written with
@@ -50,7 +50,7 @@ pub struct Lane {
 
 // A long transaction that holds the lock: its lane and timestamp, the count of its writes, how many of them are logged,
 // and how many written.
-#[derive(Drop)]
+#[derive(Clone, Copy)]
 pub struct Locked {
     pub lane: usize,
     pub stamp: u64,
@@ -60,7 +60,7 @@ pub struct Locked {
 }
 
 // The global lock.
-#[derive(Drop)]
+#[derive(Clone, Copy)]
 pub enum Lock {
     Free,
     Held(Locked),
@@ -72,7 +72,7 @@ pub const LOCK_WORDS: usize = 2 * MAX_LONG;
 
 // 2,632 bytes: Format and recovery return it. Calls are lent its words, and read and change fields where they stand
 // there (`codec`).
-#[derive(Drop)]
+#[derive(Clone, Copy)]
 pub struct Record {
     pub clock: u64,
     // the timestamp of the last commit

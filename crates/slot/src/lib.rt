@@ -5,14 +5,14 @@ ghost use Rattle.std.specs.Prelude.{◌≡◌, ◌+◌, ◌≤◌, ◌<◌, ◌^
 ghost use Rattle.slot.specs.Slot.{tag, max_entries, entry_of, stamp_of, read_of};
 
 // The two words as they stand in the log.
-#[derive(Drop)]
+#[derive(Clone, Copy)]
 pub struct Slot {
     pub address: u64,
     pub value: u64,
 }
 
 // What a slot's two words say. A slot that is an Entry or a Stamp is whole.
-#[derive(Drop)]
+#[derive(Clone, Copy)]
 pub enum Content {
     // never written
     Empty,

@@ -19,7 +19,7 @@ const MAX_DISTANCE: u64 = 15;
 const BUCKETS: usize = 64;
 
 // One write of a run: a word's number, its value before the write and after it.
-#[derive(Drop)]
+#[derive(Clone, Copy)]
 pub struct Write {
     pub word: usize,
     pub old: u64,
@@ -27,14 +27,14 @@ pub struct Write {
 }
 
 // A run's writes, in order: the first `count` of the list; the rest is 0.
-#[derive(Drop)]
+#[derive(Clone, Copy)]
 pub struct Writes {
     pub count: usize,
     pub list: [Write; MAX_WRITES],
 }
 
 // The same of a long transaction.
-#[derive(Drop)]
+#[derive(Clone, Copy)]
 pub struct LongWrites {
     pub count: usize,
     pub list: [Write; MAX_LONG],

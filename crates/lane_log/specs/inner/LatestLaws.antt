@@ -1,12 +1,11 @@
 -- Inner: how the code goes, need not be believed. The latest sequence of a list: a member that none of the list is above, and none undone before.
 -- Assumes nothing.
-use Rattle.std.specs.Prelude.{◌≡◌, refl, ◌⊎◌, true, false, List, [], ◌∷◌, ℕ, ◌≤◌}
+use Rattle.std.specs.Prelude.{◌≡◌, refl, ◌⊎◌, false, List, [], ◌∷◌, ℕ, ◌≤◌}
 use Rattle.std.proofs.Common.{ap, sym, ⊎_elim, arith}
 use Rattle.laws.specs.inner.Tests.{split, clash}
 use Rattle.laws.specs.inner.Lists.{All, more}
 use Rattle.lane_log.specs.Log.{Complete, undone_before, ordered, sequence_of, first_of, latest}
 use Rattle.lane_log.specs.declared.Sequence.{Sequence}
-use Rattle.lane_log.specs.declared.Latest.{Latest}
 use Rattle.lane_log.specs.declared.Latest.TheVariants.{Nothing, Is}
 use Rattle.laws.specs.inner.Members.{In, here, there, In-All, All-In}
 use Rattle.lane_log.specs.inner.OrderLaws.{Before, is-before, before-is, not-self, before-false, Sorted, first, All-ordered, ordered-sorted, ordered-in}

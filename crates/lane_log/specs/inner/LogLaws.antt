@@ -11,7 +11,7 @@ use Rattle.std.proofs.Math.ListN.{length, length-append}
 use borrow.Author.Tests.{leb-true, leb-false, ltb-true, ltb-false, eqb-true, eq-eqb, ne_eqb, lt-ltb, le-ltb, le-leb, lt-leb}
 use Rattle.laws.specs.inner.Tests.{split, clash}
 use Rattle.laws.specs.inner.Lists.{All, none, more, All-append, All-cond, All-map}
-use Rattle.slot.specs.inner.SlotLaws.{StampFrom, EntryFrom, stamp-only, entry-only}
+use Rattle.slot.proofs.SlotLaws.{StampFrom, EntryFrom, stamp-only, entry-only}
 use Rattle.slot.specs.declared.Content.{Content}
 use Rattle.slot.specs.declared.Content.TheVariants.{Empty, Torn, Entry, Stamp}
 use Rattle.image.specs.Image.{base_of, log_of}

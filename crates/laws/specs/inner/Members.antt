@@ -32,6 +32,7 @@ module _ {A : Type 0} where
 
   -- what holds of every element, and of each
   pub In-All : {x : A} {P : A → Type 0} {l : List A} → All P l → In x l → P x
+  In-All {P = P} nil x4 = elim x4 [ ]
   In-All (more p h) here = p
   In-All (more p h) (there i) = In-All h i
 

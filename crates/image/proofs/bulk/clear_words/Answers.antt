@@ -1,0 +1,14 @@
+-- `image::bulk::clear_words` meets its contract. The loop's invariant: the first i words are 0. Assumes nothing.
+use Rattle.std.proofs.Common.{refl, rules}
+use Rattle.std.proofs.lemmas.List.{length-replicate}
+use Rattle.image.specs.inner.BulkLaws.{get_or-zeros, filled_none, filled_more, filled-all}
+use Rattle.image.proofs.bulk.clear_words.Goals as goal
+
+pub loop-i-init : goal.loop-i-init
+loop-i-init c = (search rules, filled_none _ _ _ refl)
+
+pub loop-i-preserved : goal.loop-i-preserved
+loop-i-preserved c = let l = c.loop-i in (search rules, filled_more _ _ l.i l.words 0 l.invariant.1 (search rules) (rw get_or-zeros))
+
+pub returns : goal.returns
+returns c = let l = c.loop-i in filled-all _ _ l.i l.words l.invariant.1 (rw length-replicate) (search rules)

@@ -1,0 +1,2 @@
+pub mod HigherLaws
+pub mod SearchLaws

@@ -1,0 +1,3 @@
+pub mod SlotBits
+pub mod SlotLaws
+pub mod SlotReads
