@@ -28,7 +28,7 @@ use txn::Writes;
 
 // What Log or Mark would do: the number of its refusal or 0, and, where it is 0, the lane's latest sequence, from which
 // its drain takes the floor.
-#[derive(Drop)]
+#[derive(Clone, Copy)]
 struct Plan {
     number: u64,
     latest: Latest,

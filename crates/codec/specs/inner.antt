@@ -4,5 +4,3 @@ pub mod FieldsLaws
 pub mod InPlace
 pub mod Normal
 pub mod ReadLaws
-pub mod RoundTrip
-pub mod WriteLaws

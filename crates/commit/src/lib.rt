@@ -230,6 +230,7 @@ pub fn validate_refusal(
 }
 
 // Is a slot a whole entry of this write's word and old value?
+#[tactic(auto, unfolding(store::specs::Calls::entry_matches))]
 fn entry_matches(write: Write, content: Content) -> bool
     ensures { result ≡ entry_matches write content }
 {

@@ -1,4 +1,3 @@
 -- How the code goes and why it is right: need not be believed.
 pub mod Parts
 pub mod PartsLaws
-pub mod LockLaws

@@ -30,7 +30,7 @@ const ROOM: usize = txn::MAX_WRITES + 1;
 
 // What Lock would do: the number of its refusal or 0, and, where it is 0, the transaction's writes and the lane's
 // latest sequence, from which its drain takes the floor.
-#[derive(Drop)]
+#[derive(Clone, Copy)]
 struct Plan {
     number: u64,
     writes: LongWrites,

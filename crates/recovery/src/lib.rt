@@ -22,7 +22,7 @@ pub const ALL_SLOTS: usize = image::MAX_LANES * image::MAX_SLOTS;
 
 // What a finished recovery answers: the boundary, how many entries it undid, and how many slots were torn in the
 // non-volatile memory that this call found.
-#[derive(Drop)]
+#[derive(Clone, Copy)]
 pub struct Finished {
     pub boundary: Timestamp,
     pub undone: usize,
@@ -30,7 +30,7 @@ pub struct Finished {
 }
 
 // The answer of recovery.
-#[derive(Drop)]
+#[derive(Clone, Copy)]
 pub enum Recovered {
     // the number of the refusal; nothing is altered
     Refused(u64),
@@ -41,7 +41,7 @@ pub enum Recovered {
 
 // The answer with the record: that of the new start where recovery finished, and otherwise a blank one that stands for
 // none.
-#[derive(Drop)]
+#[derive(Clone, Copy)]
 pub struct Restart {
     pub answer: Recovered,
     pub state: Record,

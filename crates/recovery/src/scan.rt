@@ -16,7 +16,7 @@ use lane_log::{Sequence, Timestamp};
 use slot::Content;
 
 // What the lanes read so far give: the boundary, the new base, and how many slots are torn.
-#[derive(Drop)]
+#[derive(Clone, Copy)]
 pub struct Found {
     pub boundary: Timestamp,
     pub base: u64,
@@ -24,7 +24,7 @@ pub struct Found {
 }
 
 // What one lane's slots hold: the greatest whole timestamp, 0 where there is none, and how many are torn.
-#[derive(Drop)]
+#[derive(Clone, Copy)]
 struct Seen {
     greatest: u64,
     torn: usize,

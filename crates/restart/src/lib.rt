@@ -20,7 +20,7 @@ use recovery::{ALL_SLOTS, Finished, Recovered, Restart, scan, stores, undo};
 const FEW_SLOTS: usize = 256;
 
 // The boundary; how many stores were due, those that undo entries and all; how many slots were torn.
-#[derive(Drop)]
+#[derive(Clone, Copy)]
 struct Due {
     boundary: Timestamp,
     undone: usize,

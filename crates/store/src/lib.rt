@@ -22,28 +22,28 @@ use record::Record;
 use txn::Writes;
 
 // What Log answers where the transaction writes: the count of its writes and its timestamp.
-#[derive(Drop)]
+#[derive(Clone, Copy)]
 pub struct Appended {
     pub count: usize,
     pub stamp: u64,
 }
 
 // What Mark answers: its timestamp, and whether it dropped a logged transaction.
-#[derive(Drop)]
+#[derive(Clone, Copy)]
 pub struct Marked {
     pub stamp: u64,
     pub dropped: bool,
 }
 
 // What Lock and Continue answer: how many writes of the locked transaction are not yet made, and its timestamp.
-#[derive(Drop)]
+#[derive(Clone, Copy)]
 pub struct Progress {
     pub left: usize,
     pub stamp: u64,
 }
 
 // The answer of a call.
-#[derive(Drop)]
+#[derive(Clone, Copy)]
 pub enum Answer {
     // the number of the refusal; nothing is altered
     Refused(u64),
@@ -68,7 +68,7 @@ pub enum Answer {
 }
 
 // Format's answer with the record that it makes: an enum cannot hold the record's arrays.
-#[derive(Drop)]
+#[derive(Clone, Copy)]
 pub struct Outcome {
     pub answer: Answer,
     pub state: Record,

@@ -24,7 +24,7 @@ use Rattle.image.specs.declared.Sizes.{Sizes}
 use Rattle.lane_log.specs.Log.{slot_at, latest_in}
 use Rattle.lane_log.specs.Append.{circular, restamp_store}
 use Rattle.lane_log.specs.inner.AppendEntries.{WordsBelow}
-use Rattle.lane_log.specs.inner.SearchLaws.{circular-low}
+use Rattle.lane_log.proofs.SearchLaws.{circular-low}
 use Rattle.lane_log.specs.declared.Cursor.{Cursor}
 use Rattle.lane_log.specs.declared.Latest.{Latest}
 use Rattle.lane_log.specs.declared.Timestamp.{Timestamp}
@@ -289,7 +289,7 @@ module _ (z : Sizes) (cache : List ℕ) (L : ℕ) (r : Record) where
   clock-kept clock c = c ∙ sym (drained-clock z cache L r)
 
   last-kept : (last : ℕ) → last ≡ r.last → last ≡ (drained_state z cache L r).last
-  last-kept last c = c ∙ sym (drained-last z cache L r)
+  last-kept _ c = c ∙ sym (drained-last z cache L r)
 
 module _ (z : Sizes) (cache : List ℕ) (L : ℕ) (r : Record) (q : Latest) (found : q ≡ latest_in z cache L) where
   lane-drained : with_lane r L (drained_lane q (lane_at r L)) ≡ drained_state z cache L r

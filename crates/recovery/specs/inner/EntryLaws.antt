@@ -14,7 +14,7 @@ use Rattle.image.specs.declared.Sizes.{Sizes}
 use Rattle.lane_log.specs.Log.{Old, Complete, slot_at, back, entries_back}
 use Rattle.lane_log.specs.inner.LogLaws.{entry-in, EntryBack, entry-back, back_whole, back-cons, back-words}
 use Rattle.lane_log.specs.inner.Search.{closed_at}
-use Rattle.lane_log.specs.inner.SearchLaws.{Closed, closed_as, closed-from, closes-none, closes-one}
+use Rattle.lane_log.proofs.SearchLaws.{Closed, closed_as, closed-from, closes-none, closes-one}
 use Rattle.lane_log.specs.declared.Sequence.{Sequence}
 use Rattle.lane_log.specs.declared.Latest.{Latest}
 use Rattle.lane_log.specs.declared.Latest.TheVariants.{Nothing, Is}

@@ -15,7 +15,7 @@ use borrow.Author.Tests.{ltb-true, lt-ltb, le-ltb, leb-true, leb-false, le-leb, 
 use borrow.Rule.Slice.PartMut.{put_mid}
 use Rattle.laws.specs.inner.Tests.{split, clash}
 use Rattle.winners.specs.inner.Winners.{AtMost, greatest_at, Tournament}
-use Rattle.winners.specs.inner.GreatestLaws.{greatest-low, greatest-most}
+use Rattle.winners.proofs.GreatestLaws.{greatest-low, greatest-most}
 use Rattle.slot.specs.declared.Content.{Content}
 use Rattle.slot.specs.declared.Content.TheVariants.{Empty, Torn, Entry, Stamp}
 use Rattle.slot.specs.Slot.{max_entries}
@@ -24,7 +24,7 @@ use Rattle.image.specs.declared.Sizes.{Sizes}
 use Rattle.lane_log.specs.Log.{slot_at, entries_back, latest_in, given, contribution}
 use Rattle.lane_log.specs.inner.LogLaws.{stamp-in, latest-in}
 use Rattle.lane_log.specs.inner.Search.{entry_back, closed_at}
-use Rattle.lane_log.specs.inner.SearchLaws.{Closed, closed-from, closed-bad, closed-whole, NoLap, laps-closed, latest-none, latest-lapped}
+use Rattle.lane_log.proofs.SearchLaws.{Closed, closed-from, closed-bad, closed-whole, NoLap, laps-closed, latest-none, latest-lapped}
 use Rattle.recovery.specs.inner.LapLaws.{LapIs, kept, moved, lap-is, lap-every}
 use Rattle.lane_log.specs.declared.Timestamp.{Timestamp}
 use Rattle.lane_log.specs.declared.Timestamp.TheVariants.{None}

@@ -1,0 +1,7 @@
+-- `lock::part_of` meets its contract: the loop has copied the pairs below `i`. Assumes nothing.
+use Rattle.std.proofs.Common.{◌≤◌}
+use Rattle.lock.specs.inner.PartsLaws.{Copied}
+use Rattle.lock.proofs.part_of.Given as goal
+
+abbrev pub invariant-loop-i : goal.invariant-loop-i
+invariant-loop-i l = (l.i ≤ l.count) × Copied l.pairs l.from l.i l.part

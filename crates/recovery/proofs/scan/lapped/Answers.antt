@@ -1,0 +1,11 @@
+-- `recovery::scan::lapped` meets its contract. The loop's invariant: the latest of the slots passed. Assumes nothing.
+use Rattle.std.proofs.Common.{rules}
+use Rattle.recovery.specs.inner.LapLaws.{lap-none, lap-more}
+use Rattle.recovery.proofs.scan.lapped.Goals as goal
+
+pub loop-k-init : goal.loop-k-init
+loop-k-init c = (search rules, lap-none _ _ _ _ _ _ _)
+
+pub loop-k-preserved : goal.loop-k-preserved
+loop-k-preserved c = let l = c.loop-k in
+    (search rules, lap-more _ _ _ _ _ _ _ l.k l.best _ l.invariant.1 c.lap_at-best.ensures)
