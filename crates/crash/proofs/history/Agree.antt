@@ -21,7 +21,7 @@ use Rattle.image.specs.Image.{buffers_ok, log_of}
 use Rattle.image.specs.declared.Sizes.{Sizes}
 use Rattle.lane_log.specs.Log.{slot_at, latest_in}
 use Rattle.lane_log.specs.Append.{circular}
-use Rattle.lane_log.specs.inner.SearchLaws.{circular-low}
+use Rattle.lane_log.proofs.SearchLaws.{circular-low}
 use Rattle.lane_log.specs.declared.Timestamp.TheVariants.{None, At}
 use Rattle.record.specs.Record.{lane_at, is_logged, logged_in, lock_length, is_held, stamp_ok, record_ok, pairs_of, words_of_pairs}
 use Rattle.record.specs.declared.Locked.{Locked}

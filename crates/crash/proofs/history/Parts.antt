@@ -117,9 +117,9 @@ pair-writes (chain-cons {ws = ws} {w = w} {l = l} e c) =
 unfoldable pub part_from : Locked → List Write → List Write
 part_from k ws = take (part_length k) (drop k.written ws)
 
-pub part_length : (k : Locked) (ws : List Write) → k.count ≡ length ws → length (part_from k ws) ≡ part_length k
+pub part-length : (k : Locked) (ws : List Write) → k.count ≡ length ws → length (part_from k ws) ≡ part_length k
 unfolding part_from part_length
-part_length k ws e = length-take (min max_writes (k.count - k.written)) (drop k.written ws) ∙ omega (arith, length-drop k.written ws)
+part-length k ws e = length-take (min max_writes (k.count - k.written)) (drop k.written ws) ∙ omega (arith, length-drop k.written ws)
 
 pub part-some : (k : Locked) → k.written < k.count → 0 < part_length k
 unfolding part_length
@@ -156,7 +156,7 @@ module _ (z : Sizes) (base : ℕ) (h : History) (m : Machine) (b : Book z base h
   writes-chain = run-chain z.words (b.locking k e).txn (present z h)
 
   pub part_count : length (part_from k its_writes) ≡ part_length k
-  part_count = part_length k its_writes (b.locking k e).count
+  part_count = part-length k its_writes (b.locking k e).count
 
   pub part_low : All (λ w. w.word < z.words) (part_from k its_writes)
   unfolding part_from

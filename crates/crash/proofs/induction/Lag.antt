@@ -172,7 +172,7 @@ lag-from d theorem z lag start m h ok es fs x s bound stamps goes =
     (holds-next d z (trailer z) w (format lag start) (es ++ (e ∷ rest)) (theorem z lag start m h ok (es ++ (e ∷ rest)))) in
     let u : (y : Event) → Holds d z (trailer z) c.system c.history (y ∷ []) = λ y.
     holds_after d z (trailer z) b fs (y ∷ []) (holds-next d z (trailer z) a e (fs ++ (y ∷ [])) (v (fs ++ (y ∷ [])))) in
-    let t = reply-told z a.history s (trailer z) x a.system _ _ _ (v []).0.reply stamps in
+    let t = reply-told z a.history s (trailer z) x a.system b.system _ _ (v []).0.reply stamps in
     let n = near z a.history s x t.machine bound t.taken t.answers in
     let free = bound-free z a.history s x bound (refusal-fits z a.history x t.machine t.taken) in
     let r : Rising a.history = rising-after d theorem z lag start m h ok es in

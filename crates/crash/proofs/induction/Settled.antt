@@ -248,7 +248,7 @@ settled-from d theorem z lag start m h ok es fs x s stamps =
     (holds-next d z (trailer z) w (format lag start) (es ++ rest) (theorem z lag start m h ok (es ++ rest))) in
     let u : (y : Event) → Holds d z (trailer z) c.system c.history (y ∷ []) = λ y.
     holds_after d z (trailer z) b fs (y ∷ []) (holds-next d z (trailer z) a e (fs ++ (y ∷ [])) (v (e ∷ (fs ++ (y ∷ []))))) in
-    let t = reply-told z a.history s (trailer z) x a.system _ _ _ (v (e ∷ [])).0.reply stamps in
+    let t = reply-told z a.history s (trailer z) x a.system b.system _ _ (v (e ∷ [])).0.reply stamps in
     let p : Passed a.history = after-keeps Passed (λ M. Unit {0}) passed-keeping d z (trailer z) i es (theorem z lag start m h ok es).1 (any_step es)
     (inl (passed-opened z))
     (subst Passed (sym (formatted d z lag start m h ok (theorem z lag start m h ok []).0.reply)) (passed-opened z lag start 0)) in (

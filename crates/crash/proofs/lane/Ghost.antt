@@ -11,7 +11,8 @@ use lib.ListN.{get_or, length, length-append}
 use borrow.Author.Tests.{ne_eqb, eqb-true, eqb-false, ltb-true, ltb-false}
 use Rattle.laws.specs.inner.Tests.{split}
 use Rattle.slot.specs.Slot.{max_entries, entry_of, stamp_of, read_of}
-use Rattle.slot.specs.inner.SlotLaws.{empty-read, torn-read, entry_read, stamp-read, entry-bits, stamp-bits}
+use Rattle.slot.proofs.SlotLaws.{empty-read, torn-read, entry-bits, stamp-bits}
+use Rattle.slot.proofs.SlotReads.{entry_read, stamp-read}
 use Rattle.slot.specs.declared.Content.{Content}
 use Rattle.slot.specs.declared.Content.TheVariants.{Empty, Torn, Entry, Stamp}
 use Rattle.image.specs.Image.{max_words}

@@ -257,11 +257,13 @@ module _ (z : Sizes) (L : ℕ) (lane : L < z.lanes) (m : Machine) (t : Track) (s
   unfoldable commit-since : (c : ℕ) (x : Logged) (h : List Past) {gs : List Seq} → All (λ g. g.stamp < c) gs → PhaseOf z.slots (Holds x) gs
       → Since h (seal_hist c h gs) gs (seal_gs c gs)
   unfolding seal_hist seal_gs
+  commit-since c x h Rattle.laws.specs.inner.Lists.none x4 = elim x4 [ ]
   commit-since c x h (more up a) (holds {g = g} f n e some) = sealed g c up some
 
   commit-floor : (c : ℕ) (x : Logged) (h : List Past) {gs : List Seq} (a : All (λ g. g.stamp < c) gs) (p : PhaseOf z.slots (Holds x) gs)
       → floor_since (commit-since c x h a p) ≡ giving (newest_in gs)
   unfolding commit-since floor_since
+  commit-floor c x h Rattle.laws.specs.inner.Lists.none p = elim p [ ]
   commit-floor c x h (more up a) (holds f n e some) = refl
 
   module _ (ps : List Pair) (low : All (λ p. p.word < z.words) ps) (x : Logged) (held : (lane_at m.state L).phase ≡ Holds x) where

@@ -13,7 +13,7 @@ use Rattle.image.specs.Flush.{written_back}
 use Rattle.image.specs.Stores.{Store}
 use Rattle.image.specs.declared.Sizes.{Sizes}
 use Rattle.lane_log.specs.Append.{append_stores, circular, restamp_store}
-use Rattle.lane_log.specs.inner.SearchLaws.{circular-low}
+use Rattle.lane_log.proofs.SearchLaws.{circular-low}
 use Rattle.record.specs.Record.{lane_at, cursor_of, logged_in, with_lane, with_clock, with_last}
 use Rattle.record.specs.declared.Pair.{Pair}
 use Rattle.record.specs.declared.Logged.{Logged}

@@ -12,7 +12,7 @@ use lib.Seq.{get_or-set_same, get_or-set_other}
 use borrow.Author.Tests.{ltb-true, ltb-false}
 use Rattle.laws.specs.inner.Tests.{split}
 use Rattle.slot.specs.Slot.{stamp_of}
-use Rattle.slot.specs.inner.SlotLaws.{stamp-bits}
+use Rattle.slot.proofs.SlotLaws.{stamp-bits}
 use Rattle.image.specs.Image.{former_length, log_start, log_of}
 use Rattle.image.specs.inner.ImageLaws.{get_or-log, length-log, log_of-set}
 use Rattle.image.specs.declared.Sizes.{Sizes}

@@ -207,6 +207,7 @@ module _ (W N : ℕ) where
     pub ok : Loggable W g.entries g.stamp
 
   pub stands : {h : List Past} {gs : List Seq} {g : Seq} → Hist W N h gs → In g gs → Stands h g
+  stands {g = g} start x4 = elim x4 [ ]
   stands (add {h = h} H es t ok) here =
       record { closes = at-end h es t; entries = before-own h es t N; below = omega (arith, length-new h es t); late = omega (arith, hist-big H); ok = ok }
   stands {g = g} (add {h = h} H es t ok) (there i) =

@@ -167,6 +167,7 @@ module _ (W w b : ℕ) (start : List ℕ) (cs : List Commit) (order : Rising cs)
 
   none_in : (rs : List Complete) → any_writes rs w ≡ false → {r : Complete} → In r rs → writes r.entries w ≡ false
   unfolding any_writes
+  none_in [] e {r = r} x'' = elim x'' [ ]
   none_in (q ∷ rs) e here = or_left (writes q.entries w) _ e
   none_in (q ∷ rs) e (there i) = none_in rs (or_right (writes q.entries w) _ e) i
 

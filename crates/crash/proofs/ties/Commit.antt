@@ -203,6 +203,7 @@ module _ (z : Sizes) (base : ℕ) (h : History) (m : Machine) (b : Book z base h
       go : (c : Commit) → (In c h.commits) ⊎ (In c (record { stamp = h.clock + 2; txn = f } ∷ [])) → (In c h.commits) ⊎ Backed z k us c
       go c (inl j) = inl j
       go c (inr here) = inr backed
+      go c (inr (there j)) = elim j [ ]
 
   -- a commit's sequence is not the one that the lane holds
   stays : (c : Commit) → In c h.commits → (s : Seq) → In s (t.ts L).gs → s.stamp ≡ c.stamp → In s (seal_gs (h.clock + 2) (t.ts L).gs)

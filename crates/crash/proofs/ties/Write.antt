@@ -34,7 +34,7 @@ use Rattle.store.specs.Locks.{part_of}
 use Rattle.store.specs.Locks as store
 use Rattle.crash.specs.History.{Commit, History, page_at, is_below, replay, present, words_below}
 use Rattle.crash.specs.History.{after_drain, part_written}
-use Rattle.laws.specs.inner.Members.{In, here, In-append}
+use Rattle.laws.specs.inner.Members.{In, here, there, In-append}
 use Rattle.recovery.specs.inner.UndoneLaws.{writes}
 use Rattle.crash.proofs.recovery.Data.{olds_of, txn_writes, replay-all, replay_snoc, last}
 use Rattle.crash.proofs.induction.Moves.{Known}
@@ -293,6 +293,7 @@ module _ (z : Sizes) (base : ℕ) (m : Machine) (h : History) (k : Locked) (b : 
         go : (c : Commit) → (In c h₁.commits) ⊎ (In c (its-commit ∷ [])) → (In c h₁.commits) ⊎ Backed z with-all t₁.ts c
         go c (inl j) = inl j
         go c (inr here) = inr backed
+        go c (inr (there j)) = elim j [ ]
 
     ties-all : Ties z base (changed L xs all-state m₁) with-all
     unfolding with_lock with_last lane_at is_held

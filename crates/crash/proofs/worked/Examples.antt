@@ -56,7 +56,7 @@ abbrev begun : System
 begun = begun_with (0 ∷ 0 ∷ [])
 
 -- ---- the two-lane scenario
-two_lanes : replies small begun two_lanes
+two-lanes : replies small begun two_lanes
     ≡ answered (Logged (record { count = 1; stamp = 2 }))
     ∷ answered (Logged (record { count = 1; stamp = 4 }))
     ∷ answered (Committed 6)
@@ -65,7 +65,7 @@ two_lanes : replies small begun two_lanes
     ∷ answered (Logged (record { count = 1; stamp = 10 }))
     ∷ []
 unfolding everything replies
-two_lanes = refl
+two-lanes = refl
 
 -- all is written back and power is cut: the boundary is 6, and both words return to 0
 abbrev two_lanes_cut : System

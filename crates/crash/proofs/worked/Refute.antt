@@ -257,13 +257,15 @@ module _ (d : Design) (z : Sizes) (lag : ℕ) (start : List ℕ) (es : List Even
       → differs (format_sides z lag₁ start₁ (happens d z was.system (format lag₁ start₁)).reply) has due ≡ true
       → CrashTheorem d → ⊥
   wrong-format lag₁ start₁ has due t k =
-      apart _ has due t (format-due z was.history was.system _ _ lag₁ start₁ _ (agrees (format lag₁ start₁) _ has due t k).reply)
+      apart _ has due t (let x = happens d z was.system (format lag₁ start₁) in
+      format-due z was.history was.system x.system x.found lag₁ start₁ _ (agrees (format lag₁ start₁) _ has due t k).reply)
 
   -- by the answer to call c
   pub wrong_answer : (c : Call) (has due : List ℕ)
       → differs (answer_sides z was.history c was.system (happens d z was.system (call c)).reply) has due ≡ true
       → CrashTheorem d → ⊥
-  wrong_answer c has due t k = apart _ has due t (answer-due z _ was.system _ _ c was.system _ (agrees (call c) _ has due t k).reply)
+  wrong_answer c has due t k = apart _ has due t (let x = happens d z was.system (call c) in
+      answer-due z _ was.system x.system x.found c was.system _ (agrees (call c) _ has due t k).reply)
 
   -- by what a recovery answers, and leaves
   module _ (lag₁ limit : ℕ) (j : Junk) where
