@@ -16,6 +16,7 @@ use recovery::{Recovered, Restart};
 use store::{Answer, Outcome};
 
 // The number of the refusal, 0 where it is none.
+#[tactic(auto, unfolding(store::specs::Machine::said))]
 pub(crate) fn number_in(answer: Answer) -> u64
     ensures { result ≡ (said answer).number }
 {
@@ -33,6 +34,7 @@ pub(crate) fn number_in(answer: Answer) -> u64
     }
 }
 
+#[tactic(auto, unfolding(store::specs::Machine::said, crate::specs::Exports::said_words, crate::specs::Exports::first_word))]
 fn answer_words(answer: Answer) -> [u64; ANSWER_WORDS]
     ensures { result ≡ said_words (said answer) }
 {
@@ -90,6 +92,7 @@ pub(crate) fn reply(given: Answer, answer: &mut [u64]) -> u64
     number
 }
 
+#[tactic(auto, unfolding(recovery::specs::Recovery::told))]
 fn recovered_number(answer: Recovered) -> u64
     ensures { result ≡ (told answer).number }
 {
@@ -100,6 +103,7 @@ fn recovered_number(answer: Recovered) -> u64
     }
 }
 
+#[tactic(auto, unfolding(crate::specs::Exports::finished_words))]
 fn finished_words(boundary: Timestamp, undone: usize, torn: usize) -> [u64; ANSWER_WORDS]
     ensures { result ≡ finished_words boundary undone torn }
 {
@@ -109,6 +113,7 @@ fn finished_words(boundary: Timestamp, undone: usize, torn: usize) -> [u64; ANSW
     }
 }
 
+#[tactic(auto, unfolding(recovery::specs::Recovery::told, crate::specs::Exports::told_words, crate::specs::Exports::where_finished))]
 fn recovered_words(answer: Recovered) -> [u64; ANSWER_WORDS]
     ensures { result ≡ told_words (told answer) }
 {
@@ -123,6 +128,7 @@ fn recovered_words(answer: Recovered) -> [u64; ANSWER_WORDS]
 }
 
 // Writes the record of a start where recovery finished; its number.
+#[tactic(auto, unfolding(recovery::specs::Recovery::told, crate::specs::Exports::where_finished))]
 pub(crate) fn restart(from: Restart, state: &mut [u64]) -> u64
     requires { length state.old ≡ state_length }
     ensures number { result ≡ (told from.answer).number }
