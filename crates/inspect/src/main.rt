@@ -2,6 +2,10 @@
 // it, what recovery would undo, and what `recover` prints. Nothing is changed.
 #![tactic(auto)]
 
-fn main() {
-    inspection::inspect_input(report::SizesAt::Start);
+use report::SizesAt;
+use std::io::Result;
+
+fn main(rt: HostRuntime) -> Result<()> {
+    inspection::inspect_input(SizesAt::Start, &mut rt.stdin(), &mut rt.stdout())?;
+    Ok(())
 }

@@ -2,6 +2,10 @@
 // what stands in it, what recovery would undo, and what `recover_read` prints. Nothing is changed.
 #![tactic(auto)]
 
-fn main() {
-    inspection::inspect_input(report::SizesAt::End);
+use report::SizesAt;
+use std::io::Result;
+
+fn main(rt: HostRuntime) -> Result<()> {
+    inspection::inspect_input(SizesAt::End, &mut rt.stdin(), &mut rt.stdout())?;
+    Ok(())
 }

@@ -1,18 +1,20 @@
 // The inspections of programs `inspect` and `inspect_read`, from bytes to bytes: the listing of an image, which is in
-// listing.rt, and then the report of its recovery. At the end, the same from standard input to standard output.
+// listing.rt, and then the report of its recovery. At the end, the same from a reader to a writer.
 #![tactic(auto)]
 
-ghost use Rattle.std.specs.Prelude.{◌≡◌, ◌≤◌, length, take, drop};
+ghost use Rattle.std.specs.Prelude.{◌≡◌, ◌≤◌, length, take, drop, IfOk, IfSome, OnOk, OnErr};
+ghost use Rattle.std.specs.Io.KnownBytes.{Appends};
 ghost use Rattle.io.specs.Counts.{IsPrefixLen};
+ghost use Rattle.streams.specs.Streams.{AppendsPart};
 ghost use Rattle.image.specs.inner.Facts.{IsImage};
 ghost use Rattle.report.specs.Report.{input_refusal};
 ghost use Rattle.report.specs.inner.ReportFacts.{image_words, Blanks, Put};
 ghost use Rattle.inspection.specs.Inspection.{listing as listing_of, listed, listing_room, inspection_room};
-ghost use Rattle.inspection.specs.Inspection.{inspected_of, Inspected};
+ghost use Rattle.inspection.specs.Inspection.{inspection_of, inspected_of, Inspected};
 
 use image::Sizes;
-use libc::{STDIN_FILENO, STDOUT_FILENO};
 use report::{SizesAt, reading};
+use std::io::{Read, Result, Write};
 
 mod listing;
 
@@ -134,17 +136,28 @@ fn output_buffer() -> [u8; ROOM]
     [0; ROOM]
 }
 
-// Reads standard input to its end, but no more than tells whether it is too long, and prints its inspection on standard
-// output; answers how many bytes that has. No contract can say which bytes are read and written: this one says that
-// there was an input, and that the inspection of it is whole.
-pub fn inspect_input(place: SizesAt) -> usize
-    ensures { Inspected place result }
+// Reads an input to its end, but no more than tells whether it is too long, and writes its inspection; answers how many
+// bytes that has. That there was an input, and that the inspection of it is whole, holds whatever is read from and
+// written to. Where a reader's bytes are known, as those of standard input are not, the inspection is that of all of
+// them. After a failure its first bytes, or none, were written.
+pub fn inspect_input<R: Read, W: Write>(
+    place: SizesAt,
+    reader: &mut R,
+    writer: &mut W,
+) -> Result<usize>
+    ensures inspected { IfOk result (Inspected place) }
+    ensures counted { IfOk result (λ n. IfSome (R.remaining reader.old)
+        (λ xs. n ≡ length (inspection_of place xs))) }
+    ensures printed { OnOk result (IfSome (R.remaining reader.old)
+        (λ xs. Appends (W.contents writer.old) (W.contents writer.new) (inspection_of place xs))) }
+    ensures failed { OnErr result (IfSome (R.remaining reader.old)
+        (λ xs. AppendsPart (W.contents writer.old) (W.contents writer.new) (inspection_of place xs))) }
 {
     let mut input = report::input_buffer();
     let most = report::taken(place);
-    let count = io::read_full(STDIN_FILENO, &mut input[..most]);
+    let count = streams::read_full(reader, &mut input[..most])?;
     let mut output = output_buffer();
     let length = inspect(place, &input[..count], &mut output);
-    io::write_all(STDOUT_FILENO, &output[..length]);
-    length
+    streams::write_all(writer, &output[..length])?;
+    Ok(length)
 }

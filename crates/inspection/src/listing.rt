@@ -106,7 +106,13 @@ fn put_slots(output: &mut [u8], at: usize, sizes: Sizes, log: &[u64], lane: usiz
 {
     let mut next = at;
     for j in 0..sizes.slots {
-        next = put_slot(output, next, lane, j, lane_log::slot_at(log, sizes.words, j));
+        next = put_slot(
+            output,
+            next,
+            lane,
+            j,
+            lane_log::slot_at(log, sizes.words, j),
+        );
     }
     next
 }

@@ -2,6 +2,10 @@
 // recovery leaves, or why it is refused.
 #![tactic(auto)]
 
-fn main() {
-    report::report_input(report::SizesAt::Start);
+use report::SizesAt;
+use std::io::Result;
+
+fn main(rt: HostRuntime) -> Result<()> {
+    report::report_input(SizesAt::Start, &mut rt.stdin(), &mut rt.stdout())?;
+    Ok(())
 }

@@ -2,6 +2,10 @@
 // words that recovery leaves, or why it is refused.
 #![tactic(auto)]
 
-fn main() {
-    report::report_input(report::SizesAt::End);
+use report::SizesAt;
+use std::io::Result;
+
+fn main(rt: HostRuntime) -> Result<()> {
+    report::report_input(SizesAt::End, &mut rt.stdin(), &mut rt.stdout())?;
+    Ok(())
 }

@@ -1,10 +1,10 @@
 // The input: words of eight bytes, the least significant first, and how many of them an op has.
-ghost use Rattle.std.specs.Prelude.{◌≡◌, ◌+◌, ◌*◌, ◌≤◌, length};
+ghost use Rattle.std.specs.Prelude.{◌≡◌, ◌+◌, ◌*◌, ◌≤◌, length, IfOk};
 ghost use Rattle.image.specs.Image.{max_former};
 ghost use Rattle.replay.specs.inner.Lengths.{chunk_words, chunk_bytes, input_words};
 
 use image::{MAX_FORMER, Sizes};
-use libc::STDIN_FILENO;
+use std::io::{Read, Result};
 
 // How many words are read at once, how many bytes these have, and how often that is done.
 const CHUNK_WORDS: usize = 8192;
@@ -22,7 +22,7 @@ const MAX_TXN_WORDS: usize = 80;
 const MAX_LONG_WORDS: usize = 272;
 
 // How many words an op has after its code.
-#[derive(Drop)]
+#[derive(Clone, Copy)]
 enum Extent {
     Words(usize),
     // no op has this code, or it announces more words than it may have
@@ -30,7 +30,7 @@ enum Extent {
 }
 
 // What was read: the count of words, and whether they are the whole input.
-#[derive(Drop)]
+#[derive(Clone, Copy)]
 pub(crate) struct Input {
     pub(crate) count: usize,
     pub(crate) whole: bool,
@@ -68,40 +68,42 @@ fn decode(bytes: &[u8], words: &mut [u64])
 }
 
 // Reads a chunk, and puts its words at the start of `words`; how many bytes there were.
-fn read_chunk(words: &mut [u64]) -> usize
+fn read_chunk<R: Read>(reader: &mut R, words: &mut [u64]) -> Result<usize>
     requires { chunk_words ≤ length words.old }
-    ensures { result ≤ chunk_bytes }
+    ensures { IfOk result (λ got. got ≤ chunk_bytes) }
 {
     let mut bytes = io::large_buffer();
-    let got = io::read_full(STDIN_FILENO, &mut bytes);
+    let got = streams::read_full(reader, &mut bytes)?;
     decode(&bytes[..got], words);
-    got
+    Ok(got)
 }
 
-fn is_at_end() -> bool {
+fn is_at_end<R: Read>(reader: &mut R) -> Result<bool> {
     let mut byte = [0u8; 1];
-    io::read_full(STDIN_FILENO, &mut byte) == 0
+    let got = streams::read_full(reader, &mut byte)?;
+    Ok(got == 0)
 }
 
 // Reads the input, which is whole where it ends after a word and is no longer than `words`.
-pub(crate) fn read(words: &mut [u64]) -> Input
+pub(crate) fn read<R: Read>(reader: &mut R, words: &mut [u64]) -> Result<Input>
     requires { length words.old ≡ input_words }
-    ensures { result.count ≤ input_words }
+    ensures { IfOk result (λ read. read.count ≤ input_words) }
 {
     for k in 0..CHUNKS {
         let start = CHUNK_WORDS * k;
-        let got = read_chunk(&mut words[start..]);
+        let got = read_chunk(reader, &mut words[start..])?;
         if got < CHUNK_BYTES {
-            return Input {
+            return Ok(Input {
                 count: start + got / 8,
                 whole: got % 8 == 0,
-            };
+            });
         }
     }
-    Input {
+    let whole = is_at_end(reader)?;
+    Ok(Input {
         count: INPUT_WORDS,
-        whole: is_at_end(),
-    }
+        whole,
+    })
 }
 
 // Word k, or 0 past the end.

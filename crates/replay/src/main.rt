@@ -5,7 +5,7 @@ mod buffers;
 mod input;
 mod print;
 
-ghost use Rattle.std.specs.Prelude.{◌≡◌, ◌≤◌, length};
+ghost use Rattle.std.specs.Prelude.{◌≡◌, ◌≤◌, length, IfOk};
 ghost use Rattle.image.specs.Image.{max_image};
 ghost use Rattle.codec.specs.Fields.{state_length};
 
@@ -13,9 +13,10 @@ use codec::{RECORD_WORDS, STATE_WORDS};
 use image::{MAX_IMAGE, Sizes};
 use record::{MAX_LAG, Record};
 use recovery::{Recovered, Restart};
+use std::io::Result;
 use store::Answer;
 
-#[derive(Drop)]
+#[derive(Clone, Copy)]
 enum Status {
     Going,
     // past the op that ends the trace
@@ -26,7 +27,7 @@ enum Status {
 // A trace between two of its ops: the word of the input that it stands at, and what its calls are given beside the
 // state and the buffers. The state is the record's words and, behind them, the lock's pairs; between ops the record's
 // words are in normal form.
-#[derive(Drop)]
+#[derive(Clone, Copy)]
 struct Run {
     at: usize,
     status: Status,
@@ -38,7 +39,7 @@ struct Run {
 }
 
 // How many words of each buffer an op is given.
-#[derive(Drop)]
+#[derive(Clone, Copy)]
 struct Lengths {
     cache: usize,
     nvm: usize,
@@ -150,21 +151,23 @@ fn call(
 }
 
 // Prints the line of a recovery; the state becomes what it returns, and stays where it returns no record.
-fn restarted(restart: Restart, state: &mut [u64])
+fn restarted(rt: &impl Print, restart: Restart, state: &mut [u64]) -> Result<()>
     requires { length state.old ≡ state_length }
 {
     let answer = restart.answer;
     let after = restart.state;
-    print::recovery_line(answer);
+    print::recovery_line(rt, answer)?;
     match answer {
         Recovered::Refused(_) => {}
         Recovered::Cut => {}
         Recovered::Finished(_) => put_started(after, state),
     }
+    Ok(())
 }
 
 // Recovers with sizes given.
 fn recover(
+    rt: &impl Print,
     limit: usize,
     sizes: Sizes,
     lag: u64,
@@ -172,26 +175,27 @@ fn recover(
     cache: &mut [u64],
     nvm: &mut [u64],
     flags: &mut [u8],
-)
+) -> Result<()>
     requires { length state.old ≡ state_length }
 {
     let restart = restart::recover(sizes, lag, cache, nvm, flags, limit);
-    restarted(restart, state);
+    restarted(rt, restart, state)
 }
 
 // Recovers without.
 fn recover_read(
+    rt: &impl Print,
     limit: usize,
     lag: u64,
     state: &mut [u64],
     cache: &mut [u64],
     nvm: &mut [u64],
     flags: &mut [u8],
-)
+) -> Result<()>
     requires { length state.old ≡ state_length }
 {
     let restart = restart::recover_read(lag, cache, nvm, flags, limit);
-    restarted(restart, state);
+    restarted(rt, restart, state)
 }
 
 // Sets the state to an op's words, of which `op_length` counts as many, and brings the record to normal form.
@@ -204,6 +208,7 @@ fn set_state(words: &[u64], state: &mut [u64])
 
 // Performs an op, by its code and the words after it, where `run` stands behind them already.
 fn perform(
+    rt: &impl Print,
     code: u64,
     words: &[u64],
     run: Run,
@@ -211,88 +216,89 @@ fn perform(
     cache: &mut [u64],
     nvm: &mut [u64],
     flags: &mut [u8],
-) -> Run
+) -> Result<Run>
     requires { length state.old ≡ state_length }
-    ensures { result.at ≡ run.at }
+    ensures { IfOk result (λ after. after.at ≡ run.at) }
 {
     let first = input::number(words, 0);
     match code {
-        0 => Run {
+        0 => Ok(Run {
             status: Status::Ended,
             ..run
-        },
+        }),
         7 => {
-            recover(first, run.sizes, run.lag, state, cache, nvm, flags);
-            run
+            recover(rt, first, run.sizes, run.lag, state, cache, nvm, flags)?;
+            Ok(run)
         }
         9 => {
-            print::dump(state, cache, nvm, flags);
-            run
+            print::dump(rt, state, cache, nvm, flags)?;
+            Ok(run)
         }
         10 => {
             buffers::store(words, 2, cache, nvm, flags);
-            run
+            Ok(run)
         }
         11 => {
             set_state(words, state);
-            run
+            Ok(run)
         }
-        12 => Run {
+        12 => Ok(Run {
             sizes: input::sizes(words),
             ..run
-        },
+        }),
         13 => {
             buffers::store(words, 3, cache, nvm, flags);
-            run
+            Ok(run)
         }
         14 => {
-            print::digests(state, cache, nvm, flags);
-            run
+            print::digests(rt, state, cache, nvm, flags)?;
+            Ok(run)
         }
-        15 => Run {
+        15 => Ok(Run {
             former: input::word(words, 0) == 0,
             ..run
-        },
+        }),
         16 => {
-            recover_read(first, run.lag, state, cache, nvm, flags);
-            run
+            recover_read(rt, first, run.lag, state, cache, nvm, flags)?;
+            Ok(run)
         }
-        17 => Run {
+        17 => Ok(Run {
             lag: input::word(words, 0),
             ..run
-        },
+        }),
         _ => {
             let answer = call(code, words, run.sizes, run.lag, state, cache, nvm, flags);
-            print::answer_line(code, answer);
-            run
+            print::answer_line(rt, code, answer)?;
+            Ok(run)
         }
     }
 }
 
 // The op that `run` stands at.
 fn step(
+    rt: &impl Print,
     input: &[u64],
     run: Run,
     state: &mut [u64],
     cache: &mut [u64],
     nvm: &mut [u64],
     flags: &mut [u8],
-) -> Run
+) -> Result<Run>
     requires at_in_bounds { run.at ≤ length input.now }
     requires state_len { length state.old ≡ state_length }
     requires max_image_in_bounds { max_image ≤ length cache.old }
     requires max_image_in_bounds_2 { max_image ≤ length nvm.old }
     requires max_image_in_bounds_3 { max_image ≤ length flags.old }
-    ensures { result.at ≤ length input.now }
+    ensures { IfOk result (λ after. after.at ≤ length input.now) }
 {
     let at = run.at;
     let rest = &input[at..];
     let end = input::op_length(rest, run.sizes);
     if end == 0 {
-        return Run {
+        return Ok(Run {
             status: Status::Malformed,
             ..run
-        };
+        });
     }
     let code = rest[0];
     let words = &rest[1..end];
@@ -301,6 +307,7 @@ fn step(
     let in_nvm = given.nvm;
     let in_flags = given.flags;
     perform(
+        rt,
         code,
         words,
         Run {
@@ -317,35 +324,36 @@ fn step(
 // Runs the ops of a trace, up to the one that ends it or is malformed. Each has at least one word, so that there are
 // turns enough.
 fn run_ops(
+    rt: &impl Print,
     input: &[u64],
     start: Run,
     state: &mut [u64],
     cache: &mut [u64],
     nvm: &mut [u64],
     flags: &mut [u8],
-) -> Run
+) -> Result<Run>
     requires at_in_bounds { start.at ≤ length input.now }
     requires state_len { length state.old ≡ state_length }
     requires max_image_in_bounds { max_image ≤ length cache.old }
     requires max_image_in_bounds_2 { max_image ≤ length nvm.old }
     requires max_image_in_bounds_3 { max_image ≤ length flags.old }
-    ensures { result.at ≤ length input.now }
+    ensures { IfOk result (λ after. after.at ≤ length input.now) }
 {
     let mut run = start;
     for _ in 0..input.len() {
-        run = step(input, run, state, cache, nvm, flags);
+        run = step(rt, input, run, state, cache, nvm, flags)?;
         let status = run.status;
         let Status::Going = status else {
-            return run;
+            return Ok(run);
         };
     }
-    run
+    Ok(run)
 }
 
 // Runs the trace that starts at a word of the input, with buffers and a state of zeros.
-fn run_trace(input: &[u64], at: usize) -> Run
+fn run_trace(rt: &impl Print, input: &[u64], at: usize) -> Result<Run>
     requires { at ≤ length input.now }
-    ensures { result.at ≤ length input.now }
+    ensures { IfOk result (λ after. after.at ≤ length input.now) }
 {
     let mut cache = [0u64; MAX_IMAGE];
     let mut nvm = [0u64; MAX_IMAGE];
@@ -353,13 +361,13 @@ fn run_trace(input: &[u64], at: usize) -> Run
     let mut state = [0u64; STATE_WORDS];
     let sizes = input::sizes(&input[at..]);
     if input.len() - at < 3 {
-        return Run {
+        return Ok(Run {
             at,
             status: Status::Malformed,
             sizes,
             former: false,
             lag: MAX_LAG,
-        };
+        });
     }
     let run = Run {
         at: at + 3,
@@ -368,33 +376,32 @@ fn run_trace(input: &[u64], at: usize) -> Run
         former: false,
         lag: MAX_LAG,
     };
-    run_ops(input, run, &mut state, &mut cache, &mut nvm, &mut flags)
+    run_ops(rt, input, run, &mut state, &mut cache, &mut nvm, &mut flags)
 }
 
 // Runs the traces of the input, up to a malformed one.
-fn run_traces(input: &[u64]) {
+fn run_traces(rt: &impl Print, input: &[u64]) -> Result<()> {
     let mut at = 0;
     for _ in 0..input.len() {
         if at == input.len() {
-            return;
+            return Ok(());
         }
-        let run = run_trace(input, at);
+        let run = run_trace(rt, input, at)?;
         let status = run.status;
         let Status::Ended = status else {
-            print::bad_trace();
-            return;
+            return print::bad_trace(rt);
         };
         at = run.at;
     }
+    Ok(())
 }
 
-fn main() {
+fn main(rt: HostRuntime) -> Result<()> {
     let mut words = input::buffer();
-    let read = input::read(&mut words);
+    let read = input::read(&mut rt.stdin(), &mut words)?;
     if !read.whole {
-        print::bad_trace();
-        return;
+        return print::bad_trace(&rt);
     }
     let count = read.count;
-    run_traces(&words[..count]);
+    run_traces(&rt, &words[..count])
 }

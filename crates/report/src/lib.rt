@@ -1,10 +1,12 @@
 // The reports of programs `recover` and `recover_read`, from bytes to bytes: sizes and an image are read, recovery runs
 // on the image, and the boundary and the data words are printed. Reading is in reading.rt, printing in printing.rt. At
-// the end, the same from standard input to standard output.
+// the end, the same from a reader to a writer.
 #![tactic(auto)]
 
-ghost use Rattle.std.specs.Prelude.{◌≡◌, ◌+◌, ◌≤◌, length, take, drop};
+ghost use Rattle.std.specs.Prelude.{◌≡◌, ◌+◌, ◌≤◌, length, take, drop, IfOk, IfSome, OnOk, OnErr};
+ghost use Rattle.std.specs.Io.KnownBytes.{Appends};
 ghost use Rattle.io.specs.Counts.{IsPrefixLen};
+ghost use Rattle.streams.specs.Streams.{AppendsPart};
 ghost use Rattle.image.specs.Image.{max_image};
 ghost use Rattle.image.specs.inner.Facts.{IsImage};
 ghost use Rattle.report.specs.Report.{input_refusal, blank, finished_text, answer_text, report_of, longest};
@@ -12,15 +14,15 @@ ghost use Rattle.report.specs.Report.{room, printed_of, Reported};
 ghost use Rattle.report.specs.inner.ReportFacts.{image_words, Blanks, Put};
 
 use image::Sizes;
-use libc::{STDIN_FILENO, STDOUT_FILENO};
 use lane_log::Timestamp;
 use recovery::Recovered;
+use std::io::{Read, Result, Write};
 
 pub mod printing;
 pub mod reading;
 
 // Where an input has its sizes.
-#[derive(Drop)]
+#[derive(Clone, Copy)]
 pub enum SizesAt {
     // W, T and N, and then an image of the former length
     Start,
@@ -193,17 +195,28 @@ fn output_buffer() -> [u8; ROOM]
     [0; ROOM]
 }
 
-// Reads standard input to its end, but no more than tells whether it is too long, and prints its report on standard
-// output; answers how many bytes the report has. No contract can say which bytes are read and written: this one says
-// that there was an input, and that the report of it is whole.
-pub fn report_input(place: SizesAt) -> usize
-    ensures { Reported place result }
+// Reads an input to its end, but no more than tells whether it is too long, and writes its report; answers how many
+// bytes the report has. That there was an input, and that the report of it is whole, holds whatever is read from and
+// written to. Where a reader's bytes are known, as those of standard input are not, the report is that of all of them.
+// After a failure its first bytes, or none, were written.
+pub fn report_input<R: Read, W: Write>(
+    place: SizesAt,
+    reader: &mut R,
+    writer: &mut W,
+) -> Result<usize>
+    ensures reported { IfOk result (Reported place) }
+    ensures counted { IfOk result (λ n. IfSome (R.remaining reader.old)
+        (λ xs. n ≡ length (report_of place xs))) }
+    ensures printed { OnOk result (IfSome (R.remaining reader.old)
+        (λ xs. Appends (W.contents writer.old) (W.contents writer.new) (report_of place xs))) }
+    ensures failed { OnErr result (IfSome (R.remaining reader.old)
+        (λ xs. AppendsPart (W.contents writer.old) (W.contents writer.new) (report_of place xs))) }
 {
     let mut input = input_buffer();
     let most = taken(place);
-    let count = io::read_full(STDIN_FILENO, &mut input[..most]);
+    let count = streams::read_full(reader, &mut input[..most])?;
     let mut output = output_buffer();
     let length = report(place, &input[..count], &mut output);
-    io::write_all(STDOUT_FILENO, &output[..length]);
-    length
+    streams::write_all(writer, &output[..length])?;
+    Ok(length)
 }

@@ -6,6 +6,7 @@ ghost use Rattle.std.specs.Prelude.{◌+◌, ◌*◌, ◌<◌, ◌≤◌, length
 ghost use Rattle.io.specs.Counts.{IsPrefixLen};
 
 use report::SizesAt;
+use std::io::Result;
 
 // Byte k of a word, the least significant one first.
 fn byte_of(word: u64, k: usize) -> u8
@@ -37,18 +38,18 @@ fn report_of(place: SizesAt, first: &[u64], last: &[u64], size: usize, output: &
 }
 
 // Prints it.
-fn show(place: SizesAt, first: &[u64], last: &[u64], size: usize)
+fn show(rt: &impl Print, place: SizesAt, first: &[u64], last: &[u64], size: usize) -> Result<()>
     requires first_bound { 8 * length first.now ≤ 65536 }
     requires last_bound { 8 * length last.now ≤ size }
     requires size_bound { size ≤ 65536 }
 {
     let mut output = io::large_buffer();
     let count = report_of(place, first, last, size, &mut output);
-    io::write_all(1, &output[..count]);
+    rt.write_all(&output[..count])
 }
 
 // Prints how long it is, in a long buffer and in a short one.
-fn measure(place: SizesAt, first: &[u64], last: &[u64], size: usize)
+fn measure(rt: &impl Print, place: SizesAt, first: &[u64], last: &[u64], size: usize) -> Result<()>
     requires first_bound { 8 * length first.now ≤ 65536 }
     requires last_bound { 8 * length last.now ≤ size }
     requires size_bound { size ≤ 65536 }
@@ -57,152 +58,150 @@ fn measure(place: SizesAt, first: &[u64], last: &[u64], size: usize)
     let mut short = io::buffer();
     let count = report_of(place, first, last, size, &mut long);
     let none = report_of(place, first, last, size, &mut short);
-    io::print_decimal(1, count as u64);
-    io::write_all(1, b" ");
-    io::print_decimal(1, none as u64);
-    io::write_all(1, b"\n");
+    println!(rt; "{count} {none}")
 }
 
 // Sizes at the start, and zeros after these words.
-fn given(words: &[u64], size: usize)
+fn given(rt: &impl Print, words: &[u64], size: usize) -> Result<()>
     requires words_bound { 8 * length words.now ≤ 65536 }
     requires size_bound { size ≤ 65536 }
 {
-    show(SizesAt::Start, words, &words[..0], size);
+    show(rt, SizesAt::Start, words, &words[..0], size)
 }
 
 // All that there is of an image alone, and zeros after these words.
-fn short(words: &[u64], size: usize)
+fn short(rt: &impl Print, words: &[u64], size: usize) -> Result<()>
     requires words_bound { 8 * length words.now ≤ 65536 }
     requires size_bound { size ≤ 65536 }
 {
-    show(SizesAt::End, words, &words[..0], size);
+    show(rt, SizesAt::End, words, &words[..0], size)
 }
 
 // An image alone.
-fn alone(words: &[u64], trailer: &[u64], size: usize)
+fn alone(rt: &impl Print, words: &[u64], trailer: &[u64], size: usize) -> Result<()>
     requires words_bound { 8 * length words.now ≤ 65536 }
     requires trailer_bound { 8 * length trailer.now ≤ size }
     requires size_bound { size ≤ 65536 }
 {
-    show(SizesAt::End, words, trailer, size);
+    show(rt, SizesAt::End, words, trailer, size)
 }
 
 // Sizes 2, 1, 34 ask for 592 bytes.
-fn lengths() {
+fn lengths(rt: &impl Print) -> Result<()> {
     let sizes = [2u64, 1, 34];
-    given(&sizes, 0);
-    given(&sizes, 23);
-    given(&sizes, 24);
-    given(&sizes, 584);
-    given(&sizes, 591);
-    given(&sizes, 593);
-    given(&sizes, 600);
+    given(rt, &sizes, 0)?;
+    given(rt, &sizes, 23)?;
+    given(rt, &sizes, 24)?;
+    given(rt, &sizes, 584)?;
+    given(rt, &sizes, 591)?;
+    given(rt, &sizes, 593)?;
+    given(rt, &sizes, 600)
 }
 
 // Each with as many bytes as its sizes would ask for.
-fn ranges() {
-    given(&[0u64, 1, 34], 576);
-    given(&[1025u64, 1, 34], 8776);
-    given(&[2u64, 0, 34], 48);
-    given(&[2u64, 9, 34], 4944);
-    given(&[2u64, 1, 33], 576);
-    given(&[2u64, 1, 257], 4160);
-    given(&[u64::MAX, 1, 34], 592);
+fn ranges(rt: &impl Print) -> Result<()> {
+    given(rt, &[0u64, 1, 34], 576)?;
+    given(rt, &[1025u64, 1, 34], 8776)?;
+    given(rt, &[2u64, 0, 34], 48)?;
+    given(rt, &[2u64, 9, 34], 4944)?;
+    given(rt, &[2u64, 1, 33], 576)?;
+    given(rt, &[2u64, 1, 257], 4160)?;
+    given(rt, &[u64::MAX, 1, 34], 592)
 }
 
 // Sizes 2, 1, 34: an odd base, empty logs, empty logs with the greatest word, and the sample of program `recover`.
-fn images() {
-    given(&[2u64, 1, 34, 1, 9, 0], 592);
-    given(&[2u64, 1, 34, 0, 9, 0], 592);
-    given(&[2u64, 1, 34, 0, u64::MAX, 10], 592);
-    given(&[2u64, 1, 34, 0, 9, 0, 11, 7, 32777, 3], 592);
+fn images(rt: &impl Print) -> Result<()> {
+    given(rt, &[2u64, 1, 34, 1, 9, 0], 592)?;
+    given(rt, &[2u64, 1, 34, 0, 9, 0], 592)?;
+    given(rt, &[2u64, 1, 34, 0, u64::MAX, 10], 592)?;
+    given(rt, &[2u64, 1, 34, 0, 9, 0, 11, 7, 32777, 3], 592)
 }
 
 // The greatest sizes ask for 40,992 bytes.
-fn greatest() {
+fn greatest(rt: &impl Print) -> Result<()> {
     let sizes = [1024u64, 8, 256];
-    given(&sizes, 40984);
-    given(&sizes, 40993);
-    measure(SizesAt::Start, &sizes, &[0u64], 40992);
+    given(rt, &sizes, 40984)?;
+    given(rt, &sizes, 40993)?;
+    measure(rt, SizesAt::Start, &sizes, &[0u64], 40992)
 }
 
 // An image with its trailer is no input with the sizes at the start; but those of 2, 1, 36 ask for as many bytes.
-fn with_trailer() {
+fn with_trailer(rt: &impl Print) -> Result<()> {
     let trailer = [2u64, 1, 34, 71];
-    show(SizesAt::Start, &[2u64, 1, 34, 0, 9, 0], &trailer, 624);
-    show(SizesAt::Start, &[2u64, 1, 36, 0, 9, 0], &trailer, 624);
+    show(rt, SizesAt::Start, &[2u64, 1, 34, 0, 9, 0], &trailer, 624)?;
+    show(rt, SizesAt::Start, &[2u64, 1, 36, 0, 9, 0], &trailer, 624)
 }
 
 // An image of sizes 2, 1, 34 has 75 words, 600 bytes: fewer than four words, bytes that are no words, four words, a
 // word less and a word more.
-fn lengths_alone() {
+fn lengths_alone(rt: &impl Print) -> Result<()> {
     let trailer = [2u64, 1, 34, 71];
-    short(&trailer, 0);
-    short(&trailer, 7);
-    short(&trailer, 8);
-    short(&trailer, 24);
-    short(&trailer, 31);
-    short(&trailer, 32);
-    alone(&[0u64], &trailer, 592);
-    alone(&[0u64], &trailer, 599);
-    alone(&[0u64], &trailer, 601);
-    alone(&[0u64], &trailer, 608);
+    short(rt, &trailer, 0)?;
+    short(rt, &trailer, 7)?;
+    short(rt, &trailer, 8)?;
+    short(rt, &trailer, 24)?;
+    short(rt, &trailer, 31)?;
+    short(rt, &trailer, 32)?;
+    alone(rt, &[0u64], &trailer, 592)?;
+    alone(rt, &[0u64], &trailer, 599)?;
+    alone(rt, &[0u64], &trailer, 601)?;
+    alone(rt, &[0u64], &trailer, 608)
 }
 
 // Each word of the trailer one less, and one more; and no trailer at all.
-fn trailers() {
-    alone(&[0u64], &[1u64, 1, 34, 71], 600);
-    alone(&[0u64], &[3u64, 1, 34, 71], 600);
-    alone(&[0u64], &[2u64, 0, 34, 71], 600);
-    alone(&[0u64], &[2u64, 2, 34, 71], 600);
-    alone(&[0u64], &[2u64, 1, 33, 71], 600);
-    alone(&[0u64], &[2u64, 1, 35, 71], 600);
-    alone(&[0u64], &[2u64, 1, 34, 70], 600);
-    alone(&[0u64], &[2u64, 1, 34, 72], 600);
-    alone(&[0u64], &[0u64], 568);
+fn trailers(rt: &impl Print) -> Result<()> {
+    alone(rt, &[0u64], &[1u64, 1, 34, 71], 600)?;
+    alone(rt, &[0u64], &[3u64, 1, 34, 71], 600)?;
+    alone(rt, &[0u64], &[2u64, 0, 34, 71], 600)?;
+    alone(rt, &[0u64], &[2u64, 2, 34, 71], 600)?;
+    alone(rt, &[0u64], &[2u64, 1, 33, 71], 600)?;
+    alone(rt, &[0u64], &[2u64, 1, 35, 71], 600)?;
+    alone(rt, &[0u64], &[2u64, 1, 34, 70], 600)?;
+    alone(rt, &[0u64], &[2u64, 1, 34, 72], 600)?;
+    alone(rt, &[0u64], &[0u64], 568)
 }
 
 // Each with the fourth word and as many bytes as its sizes would ask for.
-fn ranges_alone() {
-    alone(&[0u64], &[0u64, 1, 34, 69], 584);
-    alone(&[0u64], &[1025u64, 1, 34, 1094], 8784);
-    alone(&[0u64], &[2u64, 0, 34, 3], 56);
-    alone(&[0u64], &[2u64, 9, 34, 615], 4952);
-    alone(&[0u64], &[2u64, 1, 33, 69], 584);
-    alone(&[0u64], &[2u64, 1, 257, 517], 4168);
-    alone(&[0u64], &[u64::MAX, 1, 34, 68], 576);
+fn ranges_alone(rt: &impl Print) -> Result<()> {
+    alone(rt, &[0u64], &[0u64, 1, 34, 69], 584)?;
+    alone(rt, &[0u64], &[1025u64, 1, 34, 1094], 8784)?;
+    alone(rt, &[0u64], &[2u64, 0, 34, 3], 56)?;
+    alone(rt, &[0u64], &[2u64, 9, 34, 615], 4952)?;
+    alone(rt, &[0u64], &[2u64, 1, 33, 69], 584)?;
+    alone(rt, &[0u64], &[2u64, 1, 257, 517], 4168)?;
+    alone(rt, &[0u64], &[u64::MAX, 1, 34, 68], 576)
 }
 
 // An odd base with a wrong trailer and with the right one, empty logs, and the sample of program `recover_read`.
-fn images_alone() {
+fn images_alone(rt: &impl Print) -> Result<()> {
     let trailer = [2u64, 1, 34, 71];
-    alone(&[1u64, 9, 0], &[2u64, 1, 34, 72], 600);
-    alone(&[1u64, 9, 0], &trailer, 600);
-    alone(&[0u64, 9, 0], &trailer, 600);
-    alone(&[0u64, 9, 0, 11, 7, 32777, 3], &trailer, 600);
+    alone(rt, &[1u64, 9, 0], &[2u64, 1, 34, 72], 600)?;
+    alone(rt, &[1u64, 9, 0], &trailer, 600)?;
+    alone(rt, &[0u64, 9, 0], &trailer, 600)?;
+    alone(rt, &[0u64, 9, 0, 11, 7, 32777, 3], &trailer, 600)
 }
 
 // The greatest image has 5,125 words, 41,000 bytes. One byte more is refused as one word more is.
-fn greatest_alone() {
+fn greatest_alone(rt: &impl Print) -> Result<()> {
     let trailer = [1024u64, 8, 256, 5121];
-    alone(&[0u64], &trailer, 40992);
-    alone(&[0u64], &trailer, 40999);
-    alone(&[0u64], &trailer, 41001);
-    alone(&[0u64], &trailer, 41008);
-    measure(SizesAt::End, &[0u64], &trailer, 41000);
+    alone(rt, &[0u64], &trailer, 40992)?;
+    alone(rt, &[0u64], &trailer, 40999)?;
+    alone(rt, &[0u64], &trailer, 41001)?;
+    alone(rt, &[0u64], &trailer, 41008)?;
+    measure(rt, SizesAt::End, &[0u64], &trailer, 41000)
 }
 
-fn main() {
-    lengths();
-    ranges();
-    images();
-    greatest();
-    with_trailer();
-    lengths_alone();
-    trailers();
-    ranges_alone();
-    images_alone();
-    greatest_alone();
-    report::report_input(SizesAt::Start);
+fn main(rt: HostRuntime) -> Result<()> {
+    lengths(&rt)?;
+    ranges(&rt)?;
+    images(&rt)?;
+    greatest(&rt)?;
+    with_trailer(&rt)?;
+    lengths_alone(&rt)?;
+    trailers(&rt)?;
+    ranges_alone(&rt)?;
+    images_alone(&rt)?;
+    greatest_alone(&rt)?;
+    report::report_input(SizesAt::Start, &mut rt.stdin(), &mut rt.stdout())?;
+    Ok(())
 }

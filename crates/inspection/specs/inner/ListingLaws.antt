@@ -12,7 +12,7 @@ use Rattle.image.specs.Image.{max_slots, base_of, log_of}
 use Rattle.image.specs.declared.Sizes.{Sizes}
 use Rattle.lane_log.specs.Log.{Complete, slot_at, closes, complete_below, complete_in, latest_in}
 use Rattle.lane_log.specs.inner.Search.{closed_at}
-use Rattle.lane_log.specs.inner.SearchLaws.{closed-from, closes-none, closes-one, closed_as}
+use Rattle.lane_log.proofs.SearchLaws.{closed-from, closes-none, closes-one, closed_as}
 use Rattle.lane_log.specs.declared.Latest.{Latest}
 use Rattle.lane_log.specs.declared.Latest.TheVariants.{Nothing, Is}
 use Rattle.recovery.specs.Recovery.{undone}

@@ -60,8 +60,8 @@ module _ (input : List ℕ) (w : well_formed input ≡ true) where
       (rw (former-good (sizes_in Start input) _ _ _ (well-sized input w) (record { in-cache = blank-long; in-nvm = long; in-flags = blank-long })))
       ∙ first-fails _ _ any-lag
 
-  pub odd_base : base_of (image_in Start input) % 2 ≡ 1 → report_of Start input ≡ refused_line 10
-  odd_base = odd Start input (sym (taken-form input w)) (well-sized input w) fits
+  pub odd-base : base_of (image_in Start input) % 2 ≡ 1 → report_of Start input ≡ refused_line 10
+  odd-base = odd Start input (sym (taken-form input w)) (well-sized input w) fits
 
   pub even_base : base_of (image_in Start input) % 2 ≡ 0 → report_of Start input ≡ all_stored (sizes_in Start input) (image_in Start input)
   even_base = even Start input (sym (taken-form input w)) (well-sized input w) fits
