@@ -8,6 +8,7 @@ mod lists;
 use bench::print;
 use bench::regions::{SEED, TALLIED, TALLY};
 use second::words::{ALL, Arena, STATE, clear, put};
+use std::io::Result;
 
 // The groups.
 const SMALL_LISTS: u64 = 0;
@@ -37,17 +38,17 @@ fn cases(arena: &mut Arena, group: u64, count: u64) {
 }
 
 // A group, and the lines about it.
-fn run(arena: &mut Arena, group: u64, count: u64, name: &[u8]) {
+fn run(rt: &impl Print, arena: &mut Arena, group: u64, count: u64, name: &[u8]) -> Result<()> {
     cases(arena, group, count);
-    print::group(name, arena);
-    print::kinds(arena);
+    print::group(rt, name, arena)?;
+    print::kinds(rt, arena)
 }
 
-fn main() {
+fn main(rt: HostRuntime) -> Result<()> {
     let mut arena = [0u64; ALL];
     put(&mut arena, STATE, SEED, 88172645463325252);
-    run(&mut arena, SMALL_LISTS, 50, b"small lists");
-    run(&mut arena, FULL_LISTS, 10, b"full lists");
-    run(&mut arena, SMALL_STATES, 6000, b"small states");
-    run(&mut arena, FULL_STATES, 300, b"full states");
+    run(&rt, &mut arena, SMALL_LISTS, 50, b"small lists")?;
+    run(&rt, &mut arena, FULL_LISTS, 10, b"full lists")?;
+    run(&rt, &mut arena, SMALL_STATES, 6000, b"small states")?;
+    run(&rt, &mut arena, FULL_STATES, 300, b"full states")
 }

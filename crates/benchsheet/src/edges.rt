@@ -7,6 +7,7 @@ use second::words::{
     RECORD, STATE, TXN, WORDS, clear, copy, get, least, minus, only, plus, put, set_row,
 };
 use second::{fields, reading, restart};
+use std::io::Result;
 
 // The words of an image of the small store, W 2, T 2, N 34: with its trailer, and without.
 pub(crate) const LENGTH: u64 = 143;
@@ -73,10 +74,18 @@ pub(crate) fn expect(arena: &mut Arena, number: u64) {
 }
 
 // A call at an edge, printed with what stands there.
-fn probe_at(arena: &mut Arena, call: u64, number: u64, refusal: u64, what: &[u8], n: u64) {
+fn probe_at(
+    rt: &impl Print,
+    arena: &mut Arena,
+    call: u64,
+    number: u64,
+    refusal: u64,
+    what: &[u8],
+    n: u64,
+) -> Result<()> {
     probe(arena, code_of(call), number, used_by(arena, call));
     expect(arena, refusal);
-    print::edge(arena, what, n);
+    print::edge(rt, arena, what, n)
 }
 
 // The two words of a slot in the cached log.
@@ -181,7 +190,7 @@ fn size_refusal(call: u64) -> u64 {
 }
 
 // Each size case with each call.
-pub(crate) fn sizes(arena: &mut Arena, i: u64) {
+pub(crate) fn sizes(rt: &impl Print, arena: &mut Arena, i: u64) -> Result<()> {
     let call = i % CALLS + 1;
     let case = i / CALLS;
     start_with(arena, words_case(case), lanes_case(case), slots_case(case));
@@ -190,8 +199,9 @@ pub(crate) fn sizes(arena: &mut Arena, i: u64) {
     let refused = session::refusal(arena) == size_refusal(call);
     session::expect(arena, refused == (7 <= case));
     if call == second::FORMAT {
-        print::sizes(arena);
+        print::sizes(rt, arena)?;
     }
+    Ok(())
 }
 
 // ---- buffers. One of them is a word too short or too long; with each call. Then Format with 1, 2 and 3 start words.
@@ -234,18 +244,19 @@ fn word_case(i: u64, length: u64) -> u64 {
 }
 
 // Of an image with a trailer, or without.
-pub(crate) fn words(arena: &mut Arena, i: u64, length: u64) {
+pub(crate) fn words(rt: &impl Print, arena: &mut Arena, i: u64, length: u64) -> Result<()> {
     start_for(arena, second::WRITE_BACK, 0);
     session::set_lengths(arena, length, length, length);
     let word = word_case(i, length);
     probe_at(
+        rt,
         arena,
         second::WRITE_BACK,
         word,
         only(2 <= i, 4),
         b", word ",
         word,
-    );
+    )
 }
 
 fn lane_case(i: u64) -> u64 {
@@ -267,11 +278,11 @@ pub(crate) fn lane_call(i: u64) -> u64 {
 }
 
 // Each lane case with each of them.
-pub(crate) fn lanes(arena: &mut Arena, i: u64) {
+pub(crate) fn lanes(rt: &impl Print, arena: &mut Arena, i: u64) -> Result<()> {
     let call = lane_call(i % 8);
     let lane = lane_case(i / 8);
     start_for(arena, call, lane);
-    probe_at(arena, call, lane, only(8 <= i, 3), b", lane ", lane);
+    probe_at(rt, arena, call, lane, only(8 <= i, 3), b", lane ", lane)
 }
 
 // ---- transactions
@@ -287,15 +298,16 @@ fn is_bad_length(code: u64, used: u64) -> bool {
 }
 
 // A transaction of so many words of SETs.
-fn length_of_txn(arena: &mut Arena, code: u64, used: u64) {
+fn length_of_txn(rt: &impl Print, arena: &mut Arena, code: u64, used: u64) -> Result<()> {
     start_for(arena, code, 0);
     put_sets(arena);
     probe(arena, code, 0, used);
     let refused = session::refusal(arena) == 5;
     session::expect(arena, refused == is_bad_length(code, used));
     if used == 64 || used == 68 {
-        print::edge(arena, b", instructions ", used / 4);
+        print::edge(rt, arena, b", instructions ", used / 4)?;
     }
+    Ok(())
 }
 
 // An operand: 0, below W, W, or far from it; and k at its ends.
@@ -327,11 +339,11 @@ fn instruction_case(arena: &mut Arena, i: u64, used: u64) {
 }
 
 // 0 to 69 words for Log and for Validate, then 672 instructions three times.
-pub(crate) fn txns(arena: &mut Arena, i: u64) {
+pub(crate) fn txns(rt: &impl Print, arena: &mut Arena, i: u64) -> Result<()> {
     if i < 70 {
-        length_of_txn(arena, second::LOG, i);
+        length_of_txn(rt, arena, second::LOG, i)?;
     } else if i < 140 {
-        length_of_txn(arena, second::VALIDATE, i - 70);
+        length_of_txn(rt, arena, second::VALIDATE, i - 70)?;
     } else if i < 812 {
         instruction_case(arena, i - 140, 4);
     } else if i < 1484 {
@@ -339,28 +351,35 @@ pub(crate) fn txns(arena: &mut Arena, i: u64) {
     } else {
         instruction_case(arena, i - 1484, 64);
     }
+    Ok(())
 }
 
 // ---- the clock
 pub(crate) const LATE: u64 = MAX_STAMP - 2;
 
 // The lane has no floor, so that no lag limit binds: its sequence is not above the base timestamp.
-fn clock_case(arena: &mut Arena, call: u64, clock: u64, number: u64) {
+fn clock_case(
+    rt: &impl Print,
+    arena: &mut Arena,
+    call: u64,
+    clock: u64,
+    number: u64,
+) -> Result<()> {
     start_for(arena, call, 0);
     put(arena, CACHE, 0, 2);
     fields::set_field(arena, 0, fields::FLOOR, fields::NONE);
     put(arena, RECORD, fields::CLOCK, clock);
-    probe_at(arena, call, 0, number, b", clock ", clock);
+    probe_at(rt, arena, call, 0, number, b", clock ", clock)
 }
 
 // A Log that writes nothing takes no timestamp: the SKIP passes over the SET.
-fn no_writes(arena: &mut Arena) {
+fn no_writes(rt: &impl Print, arena: &mut Arena) -> Result<()> {
     start_for(arena, second::LOG, 0);
     put(arena, RECORD, fields::CLOCK, MAX_STAMP);
     put_skip(arena);
     probe(arena, second::LOG, 0, 8);
     expect(arena, 0);
-    print::edge(arena, b" without writes, clock ", MAX_STAMP);
+    print::edge(rt, arena, b" without writes, clock ", MAX_STAMP)
 }
 
 pub(crate) fn put_skip(arena: &mut Arena) {
@@ -377,14 +396,15 @@ fn clock_call(i: u64) -> u64 {
     }
 }
 
-pub(crate) fn clocks(arena: &mut Arena, i: u64) {
+pub(crate) fn clocks(rt: &impl Print, arena: &mut Arena, i: u64) -> Result<()> {
     if i == 12 {
-        no_writes(arena);
+        no_writes(rt, arena)?;
     } else if i % 2 == 0 {
-        clock_case(arena, clock_call(i / 2), LATE, 0);
+        clock_case(rt, arena, clock_call(i / 2), LATE, 0)?;
     } else {
-        clock_case(arena, clock_call(i / 2), MAX_STAMP, 8);
+        clock_case(rt, arena, clock_call(i / 2), MAX_STAMP, 8)?;
     }
+    Ok(())
 }
 
 // ---- the record

@@ -6,6 +6,7 @@ use bench::regions::{ROOM, STORED, STORED_NVM};
 use bench::{print, session};
 use second::fields;
 use second::words::{Arena, CACHE, NVM, copy, get, minus, only, plus, put, times};
+use std::io::Result;
 
 // Three sequences of timestamp 6. Of the masks `wraps` and `marks`, bit k belongs to sequence k, which has the slots 2
 // k and 2 k + 1: its wrap bit, and whether it is a mark. Else it has an entry of word 0, with old value 10 (k + 1).
@@ -93,25 +94,26 @@ fn recover(arena: &mut Arena, wraps: u64, marks: u64) {
     }
 }
 
-fn say_bits(name: &[u8], mask: u64) {
-    print::counted(name, bit(mask, 0));
-    print::counted(b" ", bit(mask, 1));
-    print::counted(b" ", bit(mask, 2));
+fn say_bits(rt: &impl Print, name: &[u8], mask: u64) -> Result<()> {
+    print::counted(rt, name, bit(mask, 0))?;
+    print::counted(rt, b" ", bit(mask, 1))?;
+    print::counted(rt, b" ", bit(mask, 2))
 }
 
 pub(crate) const CASES: u64 = 64;
 
 // All wrap bits, and marks among them. Without a mark, and where the highest slot is one, they are printed.
-pub(crate) fn cases(arena: &mut Arena, i: u64) {
+pub(crate) fn cases(rt: &impl Print, arena: &mut Arena, i: u64) -> Result<()> {
     let wraps = i % 8;
     let marks = i / 8;
     start(arena, wraps, marks);
     drain(arena, is_marked(wraps, marks));
     recover(arena, wraps, marks);
     if marks == 0 || marks == 4 {
-        say_bits(b"wrap bits ", wraps);
-        say_bits(b", marks ", marks);
-        print::text(b": ");
-        print::left(arena);
+        say_bits(rt, b"wrap bits ", wraps)?;
+        say_bits(rt, b", marks ", marks)?;
+        print::text(rt, b": ")?;
+        print::left(rt, arena)?;
     }
+    Ok(())
 }

@@ -5,6 +5,7 @@ use bench::regions::STORED;
 use bench::{print, session};
 use second::fields;
 use second::words::{Arena, CACHE, RECORD, TXN, get, put, set_row};
+use std::io::Result;
 
 // ---- each call on each log
 const LOG: u64 = 0;
@@ -96,24 +97,33 @@ fn own_case(i: u64) -> u64 {
     fields::NONE
 }
 
-fn say(arena: &Arena, a: u64, b: u64) {
-    print::called(arena);
-    print::text(b", ");
-    logs::say(a, b);
-    print::text(b": ");
-    print::floors(arena);
+fn say(rt: &impl Print, arena: &Arena, a: u64, b: u64) -> Result<()> {
+    print::called(rt, arena)?;
+    print::text(rt, b", ")?;
+    logs::say(rt, a, b)?;
+    print::text(rt, b": ")?;
+    print::floors(rt, arena)
 }
 
 // A call on a log of which a drain leaves this floor. The Drain is printed, and every call where `all` is set.
-fn call_on(arena: &mut Arena, i: u64, a: u64, b: u64, drained: u64, all: bool) {
+fn call_on(
+    rt: &impl Print,
+    arena: &mut Arena,
+    i: u64,
+    a: u64,
+    b: u64,
+    drained: u64,
+    all: bool,
+) -> Result<()> {
     let call = i % CALLS;
     start(arena, call, own_case(i));
     logs::put_log(arena, 0, a, b);
     probe(arena, call);
     expect_floor(arena, after_call(call, drained));
     if own_case(i) == 2 && (all || call == DRAIN) {
-        say(arena, a, b);
+        say(rt, arena, a, b)?;
     }
+    Ok(())
 }
 
 // The cases of one log: two floors before the call.
@@ -122,20 +132,20 @@ const ON_LOG: u64 = 2 * CALLS;
 // Twelve logs.
 pub(crate) const CASES: u64 = 12 * ON_LOG;
 
-pub(crate) fn cases(arena: &mut Arena, i: u64) {
+pub(crate) fn cases(rt: &impl Print, arena: &mut Arena, i: u64) -> Result<()> {
     match i / ON_LOG {
-        0 => call_on(arena, i, 0, 0, own_case(i), false),
-        1 => call_on(arena, i, 20, 0, own_case(i), false),
-        2 => call_on(arena, i, 61, 0, 6, false),
-        3 => call_on(arena, i, 60, 0, fields::NONE, false),
-        4 => call_on(arena, i, 41, 60, fields::NONE, true),
-        5 => call_on(arena, i, 40, 61, 6, false),
-        6 => call_on(arena, i, 61, 40, 6, false),
-        7 => call_on(arena, i, 60, 41, fields::NONE, false),
-        8 => call_on(arena, i, 61, 60, fields::NONE, false),
-        9 => call_on(arena, i, 60, 61, 6, false),
-        10 => call_on(arena, i, 61, 82, 6, false),
-        _ => call_on(arena, i, 60, 82, fields::NONE, false),
+        0 => call_on(rt, arena, i, 0, 0, own_case(i), false),
+        1 => call_on(rt, arena, i, 20, 0, own_case(i), false),
+        2 => call_on(rt, arena, i, 61, 0, 6, false),
+        3 => call_on(rt, arena, i, 60, 0, fields::NONE, false),
+        4 => call_on(rt, arena, i, 41, 60, fields::NONE, true),
+        5 => call_on(rt, arena, i, 40, 61, 6, false),
+        6 => call_on(rt, arena, i, 61, 40, 6, false),
+        7 => call_on(rt, arena, i, 60, 41, fields::NONE, false),
+        8 => call_on(rt, arena, i, 61, 60, fields::NONE, false),
+        9 => call_on(rt, arena, i, 60, 61, 6, false),
+        10 => call_on(rt, arena, i, 61, 82, 6, false),
+        _ => call_on(rt, arena, i, 60, 82, fields::NONE, false),
     }
 }
 
@@ -150,7 +160,7 @@ fn list_code(i: u64) -> u64 {
 }
 
 // The last call is a Log that writes nothing.
-fn step(arena: &mut Arena, i: u64) {
+fn step(rt: &impl Print, arena: &mut Arena, i: u64) -> Result<()> {
     set_row(arena, TXN, 0, 1, 0, 0, 3);
     let mut used = 4;
     if i == 9 {
@@ -158,14 +168,15 @@ fn step(arena: &mut Arena, i: u64) {
         used = 8;
     }
     session::call(arena, list_code(i), 0, used);
-    print::called(arena);
-    print::text(b", lane 0: ");
-    print::floors(arena);
+    print::called(rt, arena)?;
+    print::text(rt, b", lane 0: ")?;
+    print::floors(rt, arena)
 }
 
-pub(crate) fn list(arena: &mut Arena) {
+pub(crate) fn list(rt: &impl Print, arena: &mut Arena) -> Result<()> {
     scenario::format(arena);
     for i in 0..10 {
-        step(arena, i);
+        step(rt, arena, i)?;
     }
+    Ok(())
 }

@@ -3,6 +3,7 @@ use crate::{edges, scenario};
 use bench::regions::IMAGE;
 use bench::{print, session};
 use second::words::{Arena, NVM, TXN, copy, put, set_row};
+use std::io::Result;
 
 // Lane 0 adds 1 to word 0, lane 1 sets word 1 to 1.
 pub(crate) fn call(arena: &mut Arena, code: u64, lane: u64) {
@@ -14,21 +15,21 @@ pub(crate) fn call(arena: &mut Arena, code: u64, lane: u64) {
     session::call(arena, code, lane, 4);
 }
 
-pub(crate) fn step(arena: &mut Arena, code: u64, lane: u64) {
+pub(crate) fn step(rt: &impl Print, arena: &mut Arena, code: u64, lane: u64) -> Result<()> {
     call(arena, code, lane);
-    say(arena, lane);
+    say(rt, arena, lane)
 }
 
-pub(crate) fn say(arena: &Arena, lane: u64) {
-    print::called(arena);
-    print::counted(b", lane ", lane);
-    print::text(b": ");
-    print::floors(arena);
+pub(crate) fn say(rt: &impl Print, arena: &Arena, lane: u64) -> Result<()> {
+    print::called(rt, arena)?;
+    print::counted(rt, b", lane ", lane)?;
+    print::text(rt, b": ")?;
+    print::floors(rt, arena)
 }
 
-pub(crate) fn commit(arena: &mut Arena, lane: u64) {
-    step(arena, second::LOG, lane);
-    step(arena, second::REDO, lane);
+pub(crate) fn commit(rt: &impl Print, arena: &mut Arena, lane: u64) -> Result<()> {
+    step(rt, arena, second::LOG, lane)?;
+    step(rt, arena, second::REDO, lane)
 }
 
 // So many commits of lane 0, of two slots each.
@@ -41,61 +42,62 @@ pub(crate) fn fill(arena: &mut Arena, count: u64) {
 
 // Lane 1 commits, and is idle while lane 0 fills its log, of 34 slots. Non-volatile memory is kept as it is before the
 // mark.
-fn hold_back(arena: &mut Arena) {
+fn hold_back(rt: &impl Print, arena: &mut Arena) -> Result<()> {
     scenario::format(arena);
-    commit(arena, 1);
-    step(arena, second::DRAIN, 1);
+    commit(rt, arena, 1)?;
+    step(rt, arena, second::DRAIN, 1)?;
     fill(arena, 17);
-    step(arena, second::LOG, 0);
+    step(rt, arena, second::LOG, 0)?;
     scenario::write_all_back(arena);
     copy(arena, NVM, IMAGE, 0, edges::LENGTH);
+    Ok(())
 }
 
 // Lane 1 is marked, and drained.
-fn let_go(arena: &mut Arena) {
-    step(arena, second::MARK, 1);
-    step(arena, second::LOG, 0);
-    step(arena, second::DRAIN, 1);
-    commit(arena, 0);
-    commit(arena, 0);
+fn let_go(rt: &impl Print, arena: &mut Arena) -> Result<()> {
+    step(rt, arena, second::MARK, 1)?;
+    step(rt, arena, second::LOG, 0)?;
+    step(rt, arena, second::DRAIN, 1)?;
+    commit(rt, arena, 0)?;
+    commit(rt, arena, 0)
 }
 
-pub(crate) fn recover(arena: &mut Arena) {
+pub(crate) fn recover(rt: &impl Print, arena: &mut Arena) -> Result<()> {
     scenario::recover(arena, u64::MAX);
-    print::text(b"recovery: ");
-    print::left(arena);
+    print::text(rt, b"recovery: ")?;
+    print::left(rt, arena)
 }
 
 // The boundary is lane 0's own. Then lane 0 is marked and drained too, and there is none.
-pub(crate) fn list(arena: &mut Arena) {
-    hold_back(arena);
-    let_go(arena);
+pub(crate) fn list(rt: &impl Print, arena: &mut Arena) -> Result<()> {
+    hold_back(rt, arena)?;
+    let_go(rt, arena)?;
     scenario::write_all_back(arena);
-    recover(arena);
-    commit(arena, 0);
-    step(arena, second::MARK, 0);
-    step(arena, second::DRAIN, 0);
-    recover(arena);
+    recover(rt, arena)?;
+    commit(rt, arena, 0)?;
+    step(rt, arena, second::MARK, 0)?;
+    step(rt, arena, second::DRAIN, 0)?;
+    recover(rt, arena)
 }
 
 // Power fails while the mark of lane 1 is drained. It is timestamp 74 in slot 2 of its log, which is words 75 and 76 of
 // the image; without it lane 1 gives its commit at 4.
-fn cut_at(arena: &mut Arena, address: u64, value: u64, what: &[u8]) {
+fn cut_at(rt: &impl Print, arena: &mut Arena, address: u64, value: u64, what: &[u8]) -> Result<()> {
     copy(arena, IMAGE, NVM, 0, edges::LENGTH);
     put(arena, NVM, 75, address);
     put(arena, NVM, 76, value);
     scenario::recover(arena, u64::MAX);
-    print::text(what);
-    print::left(arena);
+    print::text(rt, what)?;
+    print::left(rt, arena)
 }
 
 pub(crate) const CUTS: u64 = 4;
 
-pub(crate) fn cut(arena: &mut Arena, i: u64) {
+pub(crate) fn cut(rt: &impl Print, arena: &mut Arena, i: u64) -> Result<()> {
     match i {
-        0 => cut_at(arena, 0, 0, b"no word of the mark: "),
-        1 => cut_at(arena, 32769, 0, b"its address word: "),
-        2 => cut_at(arena, 0, 75, b"its value word: "),
-        _ => cut_at(arena, 32769, 75, b"both words: "),
+        0 => cut_at(rt, arena, 0, 0, b"no word of the mark: "),
+        1 => cut_at(rt, arena, 32769, 0, b"its address word: "),
+        2 => cut_at(rt, arena, 0, 75, b"its value word: "),
+        _ => cut_at(rt, arena, 32769, 75, b"both words: "),
     }
 }

@@ -3,6 +3,7 @@
 use crate::edges;
 use bench::{print, session};
 use second::words::Arena;
+use std::io::Result;
 
 // With the trailer, without it, and a word beside either.
 fn length_case(i: u64) -> u64 {
@@ -68,7 +69,7 @@ fn either(case: u64) -> u64 {
 // How many cases there are: twelve for each call.
 pub(crate) const CASES: u64 = 12 * edges::CALLS;
 
-pub(crate) fn cases(arena: &mut Arena, i: u64) {
+pub(crate) fn cases(rt: &impl Print, arena: &mut Arena, i: u64) -> Result<()> {
     let call = i % edges::CALLS + 1;
     let case = i / edges::CALLS;
     edges::start_for(arena, call, 0);
@@ -76,6 +77,7 @@ pub(crate) fn cases(arena: &mut Arena, i: u64) {
     edges::probe_empty(arena, call);
     edges::expect(arena, refusal(call, case));
     if case < 2 {
-        print::edge(arena, b", image of ", length_case(case));
+        print::edge(rt, arena, b", image of ", length_case(case))?;
     }
+    Ok(())
 }

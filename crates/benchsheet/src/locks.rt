@@ -7,6 +7,7 @@ use second::fields;
 use second::words::{
     Arena, MAX_STAMP, MIN_LAG, MIN_SLOTS, RECORD, TXN, get, only, plus, put, set_row,
 };
+use std::io::Result;
 
 // ---- how many instructions
 // Lanes of so many slots, of which lane 0 has one sequence; the clock is 8. The transaction is of SETs.
@@ -36,7 +37,7 @@ fn expect_answer(arena: &mut Arena, number: u64) {
 pub(crate) const LENGTHS: u64 = 273;
 
 // Of so many words. The slots are just enough for 64 instructions.
-pub(crate) fn lengths(arena: &mut Arena, used: u64) {
+pub(crate) fn lengths(rt: &impl Print, arena: &mut Arena, used: u64) -> Result<()> {
     start(arena, 85);
     edges::probe(arena, second::LOCK, 0, used);
     edges::expect(arena, only(!is_length(used), 5));
@@ -45,8 +46,9 @@ pub(crate) fn lengths(arena: &mut Arena, used: u64) {
         only(!is_length(used), 5) | only(is_length(used), used / 4),
     );
     if is_end(used) {
-        print::edge(arena, b", instructions ", used / 4);
+        print::edge(rt, arena, b", instructions ", used / 4)?;
     }
+    Ok(())
 }
 
 // ---- how many slots they count as
@@ -81,108 +83,131 @@ fn most(slots: u64) -> u64 {
 // 1 to 64 instructions, with each number of slots.
 pub(crate) const COUNTS: u64 = 9 * 64;
 
-pub(crate) fn counts(arena: &mut Arena, i: u64) {
+pub(crate) fn counts(rt: &impl Print, arena: &mut Arena, i: u64) -> Result<()> {
     let slots = slots_case(i / 64);
     let count = plus(i % 64, 1);
     start(arena, slots);
     edges::probe(arena, second::LOCK, 0, count << 2);
     edges::expect(arena, only(most(slots) < count, 12));
     if count == most(slots) || count == plus(most(slots), 1) {
-        print::counted(b"N ", slots);
-        print::text(b", ");
-        print::edge(arena, b", instructions ", count);
+        print::counted(rt, b"N ", slots)?;
+        print::text(rt, b", ")?;
+        print::edge(rt, arena, b", instructions ", count)?;
     }
+    Ok(())
 }
 
 // ---- the order of the refusals
-fn refused(arena: &mut Arena, call: u64, set: u64, what: &[u8]) {
+fn refused(rt: &impl Print, arena: &mut Arena, call: u64, set: u64, what: &[u8]) -> Result<()> {
     causes::call_with(arena, call, set);
-    print::row(what, arena);
+    print::row(rt, what, arena)
 }
 
-fn lock_order(arena: &mut Arena, i: u64) {
+fn lock_order(rt: &impl Print, arena: &mut Arena, i: u64) -> Result<()> {
     match i {
         0 => refused(
+            rt,
             arena,
             second::LOCK,
             16089,
             b"Lock, causes 1 2 3 5 6 11 12 8 15 9",
         ),
         1 => refused(
+            rt,
             arena,
             second::LOCK,
             16088,
             b"Lock, causes 2 3 5 6 11 12 8 15 9",
         ),
         2 => refused(
+            rt,
             arena,
             second::LOCK,
             16080,
             b"Lock, causes 3 5 6 11 12 8 15 9",
         ),
-        3 => refused(arena, second::LOCK, 16064, b"Lock, causes 5 6 11 12 8 15 9"),
-        4 => refused(arena, second::LOCK, 16000, b"Lock, causes 6 11 12 8 15 9"),
-        5 => refused(arena, second::LOCK, 15872, b"Lock, causes 11 12 8 15 9"),
-        6 => refused(arena, second::LOCK, 15360, b"Lock, causes 12 8 15 9"),
-        7 => refused(arena, second::LOCK, 14336, b"Lock, causes 8 15 9"),
-        8 => refused(arena, second::LOCK, 12288, b"Lock, causes 15 9"),
-        9 => refused(arena, second::LOCK, 8192, b"Lock, cause 9"),
-        _ => refused(arena, second::LOCK, 0, b"Lock, no cause"),
+        3 => refused(
+            rt,
+            arena,
+            second::LOCK,
+            16064,
+            b"Lock, causes 5 6 11 12 8 15 9",
+        ),
+        4 => refused(
+            rt,
+            arena,
+            second::LOCK,
+            16000,
+            b"Lock, causes 6 11 12 8 15 9",
+        ),
+        5 => refused(rt, arena, second::LOCK, 15872, b"Lock, causes 11 12 8 15 9"),
+        6 => refused(rt, arena, second::LOCK, 15360, b"Lock, causes 12 8 15 9"),
+        7 => refused(rt, arena, second::LOCK, 14336, b"Lock, causes 8 15 9"),
+        8 => refused(rt, arena, second::LOCK, 12288, b"Lock, causes 15 9"),
+        9 => refused(rt, arena, second::LOCK, 8192, b"Lock, cause 9"),
+        _ => refused(rt, arena, second::LOCK, 0, b"Lock, no cause"),
     }
 }
 
-fn continue_order(arena: &mut Arena, i: u64) {
+fn continue_order(rt: &impl Print, arena: &mut Arena, i: u64) -> Result<()> {
     match i {
-        0 => refused(arena, second::CONTINUE, 281, b"Continue, causes 1 2 3 7"),
-        1 => refused(arena, second::CONTINUE, 280, b"Continue, causes 2 3 7"),
-        2 => refused(arena, second::CONTINUE, 272, b"Continue, causes 3 7"),
-        3 => refused(arena, second::CONTINUE, 256, b"Continue, cause 7"),
-        4 => refused(arena, second::CONTINUE, 528, b"Continue, causes 3 11"),
-        5 => refused(arena, second::CONTINUE, 512, b"Continue, cause 11"),
-        _ => refused(arena, second::CONTINUE, 0, b"Continue, no cause"),
+        0 => refused(
+            rt,
+            arena,
+            second::CONTINUE,
+            281,
+            b"Continue, causes 1 2 3 7",
+        ),
+        1 => refused(rt, arena, second::CONTINUE, 280, b"Continue, causes 2 3 7"),
+        2 => refused(rt, arena, second::CONTINUE, 272, b"Continue, causes 3 7"),
+        3 => refused(rt, arena, second::CONTINUE, 256, b"Continue, cause 7"),
+        4 => refused(rt, arena, second::CONTINUE, 528, b"Continue, causes 3 11"),
+        5 => refused(rt, arena, second::CONTINUE, 512, b"Continue, cause 11"),
+        _ => refused(rt, arena, second::CONTINUE, 0, b"Continue, no cause"),
     }
 }
 
 // All causes of Lock, then each time without the first one; and those of Continue.
 pub(crate) const ORDER: u64 = 18;
 
-pub(crate) fn order(arena: &mut Arena, i: u64) {
+pub(crate) fn order(rt: &impl Print, arena: &mut Arena, i: u64) -> Result<()> {
     if i < 11 {
-        lock_order(arena, i);
+        lock_order(rt, arena, i)?;
     } else {
-        continue_order(arena, i - 11);
+        continue_order(rt, arena, i - 11)?;
     }
+    Ok(())
 }
 
 // ---- whom it keeps out
 // A call while lane 1 has the lock; lane 0 holds a transaction or not.
-fn kept_out(arena: &mut Arena, call: u64, lane: u64, held: bool) {
+fn kept_out(rt: &impl Print, arena: &mut Arena, call: u64, lane: u64, held: bool) -> Result<()> {
     edges::start(arena);
     edges::prepare(arena, 1, false);
     edges::prepare(arena, 0, held);
     edges::hold_lock(arena, 1);
     let used = edges::used_by(arena, call);
     edges::probe(arena, edges::code_of(call), lane, used);
-    print::edge(arena, b", lane ", lane);
+    print::edge(rt, arena, b", lane ", lane)
 }
 
 pub(crate) const KEPT_OUT: u64 = 24;
 
 // Each call on lane 0 as the call wants it, which has 11 alone, then as it does not want it, and on the lock's own
 // lane.
-pub(crate) fn keeps_out(arena: &mut Arena, i: u64) {
+pub(crate) fn keeps_out(rt: &impl Print, arena: &mut Arena, i: u64) -> Result<()> {
     let call = edges::lane_call(i % 8);
     match i / 8 {
-        0 => kept_out(arena, call, 0, edges::commits(call)),
-        1 => kept_out(arena, call, 0, !edges::commits(call)),
-        _ => kept_out(arena, call, 1, false),
+        0 => kept_out(rt, arena, call, 0, edges::commits(call)),
+        1 => kept_out(rt, arena, call, 0, !edges::commits(call)),
+        _ => kept_out(rt, arena, call, 1, false),
     }
 }
 
 // ---- what is waived
-fn probe(arena: &mut Arena, code: u64, used: u64, what: &[u8]) {
+fn probe(rt: &impl Print, arena: &mut Arena, code: u64, used: u64, what: &[u8]) -> Result<()> {
     edges::probe(arena, code, 0, used);
-    print::row(what, arena);
+    print::row(rt, what, arena)
 }
 
 // The state of a case: the clock spent, past the lag limit, or the next slots those of the newest sequence.
@@ -197,56 +222,57 @@ fn set_cause(arena: &mut Arena, cause: u64) {
 }
 
 // A Lock that writes nothing takes no lock: the SKIP passes over the SET.
-fn no_writes(arena: &mut Arena, cause: u64, what: &[u8]) {
+fn no_writes(rt: &impl Print, arena: &mut Arena, cause: u64, what: &[u8]) -> Result<()> {
     edges::start_for(arena, second::LOCK, 0);
     edges::put_skip(arena);
     set_cause(arena, cause);
-    probe(arena, second::LOCK, 8, what);
+    probe(rt, arena, second::LOCK, 8, what)
 }
 
-fn one_write(arena: &mut Arena, cause: u64, what: &[u8]) {
+fn one_write(rt: &impl Print, arena: &mut Arena, cause: u64, what: &[u8]) -> Result<()> {
     edges::start_for(arena, second::LOCK, 0);
     set_cause(arena, cause);
-    probe(arena, second::LOCK, 4, what);
+    probe(rt, arena, second::LOCK, 4, what)
 }
 
-fn goes_on(arena: &mut Arena, cause: u64, what: &[u8]) {
+fn goes_on(rt: &impl Print, arena: &mut Arena, cause: u64, what: &[u8]) -> Result<()> {
     edges::start_for(arena, second::CONTINUE, 0);
     set_cause(arena, cause);
-    probe(arena, second::CONTINUE, 0, what);
+    probe(rt, arena, second::CONTINUE, 0, what)
 }
 
 // Eighteen instructions, two of them SKIPs that pass over all SETs.
-fn no_writes_long(arena: &mut Arena) {
+fn no_writes_long(rt: &impl Print, arena: &mut Arena) -> Result<()> {
     edges::start_for(arena, second::LOCK, 0);
     edges::put_sets(arena);
     set_row(arena, TXN, 0, 5, 0, 1, 15);
     set_row(arena, TXN, 16, 5, 0, 1, 1);
     probe(
+        rt,
         arena,
         second::LOCK,
         72,
         b"Lock without writes, 18 instructions",
-    );
+    )
 }
 
 pub(crate) const WAIVED: u64 = 13;
 
-pub(crate) fn waived(arena: &mut Arena, i: u64) {
+pub(crate) fn waived(rt: &impl Print, arena: &mut Arena, i: u64) -> Result<()> {
     match i {
-        0 => no_writes(arena, 0, b"Lock without writes"),
-        1 => no_writes(arena, 8, b"Lock without writes, cause 8"),
-        2 => no_writes(arena, 15, b"Lock without writes, cause 15"),
-        3 => no_writes(arena, 9, b"Lock without writes, cause 9"),
-        4 => no_writes(arena, 11, b"Lock without writes, cause 11"),
-        5 => no_writes_long(arena),
-        6 => one_write(arena, 8, b"Lock, cause 8"),
-        7 => one_write(arena, 15, b"Lock, cause 15"),
-        8 => one_write(arena, 9, b"Lock, cause 9"),
-        9 => goes_on(arena, 0, b"Continue"),
-        10 => goes_on(arena, 8, b"Continue, the clock spent"),
-        11 => goes_on(arena, 15, b"Continue, past the lag limit"),
-        _ => goes_on(arena, 9, b"Continue, over the newest sequence"),
+        0 => no_writes(rt, arena, 0, b"Lock without writes"),
+        1 => no_writes(rt, arena, 8, b"Lock without writes, cause 8"),
+        2 => no_writes(rt, arena, 15, b"Lock without writes, cause 15"),
+        3 => no_writes(rt, arena, 9, b"Lock without writes, cause 9"),
+        4 => no_writes(rt, arena, 11, b"Lock without writes, cause 11"),
+        5 => no_writes_long(rt, arena),
+        6 => one_write(rt, arena, 8, b"Lock, cause 8"),
+        7 => one_write(rt, arena, 15, b"Lock, cause 15"),
+        8 => one_write(rt, arena, 9, b"Lock, cause 9"),
+        9 => goes_on(rt, arena, 0, b"Continue"),
+        10 => goes_on(rt, arena, 8, b"Continue, the clock spent"),
+        11 => goes_on(rt, arena, 15, b"Continue, past the lag limit"),
+        _ => goes_on(rt, arena, 9, b"Continue, over the newest sequence"),
     }
 }
 
@@ -351,20 +377,24 @@ fn is_bad(case: u64) -> bool {
     }
 }
 
-fn say(arena: &Arena) {
-    print::called(arena);
-    print::counted(b", lock of lane ", get(arena, RECORD, fields::LOCK_LANE));
-    print::counted(b", stamp ", get(arena, RECORD, fields::LOCK_STAMP));
-    print::counted(b", count ", get(arena, RECORD, fields::LOCK_COUNT));
-    print::counted(b", logged ", get(arena, RECORD, fields::LOCK_LOGGED));
-    print::counted(b", written ", get(arena, RECORD, fields::LOCK_WRITTEN));
-    print::row(b"", arena);
+fn say(rt: &impl Print, arena: &Arena) -> Result<()> {
+    print::called(rt, arena)?;
+    print::counted(
+        rt,
+        b", lock of lane ",
+        get(arena, RECORD, fields::LOCK_LANE),
+    )?;
+    print::counted(rt, b", stamp ", get(arena, RECORD, fields::LOCK_STAMP))?;
+    print::counted(rt, b", count ", get(arena, RECORD, fields::LOCK_COUNT))?;
+    print::counted(rt, b", logged ", get(arena, RECORD, fields::LOCK_LOGGED))?;
+    print::counted(rt, b", written ", get(arena, RECORD, fields::LOCK_WRITTEN))?;
+    print::row(rt, b"", arena)
 }
 
 pub(crate) const RECORDS: u64 = 38 * 8;
 
 // Each case with each call on lane 0. The Drains are printed.
-pub(crate) fn records(arena: &mut Arena, i: u64) {
+pub(crate) fn records(rt: &impl Print, arena: &mut Arena, i: u64) -> Result<()> {
     let call = edges::lane_call(i % 8);
     edges::start(arena);
     edges::prepare(arena, 1, true);
@@ -374,6 +404,7 @@ pub(crate) fn records(arena: &mut Arena, i: u64) {
     edges::probe(arena, edges::code_of(call), 0, used);
     session::expect(arena, (session::refusal(arena) == 2) == is_bad(i / 8));
     if call == second::DRAIN {
-        say(arena);
+        say(rt, arena)?;
     }
+    Ok(())
 }

@@ -3,6 +3,7 @@
 use crate::edges;
 use bench::print;
 use second::words::{Arena, plus};
+use std::io::Result;
 
 fn stamp_of(sequence: u64) -> u64 {
     sequence / 10
@@ -31,18 +32,19 @@ pub(crate) fn put_log(arena: &mut Arena, lane: u64, a: u64, b: u64) {
     put_sequence(arena, lane, 12, b);
 }
 
-fn say_sequence(name: &[u8], sequence: u64) {
-    print::counted(name, stamp_of(sequence));
-    print::counted(b" over ", count_of(sequence));
+fn say_sequence(rt: &impl Print, name: &[u8], sequence: u64) -> Result<()> {
+    print::counted(rt, name, stamp_of(sequence))?;
+    print::counted(rt, b" over ", count_of(sequence))
 }
 
-pub(crate) fn say(a: u64, b: u64) {
+pub(crate) fn say(rt: &impl Print, a: u64, b: u64) -> Result<()> {
     if a == 0 {
-        print::text(b"nothing");
+        print::text(rt, b"nothing")?;
     } else {
-        say_sequence(b"", a);
+        say_sequence(rt, b"", a)?;
     }
     if b != 0 {
-        say_sequence(b", ", b);
+        say_sequence(rt, b", ", b)?;
     }
+    Ok(())
 }

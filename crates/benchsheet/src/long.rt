@@ -5,6 +5,7 @@ use bench::regions::{STORED, STORED_CACHE};
 use bench::{print, session};
 use second::fields;
 use second::words::{Arena, MAX_LAG, TXN, get, set_row};
+use std::io::Result;
 
 // A new store of two words of 0 and two lanes of so many slots.
 fn format(arena: &mut Arena, slots: u64) {
@@ -32,22 +33,24 @@ fn lock(arena: &mut Arena, lane: u64, count: u64) {
 }
 
 // ---- whole
-fn say_left(arena: &Arena) {
+fn say_left(rt: &impl Print, arena: &Arena) -> Result<()> {
     if session::refusal(arena) == 0 {
-        print::counted(b" ", get(arena, STORED, second::ANSWER));
+        print::counted(rt, b" ", get(arena, STORED, second::ANSWER))?;
     } else {
-        print::counted(b", then refused ", session::refusal(arena));
+        print::counted(rt, b", then refused ", session::refusal(arena))?;
     }
+    Ok(())
 }
 
 // Further calls, up to one that is refused.
-fn go_on(arena: &mut Arena) {
+fn go_on(rt: &impl Print, arena: &mut Arena) -> Result<()> {
     for _ in 0..9u64 {
         if session::refusal(arena) == 0 {
             session::call(arena, second::CONTINUE, 0, 0);
-            say_left(arena);
+            say_left(rt, arena)?;
         }
     }
+    Ok(())
 }
 
 fn instructions_case(i: u64) -> u64 {
@@ -65,59 +68,59 @@ pub(crate) const WHOLE: u64 = 6;
 
 // The writes not yet made, as each call answers them; then what is left: the data words, the last commit, and the
 // lane's next slot and floor.
-pub(crate) fn whole(arena: &mut Arena, i: u64) {
+pub(crate) fn whole(rt: &impl Print, arena: &mut Arena, i: u64) -> Result<()> {
     let count = instructions_case(i);
     format(arena, 85);
     lock(arena, 0, count);
-    print::counted(b"Lock of ", count);
-    print::text(b":");
-    say_left(arena);
-    go_on(arena);
-    print::counted(b"; words ", get(arena, STORED_CACHE, 1));
-    print::counted(b" ", get(arena, STORED_CACHE, 2));
-    print::counted(b", last commit ", get(arena, STORED, fields::LAST));
-    print::counted(b", next slot ", get(arena, STORED, fields::NEXT));
-    print::counted(b", floor ", get(arena, STORED, fields::FLOOR));
-    print::text(b"\n");
+    print::counted(rt, b"Lock of ", count)?;
+    print::text(rt, b":")?;
+    say_left(rt, arena)?;
+    go_on(rt, arena)?;
+    print::counted(rt, b"; words ", get(arena, STORED_CACHE, 1))?;
+    print::counted(rt, b" ", get(arena, STORED_CACHE, 2))?;
+    print::counted(rt, b", last commit ", get(arena, STORED, fields::LAST))?;
+    print::counted(rt, b", next slot ", get(arena, STORED, fields::NEXT))?;
+    print::counted(rt, b", floor ", get(arena, STORED, fields::FLOOR))?;
+    print::text(rt, b"\n")
 }
 
 // ---- a list of calls of two lanes
 // While lane 0 has the lock.
-fn stand_by(arena: &mut Arena) {
-    idle::step(arena, second::LOG, 0);
-    idle::step(arena, second::REDO, 1);
-    idle::step(arena, second::MARK, 0);
-    idle::step(arena, second::DRAIN, 0);
-    idle::step(arena, second::CONTINUE, 1);
-    idle::step(arena, second::CONTINUE, 0);
-    idle::step(arena, second::DRAIN, 0);
-    idle::step(arena, second::CONTINUE, 0);
-    idle::step(arena, second::CONTINUE, 0);
-    idle::step(arena, second::DRAIN, 1);
+fn stand_by(rt: &impl Print, arena: &mut Arena) -> Result<()> {
+    idle::step(rt, arena, second::LOG, 0)?;
+    idle::step(rt, arena, second::REDO, 1)?;
+    idle::step(rt, arena, second::MARK, 0)?;
+    idle::step(rt, arena, second::DRAIN, 0)?;
+    idle::step(rt, arena, second::CONTINUE, 1)?;
+    idle::step(rt, arena, second::CONTINUE, 0)?;
+    idle::step(rt, arena, second::DRAIN, 0)?;
+    idle::step(rt, arena, second::CONTINUE, 0)?;
+    idle::step(rt, arena, second::CONTINUE, 0)?;
+    idle::step(rt, arena, second::DRAIN, 1)
 }
 
 // Lane 1 holds a transaction meanwhile, which is stale then; what it wrote over is as it was.
-pub(crate) fn list(arena: &mut Arena) {
+pub(crate) fn list(rt: &impl Print, arena: &mut Arena) -> Result<()> {
     format(arena, 60);
-    idle::step(arena, second::LOG, 1);
+    idle::step(rt, arena, second::LOG, 1)?;
     lock(arena, 0, 17);
-    idle::say(arena, 0);
-    stand_by(arena);
-    go_ahead(arena);
-    idle::recover(arena);
+    idle::say(rt, arena, 0)?;
+    stand_by(rt, arena)?;
+    go_ahead(rt, arena)?;
+    idle::recover(rt, arena)
 }
 
 // Lane 0 has written the last part, and is marked later, so that it holds nothing back.
-fn go_ahead(arena: &mut Arena) {
-    idle::step(arena, second::CONTINUE, 0);
-    idle::step(arena, second::CONTINUE, 0);
-    idle::step(arena, second::REDO, 1);
-    idle::step(arena, second::VALIDATE, 1);
-    idle::step(arena, second::LOG, 1);
-    idle::step(arena, second::REDO, 1);
-    idle::step(arena, second::MARK, 0);
-    idle::step(arena, second::DRAIN, 0);
-    idle::step(arena, second::DRAIN, 1);
+fn go_ahead(rt: &impl Print, arena: &mut Arena) -> Result<()> {
+    idle::step(rt, arena, second::CONTINUE, 0)?;
+    idle::step(rt, arena, second::CONTINUE, 0)?;
+    idle::step(rt, arena, second::REDO, 1)?;
+    idle::step(rt, arena, second::VALIDATE, 1)?;
+    idle::step(rt, arena, second::LOG, 1)?;
+    idle::step(rt, arena, second::REDO, 1)?;
+    idle::step(rt, arena, second::MARK, 0)?;
+    idle::step(rt, arena, second::DRAIN, 0)?;
+    idle::step(rt, arena, second::DRAIN, 1)
 }
 
 // ---- cut in each of its steps
@@ -153,13 +156,13 @@ fn reach(arena: &mut Arena, way: u64) {
     }
 }
 
-fn say_way(way: u64) {
+fn say_way(rt: &impl Print, way: u64) -> Result<()> {
     match way {
-        1 => print::text(b", all written back: "),
-        2 => print::text(b", drained: "),
-        3 => print::text(b", data words written back: "),
-        4 => print::text(b", logs written back: "),
-        _ => print::text(b": "),
+        1 => print::text(rt, b", all written back: "),
+        2 => print::text(rt, b", drained: "),
+        3 => print::text(rt, b", data words written back: "),
+        4 => print::text(rt, b", logs written back: "),
+        _ => print::text(rt, b": "),
     }
 }
 
@@ -167,39 +170,39 @@ fn recover(arena: &mut Arena) {
     scenario::recover(arena, u64::MAX);
 }
 
-fn cut_after(arena: &mut Arena, steps: u64, way: u64) {
+fn cut_after(rt: &impl Print, arena: &mut Arena, steps: u64, way: u64) -> Result<()> {
     take_lock(arena);
     make_steps(arena, steps);
     reach(arena, way);
     recover(arena);
-    print::counted(b"40 writes, steps ", steps);
-    say_way(way);
-    print::left(arena);
+    print::counted(rt, b"40 writes, steps ", steps)?;
+    say_way(rt, way)?;
+    print::left(rt, arena)
 }
 
 // After all six, and a call that appends behind the last part.
-fn cut_behind(arena: &mut Arena, code: u64, way: u64) {
+fn cut_behind(rt: &impl Print, arena: &mut Arena, code: u64, way: u64) -> Result<()> {
     take_lock(arena);
     make_steps(arena, 6);
     idle::call(arena, code, 0);
-    print::text(b"40 writes, steps 6, ");
-    print::called(arena);
+    print::text(rt, b"40 writes, steps 6, ")?;
+    print::called(rt, arena)?;
     reach(arena, way);
     recover(arena);
-    say_way(way);
-    print::left(arena);
+    say_way(rt, way)?;
+    print::left(rt, arena)
 }
 
 pub(crate) const CUTS: u64 = 39;
 
 // None of the 40 writes is left: word 0 is 20, or 19 without the last commit before; or all are, once something that is
 // behind them is drained.
-pub(crate) fn cut(arena: &mut Arena, i: u64) {
+pub(crate) fn cut(rt: &impl Print, arena: &mut Arena, i: u64) -> Result<()> {
     match i {
-        35 => cut_behind(arena, second::MARK, 0),
-        36 => cut_behind(arena, second::MARK, 2),
-        37 => cut_behind(arena, second::LOG, 0),
-        38 => cut_behind(arena, second::LOG, 2),
-        _ => cut_after(arena, i / 5, i % 5),
+        35 => cut_behind(rt, arena, second::MARK, 0),
+        36 => cut_behind(rt, arena, second::MARK, 2),
+        37 => cut_behind(rt, arena, second::LOG, 0),
+        38 => cut_behind(rt, arena, second::LOG, 2),
+        _ => cut_after(rt, arena, i / 5, i % 5),
     }
 }

@@ -4,6 +4,7 @@ use crate::edges;
 use bench::{print, session};
 use second::fields;
 use second::words::{Arena, MIN_SLOTS, TXN, minus, only, plus, set_row};
+use std::io::Result;
 
 // Entries of word 1, old value 5, in four slots of lane 0's log.
 fn four_entries(arena: &mut Arena, slot: u64) {
@@ -138,7 +139,7 @@ pub(crate) fn locking(arena: &mut Arena, i: u64) {
 pub(crate) const MARKED_CASES: u64 = 5 * APPENDS;
 
 // The same where the newer one is a mark, and with a fifth floor. The Marks over that mark are printed.
-pub(crate) fn marked(arena: &mut Arena, i: u64) {
+pub(crate) fn marked(rt: &impl Print, arena: &mut Arena, i: u64) -> Result<()> {
     let other = floor_case(i / APPENDS);
     let next = i / 4 % MIN_SLOTS;
     let writes = writes_case(i % 4);
@@ -146,7 +147,8 @@ pub(crate) fn marked(arena: &mut Arena, i: u64) {
     two_sequences(arena, true);
     append(arena, writes, hits_marked(next, plus(writes, 1), other));
     if i % APPENDS == 1 {
-        print::text(b"Mark over a mark: ");
-        print::floors(arena);
+        print::text(rt, b"Mark over a mark: ")?;
+        print::floors(rt, arena)?;
     }
+    Ok(())
 }

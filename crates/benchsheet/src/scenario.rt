@@ -4,6 +4,7 @@ use crate::{edges, trailers};
 use bench::regions::{IMAGE, SEED, STORED, STORED_NVM};
 use bench::{power, print, session};
 use second::words::{Arena, MAX_LAG, NVM, STATE, TXN, copy, get, put, set_row};
+use std::io::Result;
 
 // The calls of the scenario, and their lanes.
 fn code_of(i: u64) -> u64 {
@@ -24,7 +25,7 @@ fn lane_of(i: u64) -> u64 {
 }
 
 // Lane 0 has a SET of word 0 to 2, lane 1 a COPY of word 0 into word 1.
-fn step(arena: &mut Arena, i: u64) {
+fn step(rt: &impl Print, arena: &mut Arena, i: u64) -> Result<()> {
     let lane = lane_of(i);
     if lane == 0 {
         set_row(arena, TXN, 0, 1, 0, 0, 2);
@@ -32,7 +33,7 @@ fn step(arena: &mut Arena, i: u64) {
         set_row(arena, TXN, 0, 2, 1, 0, 0);
     }
     session::call(arena, code_of(i), lane, 4);
-    print::edge(arena, b", lane ", lane);
+    print::edge(rt, arena, b", lane ", lane)
 }
 
 // A new store, of two words of 0.
@@ -48,11 +49,12 @@ pub(crate) fn format_with(arena: &mut Arena, lag: u64) {
 }
 
 // That, and the six calls.
-fn play(arena: &mut Arena) {
+fn play(rt: &impl Print, arena: &mut Arena) -> Result<()> {
     format(arena);
     for i in 0..6 {
-        step(arena, i);
+        step(rt, arena, i)?;
     }
+    Ok(())
 }
 
 pub(crate) fn write_all_back(arena: &mut Arena) {
@@ -68,17 +70,18 @@ pub(crate) fn recover(arena: &mut Arena, limit: u64) {
     power::recover_within(arena, limit);
 }
 
-pub(crate) fn run(arena: &mut Arena) {
-    play(arena);
+pub(crate) fn run(rt: &impl Print, arena: &mut Arena) -> Result<()> {
+    play(rt, arena)?;
     write_all_back(arena);
     copy(arena, NVM, IMAGE, 0, edges::LENGTH);
     recover(arena, u64::MAX);
-    print::row(b"recovery", arena);
+    print::row(rt, b"recovery", arena)?;
     print::pair(
+        rt,
         b"words ",
         get(arena, STORED_NVM, 1),
         get(arena, STORED_NVM, 2),
-    );
+    )
 }
 
 // How many slots recovery has cleared by half after `limit` stores: the address word of one that holds something, and

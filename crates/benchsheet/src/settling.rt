@@ -8,67 +8,69 @@ use second::fields;
 use second::words::{
     Arena, CACHE, FLAGS, MIN_SLOTS, NVM, RECORD, copy, get, minus, only, plus, set_row,
 };
+use std::io::Result;
 
 // ---- how many words
-fn say(arena: &Arena, used: u64) {
-    print::called(arena);
+fn say(rt: &impl Print, arena: &Arena, used: u64) -> Result<()> {
+    print::called(rt, arena)?;
     if used != 0 {
-        print::counted(b", words ", used);
+        print::counted(rt, b", words ", used)?;
     }
-    print::text(b": ");
-    print::floors(arena);
+    print::text(rt, b": ")?;
+    print::floors(rt, arena)
 }
 
 // Words of a SET, of which four are an instruction.
-fn words_of(arena: &mut Arena, code: u64, used: u64) {
+fn words_of(rt: &impl Print, arena: &mut Arena, code: u64, used: u64) -> Result<()> {
     edges::start_for(arena, code, 0);
     edges::probe(arena, code, 0, used);
     let taken = used == 4 || (used == 0 && code == second::LOG);
     edges::expect(arena, only(!taken, 5));
-    say(arena, used);
+    say(rt, arena, used)
 }
 
 // 5 comes before 7.
-fn validate_idle(arena: &mut Arena) {
+fn validate_idle(rt: &impl Print, arena: &mut Arena) -> Result<()> {
     edges::start_for(arena, second::LOG, 0);
     edges::probe(arena, second::VALIDATE, 0, 0);
     edges::expect(arena, 5);
-    print::row(b"Validate of no words, nothing held", arena);
+    print::row(rt, b"Validate of no words, nothing held", arena)
 }
 
 // Log and Validate of 0 to 4 words, and Validate of none on a lane that holds nothing.
 pub(crate) const WORDS: u64 = 11;
 
-pub(crate) fn words(arena: &mut Arena, i: u64) {
+pub(crate) fn words(rt: &impl Print, arena: &mut Arena, i: u64) -> Result<()> {
     if i < 5 {
-        words_of(arena, second::LOG, i);
+        words_of(rt, arena, second::LOG, i)?;
     } else if i < 10 {
-        words_of(arena, second::VALIDATE, i - 5);
+        words_of(rt, arena, second::VALIDATE, i - 5)?;
     } else {
-        validate_idle(arena);
+        validate_idle(rt, arena)?;
     }
+    Ok(())
 }
 
 // ---- the order of its refusals
-fn refused(arena: &mut Arena, set: u64, what: &[u8]) {
+fn refused(rt: &impl Print, arena: &mut Arena, set: u64, what: &[u8]) -> Result<()> {
     causes::call_with(arena, edges::NO_WORDS, set);
-    print::row(what, arena);
+    print::row(rt, what, arena)
 }
 
 // All of its causes, then each time without the first one.
 pub(crate) const ORDER: u64 = 9;
 
-pub(crate) fn order(arena: &mut Arena, i: u64) {
+pub(crate) fn order(rt: &impl Print, arena: &mut Arena, i: u64) -> Result<()> {
     match i {
-        0 => refused(arena, 15001, b"no words, causes 1 2 3 6 11 8 15 9"),
-        1 => refused(arena, 15000, b"no words, causes 2 3 6 11 8 15 9"),
-        2 => refused(arena, 14992, b"no words, causes 3 6 11 8 15 9"),
-        3 => refused(arena, 14976, b"no words, causes 6 11 8 15 9"),
-        4 => refused(arena, 14848, b"no words, causes 11 8 15 9"),
-        5 => refused(arena, 14336, b"no words, causes 8 15 9"),
-        6 => refused(arena, 12288, b"no words, causes 15 9"),
-        7 => refused(arena, 8192, b"no words, cause 9"),
-        _ => refused(arena, 0, b"no words, no cause"),
+        0 => refused(rt, arena, 15001, b"no words, causes 1 2 3 6 11 8 15 9"),
+        1 => refused(rt, arena, 15000, b"no words, causes 2 3 6 11 8 15 9"),
+        2 => refused(rt, arena, 14992, b"no words, causes 3 6 11 8 15 9"),
+        3 => refused(rt, arena, 14976, b"no words, causes 6 11 8 15 9"),
+        4 => refused(rt, arena, 14848, b"no words, causes 11 8 15 9"),
+        5 => refused(rt, arena, 14336, b"no words, causes 8 15 9"),
+        6 => refused(rt, arena, 12288, b"no words, causes 15 9"),
+        7 => refused(rt, arena, 8192, b"no words, cause 9"),
+        _ => refused(rt, arena, 0, b"no words, no cause"),
     }
 }
 
@@ -145,56 +147,58 @@ fn is_end(i: u64) -> bool {
 pub(crate) const SLOTS: u64 = 2 * SEQUENCES;
 
 // The same is left as by a Mark.
-pub(crate) fn slots(arena: &mut Arena, i: u64) {
+pub(crate) fn slots(rt: &impl Print, arena: &mut Arena, i: u64) -> Result<()> {
     let next = i % MIN_SLOTS;
     let marked = SEQUENCES <= i;
     let other = overwriting::floor_case(i % SEQUENCES / MIN_SLOTS);
     append(arena, second::LOG, next, marked, other);
     if is_end(i) {
-        print::counted(b"no words, next slot ", next);
-        print::text(b": ");
-        print::floors(arena);
+        print::counted(rt, b"no words, next slot ", next)?;
+        print::text(rt, b": ")?;
+        print::floors(rt, arena)?;
     }
     keep(arena, STORED, STORED_CACHE, STORED_NVM, STORED_FLAGS);
     append(arena, second::MARK, next, marked, other);
     session::expect(arena, left_kept(arena));
+    Ok(())
 }
 
 // ---- lists of calls
-fn settle(arena: &mut Arena, lane: u64) {
+fn settle(rt: &impl Print, arena: &mut Arena, lane: u64) -> Result<()> {
     session::call(arena, second::LOG, lane, 0);
-    idle::say(arena, lane);
+    idle::say(rt, arena, lane)
 }
 
 // A lane that holds a transaction: nothing is altered.
-fn settle_held(arena: &mut Arena, lane: u64) {
+fn settle_held(rt: &impl Print, arena: &mut Arena, lane: u64) -> Result<()> {
     keep(arena, RECORD, CACHE, NVM, FLAGS);
-    settle(arena, lane);
+    settle(rt, arena, lane)?;
     edges::expect(arena, 6);
     session::expect(arena, left_kept(arena));
+    Ok(())
 }
 
 // A Log that writes nothing answers count 0 too, without a timestamp.
-fn log_nothing(arena: &mut Arena, lane: u64) {
+fn log_nothing(rt: &impl Print, arena: &mut Arena, lane: u64) -> Result<()> {
     edges::put_skip(arena);
     session::call(arena, second::LOG, lane, 8);
-    idle::say(arena, lane);
+    idle::say(rt, arena, lane)
 }
 
 // A fresh lane, one that is settled, one that holds a transaction, one that has committed.
-pub(crate) fn list(arena: &mut Arena) {
+pub(crate) fn list(rt: &impl Print, arena: &mut Arena) -> Result<()> {
     scenario::format(arena);
-    settle(arena, 0);
-    settle(arena, 0);
-    idle::step(arena, second::LOG, 0);
-    settle_held(arena, 0);
-    idle::step(arena, second::REDO, 0);
-    settle(arena, 0);
-    log_nothing(arena, 0);
-    settle(arena, 1);
-    idle::step(arena, second::DRAIN, 0);
-    idle::step(arena, second::DRAIN, 1);
-    idle::recover(arena);
+    settle(rt, arena, 0)?;
+    settle(rt, arena, 0)?;
+    idle::step(rt, arena, second::LOG, 0)?;
+    settle_held(rt, arena, 0)?;
+    idle::step(rt, arena, second::REDO, 0)?;
+    settle(rt, arena, 0)?;
+    log_nothing(rt, arena, 0)?;
+    settle(rt, arena, 1)?;
+    idle::step(rt, arena, second::DRAIN, 0)?;
+    idle::step(rt, arena, second::DRAIN, 1)?;
+    idle::recover(rt, arena)
 }
 
 fn commit(arena: &mut Arena, lane: u64) {
@@ -203,27 +207,27 @@ fn commit(arena: &mut Arena, lane: u64) {
 }
 
 // Lane 1's floor protects all that lane 0 has in its log, where one slot is free.
-fn fill_but_one(arena: &mut Arena) {
+fn fill_but_one(rt: &impl Print, arena: &mut Arena) -> Result<()> {
     scenario::format(arena);
-    idle::commit(arena, 1);
-    idle::step(arena, second::DRAIN, 1);
+    idle::commit(rt, arena, 1)?;
+    idle::step(rt, arena, second::DRAIN, 1)?;
     idle::fill(arena, 16);
-    settle(arena, 0);
-    idle::step(arena, second::LOG, 0);
-    settle(arena, 0);
-    settle(arena, 0);
-    idle::step(arena, second::MARK, 0);
+    settle(rt, arena, 0)?;
+    idle::step(rt, arena, second::LOG, 0)?;
+    settle(rt, arena, 0)?;
+    settle(rt, arena, 0)?;
+    idle::step(rt, arena, second::MARK, 0)
 }
 
 // Lane 1 is settled, and once it is drained lane 0 overwrites its oldest sequence.
-pub(crate) fn one_slot(arena: &mut Arena) {
-    fill_but_one(arena);
-    settle(arena, 1);
-    settle(arena, 0);
-    idle::step(arena, second::DRAIN, 1);
-    settle(arena, 0);
+pub(crate) fn one_slot(rt: &impl Print, arena: &mut Arena) -> Result<()> {
+    fill_but_one(rt, arena)?;
+    settle(rt, arena, 1)?;
+    settle(rt, arena, 0)?;
+    idle::step(rt, arena, second::DRAIN, 1)?;
+    settle(rt, arena, 0)?;
     scenario::write_all_back(arena);
-    idle::recover(arena);
+    idle::recover(rt, arena)
 }
 
 // ---- power failures
@@ -234,91 +238,100 @@ fn settled(arena: &mut Arena) {
     session::call(arena, second::LOG, 0, 0);
 }
 
-fn recover(arena: &mut Arena, what: &[u8]) {
+fn recover(rt: &impl Print, arena: &mut Arena, what: &[u8]) -> Result<()> {
     scenario::recover(arena, u64::MAX);
-    print::text(what);
-    print::left(arena);
+    print::text(rt, what)?;
+    print::left(rt, arena)
 }
 
 // And then one more call.
-fn settled_then(arena: &mut Arena, code: u64, number: u64, what: &[u8]) {
+fn settled_then(
+    rt: &impl Print,
+    arena: &mut Arena,
+    code: u64,
+    number: u64,
+    what: &[u8],
+) -> Result<()> {
     settled(arena);
     idle::call(arena, code, number);
-    recover(arena, what);
+    recover(rt, arena, what)
 }
 
-fn written_back(arena: &mut Arena) {
+fn written_back(rt: &impl Print, arena: &mut Arena) -> Result<()> {
     settled(arena);
     session::call(arena, second::WRITE_BACK, 7, 0);
     session::call(arena, second::WRITE_BACK, 8, 0);
-    recover(arena, b"settled, its mark written back: ");
+    recover(rt, arena, b"settled, its mark written back: ")
 }
 
-fn drain_both(arena: &mut Arena, what: &[u8]) {
+fn drain_both(rt: &impl Print, arena: &mut Arena, what: &[u8]) -> Result<()> {
     session::call(arena, second::DRAIN, 0, 0);
     session::call(arena, second::DRAIN, 1, 0);
-    recover(arena, what);
+    recover(rt, arena, what)
 }
 
 // The other lane committed before.
-fn behind(arena: &mut Arena) {
+fn behind(rt: &impl Print, arena: &mut Arena) -> Result<()> {
     scenario::format(arena);
     commit(arena, 1);
     commit(arena, 0);
     session::call(arena, second::LOG, 0, 0);
-    drain_both(arena, b"settled, another lane's commit before: ");
+    drain_both(rt, arena, b"settled, another lane's commit before: ")
 }
 
 // It commits afterwards.
-fn ahead(arena: &mut Arena) {
+fn ahead(rt: &impl Print, arena: &mut Arena) -> Result<()> {
     settled(arena);
     commit(arena, 1);
-    drain_both(arena, b"settled, another lane's commit after: ");
+    drain_both(rt, arena, b"settled, another lane's commit after: ")
 }
 
-fn unsettled(arena: &mut Arena) {
+fn unsettled(rt: &impl Print, arena: &mut Arena) -> Result<()> {
     scenario::format(arena);
     commit(arena, 0);
     commit(arena, 1);
-    drain_both(arena, b"not settled, another lane's commit after: ");
+    drain_both(rt, arena, b"not settled, another lane's commit after: ")
 }
 
 // How much of the mark is in non-volatile memory: first none of it, since the word written back is the base timestamp.
-fn cut_mark(arena: &mut Arena, i: u64) {
+fn cut_mark(rt: &impl Print, arena: &mut Arena, i: u64) -> Result<()> {
     match i {
-        0 => settled_then(arena, second::WRITE_BACK, 0, b"settled, not drained: "),
+        0 => settled_then(rt, arena, second::WRITE_BACK, 0, b"settled, not drained: "),
         1 => settled_then(
+            rt,
             arena,
             second::WRITE_BACK,
             7,
             b"settled, its mark's address word: ",
         ),
         2 => settled_then(
+            rt,
             arena,
             second::WRITE_BACK,
             8,
             b"settled, its mark's value word: ",
         ),
-        _ => written_back(arena),
+        _ => written_back(rt, arena),
     }
 }
 
 pub(crate) const CUTS: u64 = 10;
 
 // Once the lane is drained, its commit stays, unless the other lane's holds it back.
-pub(crate) fn cut(arena: &mut Arena, i: u64) {
+pub(crate) fn cut(rt: &impl Print, arena: &mut Arena, i: u64) -> Result<()> {
     match i {
-        4 => settled_then(arena, second::DRAIN, 0, b"settled, drained: "),
-        5 => settled_then(arena, second::LOG, 0, b"settled, drained by a Log: "),
+        4 => settled_then(rt, arena, second::DRAIN, 0, b"settled, drained: "),
+        5 => settled_then(rt, arena, second::LOG, 0, b"settled, drained by a Log: "),
         6 => settled_then(
+            rt,
             arena,
             second::DRAIN,
             1,
             b"settled, the other lane drained: ",
         ),
-        7 => behind(arena),
-        8 => ahead(arena),
-        9 => unsettled(arena),
-        _ => cut_mark(arena, i),
+        7 => behind(rt, arena),
+        8 => ahead(rt, arena),
+        9 => unsettled(rt, arena),
+        _ => cut_mark(rt, arena, i),
     }
 }

@@ -6,6 +6,7 @@ use bench::{power, print, session};
 use second::words::{
     Arena, CACHE, FLAGS, NVM, STATE, TRAILER, TXN, copy, get, minus, plus, put, set_row,
 };
+use std::io::Result;
 
 // The place of the small store's trailer.
 const AT: u64 = edges::FORMER;
@@ -52,69 +53,78 @@ fn set_all(arena: &mut Arena, length: u64) {
 }
 
 // An image so long that ends in these four words, and its refusal, or 0.
-fn ends_in(arena: &mut Arena, a: u64, b: u64, c: u64, d: u64, length: u64, number: u64) {
+fn ends_in(
+    rt: &impl Print,
+    arena: &mut Arena,
+    a: u64,
+    b: u64,
+    c: u64,
+    d: u64,
+    length: u64,
+    number: u64,
+) -> Result<()> {
     start(arena);
     set_all(arena, length);
     put_four(arena, NVM, minus(length, TRAILER), a, b, c, d);
     recover(arena, u64::MAX);
     edges::expect(arena, number);
-    print::trailer(arena);
+    print::trailer(rt, arena)
 }
 
 // ---- trailers that agree
 // What Format writes, over anything: to cache and non-volatile memory.
-fn format(arena: &mut Arena) {
+fn format(rt: &impl Print, arena: &mut Arena) -> Result<()> {
     edges::start(arena);
     put(arena, STATE, SEED, 7);
     power::scramble(arena);
     copy(arena, CACHE, NVM, 0, ROOM);
     session::call(arena, second::FORMAT, 0, 2);
-    print::row(b"Format", arena);
+    print::row(rt, b"Format", arena)?;
     session::expect(arena, stands(arena, STORED_CACHE));
     session::expect(arena, stands(arena, STORED_NVM));
     recover(arena, u64::MAX);
-    print::trailer(arena);
+    print::trailer(rt, arena)
 }
 
 // The words tell where the log is. With 70, 1, 34 it is where lane 1's was; with 2, 1, 68 it is both; with 1, 1, 34 it
 // starts a word earlier, and the slots do not decode.
-pub(crate) fn agreeing(arena: &mut Arena, i: u64) {
+pub(crate) fn agreeing(rt: &impl Print, arena: &mut Arena, i: u64) -> Result<()> {
     match i {
-        0 => format(arena),
-        1 => ends_in(arena, 2, 2, 34, 139, 143, 0),
-        2 => ends_in(arena, 70, 1, 34, 139, 143, 0),
-        3 => ends_in(arena, 2, 1, 68, 139, 143, 0),
-        4 => ends_in(arena, 1, 1, 34, 70, 74, 0),
-        _ => ends_in(arena, 1024, 8, 256, 5121, 5125, 0),
+        0 => format(rt, arena),
+        1 => ends_in(rt, arena, 2, 2, 34, 139, 143, 0),
+        2 => ends_in(rt, arena, 70, 1, 34, 139, 143, 0),
+        3 => ends_in(rt, arena, 2, 1, 68, 139, 143, 0),
+        4 => ends_in(rt, arena, 1, 1, 34, 70, 74, 0),
+        _ => ends_in(rt, arena, 1024, 8, 256, 5121, 5125, 0),
     }
 }
 
 // ---- a word off by one; then W with a last word that agrees with it, and a last word that counts the trailer too
-pub(crate) fn off_by_one(arena: &mut Arena, i: u64) {
+pub(crate) fn off_by_one(rt: &impl Print, arena: &mut Arena, i: u64) -> Result<()> {
     match i {
-        0 => ends_in(arena, 1, 2, 34, 139, 143, 14),
-        1 => ends_in(arena, 3, 2, 34, 139, 143, 14),
-        2 => ends_in(arena, 2, 1, 34, 139, 143, 14),
-        3 => ends_in(arena, 2, 3, 34, 139, 143, 14),
-        4 => ends_in(arena, 2, 2, 33, 139, 143, 14),
-        5 => ends_in(arena, 2, 2, 35, 139, 143, 14),
-        6 => ends_in(arena, 2, 2, 34, 138, 143, 14),
-        7 => ends_in(arena, 2, 2, 34, 140, 143, 14),
-        8 => ends_in(arena, 1, 2, 34, 138, 143, 14),
-        9 => ends_in(arena, 3, 2, 34, 140, 143, 14),
-        _ => ends_in(arena, 2, 2, 34, 143, 143, 14),
+        0 => ends_in(rt, arena, 1, 2, 34, 139, 143, 14),
+        1 => ends_in(rt, arena, 3, 2, 34, 139, 143, 14),
+        2 => ends_in(rt, arena, 2, 1, 34, 139, 143, 14),
+        3 => ends_in(rt, arena, 2, 3, 34, 139, 143, 14),
+        4 => ends_in(rt, arena, 2, 2, 33, 139, 143, 14),
+        5 => ends_in(rt, arena, 2, 2, 35, 139, 143, 14),
+        6 => ends_in(rt, arena, 2, 2, 34, 138, 143, 14),
+        7 => ends_in(rt, arena, 2, 2, 34, 140, 143, 14),
+        8 => ends_in(rt, arena, 1, 2, 34, 138, 143, 14),
+        9 => ends_in(rt, arena, 3, 2, 34, 140, 143, 14),
+        _ => ends_in(rt, arena, 2, 2, 34, 143, 143, 14),
     }
 }
 
 // ---- one size just out of its range, while last word and length agree
-pub(crate) fn out_of_range(arena: &mut Arena, i: u64) {
+pub(crate) fn out_of_range(rt: &impl Print, arena: &mut Arena, i: u64) -> Result<()> {
     match i {
-        0 => ends_in(arena, 0, 1, 69, 139, 143, 14),
-        1 => ends_in(arena, 138, 0, 34, 139, 143, 14),
-        2 => ends_in(arena, 6, 2, 33, 139, 143, 14),
-        3 => ends_in(arena, 1025, 1, 34, 1094, 1098, 14),
-        4 => ends_in(arena, 1, 9, 34, 614, 618, 14),
-        _ => ends_in(arena, 1, 1, 257, 516, 520, 14),
+        0 => ends_in(rt, arena, 0, 1, 69, 139, 143, 14),
+        1 => ends_in(rt, arena, 138, 0, 34, 139, 143, 14),
+        2 => ends_in(rt, arena, 6, 2, 33, 139, 143, 14),
+        3 => ends_in(rt, arena, 1025, 1, 34, 1094, 1098, 14),
+        4 => ends_in(rt, arena, 1, 9, 34, 614, 618, 14),
+        _ => ends_in(rt, arena, 1, 1, 257, 516, 520, 14),
     }
 }
 
@@ -125,62 +135,62 @@ const TWO_62: u64 = TWO_32 << 30;
 
 const TWO_63: u64 = TWO_32 << 31;
 
-pub(crate) fn wrapping(arena: &mut Arena, i: u64) {
+pub(crate) fn wrapping(rt: &impl Print, arena: &mut Arena, i: u64) -> Result<()> {
     match i {
-        0 => ends_in(arena, u64::MAX, 1, 34, 68, 72, 14),
-        1 => ends_in(arena, u64::MAX - 65, 3, 34, 139, 143, 14),
-        2 => ends_in(arena, 1, TWO_63 + 1, 34, 70, 74, 14),
-        3 => ends_in(arena, 1, 1, TWO_63 + 34, 70, 74, 14),
-        4 => ends_in(arena, 2, 2, TWO_62 + 34, 139, 143, 14),
-        5 => ends_in(arena, 138, TWO_32, TWO_32 / 2, 139, 143, 14),
-        6 => ends_in(arena, u64::MAX - 68, 1, 34, 0, 4, 14),
-        7 => ends_in(arena, 0, 0, 0, 1, 5, 14),
-        8 => ends_in(arena, TWO_32 + 2, 2, 34, 139, 143, 14),
-        9 => ends_in(arena, 2, TWO_32 + 2, 34, 139, 143, 14),
-        10 => ends_in(arena, 2, 2, TWO_32 + 34, 139, 143, 14),
-        _ => ends_in(arena, 2, 2, 34, TWO_32 + 139, 143, 14),
+        0 => ends_in(rt, arena, u64::MAX, 1, 34, 68, 72, 14),
+        1 => ends_in(rt, arena, u64::MAX - 65, 3, 34, 139, 143, 14),
+        2 => ends_in(rt, arena, 1, TWO_63 + 1, 34, 70, 74, 14),
+        3 => ends_in(rt, arena, 1, 1, TWO_63 + 34, 70, 74, 14),
+        4 => ends_in(rt, arena, 2, 2, TWO_62 + 34, 139, 143, 14),
+        5 => ends_in(rt, arena, 138, TWO_32, TWO_32 / 2, 139, 143, 14),
+        6 => ends_in(rt, arena, u64::MAX - 68, 1, 34, 0, 4, 14),
+        7 => ends_in(rt, arena, 0, 0, 0, 1, 5, 14),
+        8 => ends_in(rt, arena, TWO_32 + 2, 2, 34, 139, 143, 14),
+        9 => ends_in(rt, arena, 2, TWO_32 + 2, 34, 139, 143, 14),
+        10 => ends_in(rt, arena, 2, 2, TWO_32 + 34, 139, 143, 14),
+        _ => ends_in(rt, arena, 2, 2, 34, TWO_32 + 139, 143, 14),
     }
 }
 
 // ---- images of other lengths
 // Without four words at the end that are meant as a trailer.
-fn bare(arena: &mut Arena, length: u64) {
+fn bare(rt: &impl Print, arena: &mut Arena, length: u64) -> Result<()> {
     start(arena);
     set_all(arena, length);
     recover(arena, u64::MAX);
     edges::expect(arena, 14);
-    print::edge(arena, b", image of ", length);
+    print::edge(rt, arena, b", image of ", length)
 }
 
 // An image of the former length whose last two slots are 66, 1 and 34, 135: both are torn, and look like a trailer.
 // Recovery without sizes cannot know better.
-fn look_alike(arena: &mut Arena) {
-    ends_in(arena, 66, 1, 34, 135, 139, 0);
+fn look_alike(rt: &impl Print, arena: &mut Arena) -> Result<()> {
+    ends_in(rt, arena, 66, 1, 34, 135, 139, 0)?;
     start(arena);
     session::fit_former(arena);
     put_four(arena, NVM, 135, 66, 1, 34, 135);
     session::call(arena, second::RECOVER, u64::MAX, 0);
     edges::expect(arena, 0);
-    print::edge(arena, b", image of ", edges::FORMER);
+    print::edge(rt, arena, b", image of ", edges::FORMER)
 }
 
-pub(crate) fn other_lengths(arena: &mut Arena, i: u64) {
+pub(crate) fn other_lengths(rt: &impl Print, arena: &mut Arena, i: u64) -> Result<()> {
     match i {
-        0 => ends_in(arena, 2, 2, 34, 139, 142, 14),
-        1 => ends_in(arena, 2, 2, 34, 139, 144, 14),
-        2 => ends_in(arena, 2, 2, 34, 139, 4, 14),
-        3 => bare(arena, 0),
-        4 => bare(arena, 3),
-        5 => bare(arena, edges::FORMER),
-        _ => look_alike(arena),
+        0 => ends_in(rt, arena, 2, 2, 34, 139, 142, 14),
+        1 => ends_in(rt, arena, 2, 2, 34, 139, 144, 14),
+        2 => ends_in(rt, arena, 2, 2, 34, 139, 4, 14),
+        3 => bare(rt, arena, 0),
+        4 => bare(rt, arena, 3),
+        5 => bare(rt, arena, edges::FORMER),
+        _ => look_alike(rt, arena),
     }
 }
 
 // ---- the order of the refusals: of lengths, a bad trailer, an odd base timestamp
-fn refused(arena: &mut Arena, number: u64, what: &[u8]) {
+fn refused(rt: &impl Print, arena: &mut Arena, number: u64, what: &[u8]) -> Result<()> {
     recover(arena, u64::MAX);
     edges::expect(arena, number);
-    print::row(what, arena);
+    print::row(rt, what, arena)
 }
 
 fn start_odd(arena: &mut Arena, before: u64) {
@@ -189,41 +199,41 @@ fn start_odd(arena: &mut Arena, before: u64) {
     put(arena, NVM, AT + 3, before);
 }
 
-fn short_cache(arena: &mut Arena) {
+fn short_cache(rt: &impl Print, arena: &mut Arena) -> Result<()> {
     start_odd(arena, 138);
     session::set_lengths(arena, 142, 143, 143);
-    refused(arena, 1, b"cache of 142, bad trailer, odd base");
+    refused(rt, arena, 1, b"cache of 142, bad trailer, odd base")
 }
 
-fn long_flags(arena: &mut Arena) {
+fn long_flags(rt: &impl Print, arena: &mut Arena) -> Result<()> {
     start_odd(arena, 138);
     session::set_lengths(arena, 143, 143, 144);
-    refused(arena, 1, b"flags of 144, bad trailer, odd base");
+    refused(rt, arena, 1, b"flags of 144, bad trailer, odd base")
 }
 
-fn short_memory(arena: &mut Arena) {
+fn short_memory(rt: &impl Print, arena: &mut Arena) -> Result<()> {
     start_odd(arena, 139);
     session::set_lengths(arena, 4, 3, 3);
-    refused(arena, 1, b"cache of 4, memory of 3");
+    refused(rt, arena, 1, b"cache of 4, memory of 3")
 }
 
-fn bad_trailer(arena: &mut Arena) {
+fn bad_trailer(rt: &impl Print, arena: &mut Arena) -> Result<()> {
     start_odd(arena, 138);
-    refused(arena, 14, b"bad trailer, odd base");
+    refused(rt, arena, 14, b"bad trailer, odd base")
 }
 
-fn odd_base(arena: &mut Arena) {
+fn odd_base(rt: &impl Print, arena: &mut Arena) -> Result<()> {
     start_odd(arena, 139);
-    refused(arena, 10, b"odd base");
+    refused(rt, arena, 10, b"odd base")
 }
 
-pub(crate) fn order(arena: &mut Arena, i: u64) {
+pub(crate) fn order(rt: &impl Print, arena: &mut Arena, i: u64) -> Result<()> {
     match i {
-        0 => short_cache(arena),
-        1 => long_flags(arena),
-        2 => short_memory(arena),
-        3 => bad_trailer(arena),
-        _ => odd_base(arena),
+        0 => short_cache(rt, arena),
+        1 => long_flags(rt, arena),
+        2 => short_memory(rt, arena),
+        3 => bad_trailer(rt, arena),
+        _ => odd_base(rt, arena),
     }
 }
 
@@ -246,38 +256,40 @@ fn is_written(arena: &Arena, k: u64) -> bool {
     }
 }
 
-fn write_back(arena: &mut Arena, k: u64) {
+fn write_back(rt: &impl Print, arena: &mut Arena, k: u64) -> Result<()> {
     start_cached(arena, second::WRITE_BACK);
     let word = plus(AT, k);
     session::call(arena, second::WRITE_BACK, word, 0);
-    print::edge(arena, b", word ", word);
+    print::edge(rt, arena, b", word ", word)?;
     session::expect(arena, is_written(arena, k));
+    Ok(())
 }
 
 // A drain of lane 0, by each call that makes one, takes what lane 0 has flushed.
-fn drained(arena: &mut Arena, code: u64) {
+fn drained(rt: &impl Print, arena: &mut Arena, code: u64) -> Result<()> {
     start_cached(arena, code);
     session::call(arena, code, 0, 4);
     edges::expect(arena, 0);
     session::expect(arena, is(arena, STORED_NVM, 100, 2, 102, 103));
-    print::edge(arena, b", lane ", 0);
+    print::edge(rt, arena, b", lane ", 0)
 }
 
-fn recovered(arena: &mut Arena) {
+fn recovered(rt: &impl Print, arena: &mut Arena) -> Result<()> {
     recover(arena, u64::MAX);
     edges::expect(arena, 14);
-    print::trailer(arena);
+    print::trailer(rt, arena)
 }
 
 // Each of its words, each call that drains, and recovery after the last of them.
-pub(crate) fn cached(arena: &mut Arena, i: u64) {
+pub(crate) fn cached(rt: &impl Print, arena: &mut Arena, i: u64) -> Result<()> {
     if i < 4 {
-        write_back(arena, i);
+        write_back(rt, arena, i)?;
     } else if i < 9 {
-        drained(arena, i - 3);
+        drained(rt, arena, i - 3)?;
     } else {
-        recovered(arena);
+        recovered(rt, arena)?;
     }
+    Ok(())
 }
 
 // ---- recovery cut: there are 138 stores, an entry, the base timestamp and 136 log words, and none to the trailer
@@ -291,10 +303,11 @@ fn limit_case(i: u64) -> u64 {
     }
 }
 
-pub(crate) fn cut(arena: &mut Arena, i: u64) {
+pub(crate) fn cut(rt: &impl Print, arena: &mut Arena, i: u64) -> Result<()> {
     start(arena);
     recover(arena, limit_case(i));
-    print::edge(arena, b", limit ", limit_case(i));
+    print::edge(rt, arena, b", limit ", limit_case(i))?;
     session::expect(arena, stands(arena, STORED_NVM));
     session::expect(arena, stands(arena, STORED_CACHE) == (4 <= i));
+    Ok(())
 }
