@@ -15,7 +15,7 @@ CAMEL = re.compile(r"(^|[-_])[a-z][a-z0-9]*[A-Z]")
 WORD = re.compile(r"[A-Za-z][\w'-]*")
 # Lemmas with the words of a definition: their hyphen tells them apart.
 HYPHEN = """entry_in in_lane left_by kept_by lane_room all_words too_long settle_step after_drain closing_at is_below
-left_after olds_of with_all lane_in over_first first_part too_far goes_on""".split()
+left_after olds_of with_all lane_in over_first first_part too_far goes_on odd_base part_length two_lanes""".split()
 
 
 def snake(word):
@@ -34,7 +34,7 @@ def respelled(text):
 
 def hyphens(text):
     for w in HYPHEN:
-        text = re.sub(r"(?<![\w.'-])" + w + r"(?![\w'-])", w.replace("_", "-"), text)
+        text = re.sub(r"(?<![\w.:'-])" + w + r"(?![\w'-])", w.replace("_", "-"), text)
     return text
 
 
