@@ -1,6 +1,6 @@
 /* Two counters that survive kill -9 at any time. `counters FILE [COUNT]` adds 1 to both, COUNT times or for ever, in a store in FILE, and prints each sum that no kill can undo.
  *
- *   cc -std=c99 -O2 -Wall -Wextra -pedantic -Werror -I include examples/counters.c target/staticlib/libvandzulge.a -o counters
+ *   cc -std=c99 -O2 -Wall -Wextra -pedantic -Werror -I include examples/counters.c crates/vandzulge/out/libvandzulge.a -o counters
  *
  * The mapped file stands for the persistent memory: of a process that is killed the kernel keeps all stores, in order. With power cuts that is not so: for those nvm must be
  * persistent memory, and docs/INTEGRATION.md says what to flush. Exit code: 0 done, 1 a refusal or an error, 2 usage. */

@@ -1,4 +1,4 @@
-/* Vandzulge: a transactional store for persistent memory. Link with libvandzulge.a (x86-64; written by `rt staticlib vandzulge`).
+/* Vandzulge: a transactional store for persistent memory. Link with libvandzulge.a (x86-64; written by `rt lib` in crates/vandzulge).
  * First what a new user needs, then the reference. docs/INTEGRATION.md is the long form of the first part; examples/counters.c is a whole program to copy.
  *
  * ==== Quick start
@@ -49,7 +49,7 @@
  *     earlier stores anew, so that a word which is undone twice has for a moment the first of these two values again, and the base word, behind which nothing is undone any more,
  *     may become persistent in that moment.
  * Format is not safe against power cuts: have a sign of your own that one is complete, as the example has in the name of its file. A trailer is no sign.
- * Stack: 27 KB for recovery, 7 for Lock, 6 for Format, less than 3 for every other call. docs/PERFORMANCE.md has the time that each call takes.
+ * Stack: 27 KB for recovery, 7 for Lock, 6 for Format, less than 3 for every other call (as the older toolchain compiled them). docs/PERFORMANCE.md has the time that each call takes.
  *
  * ==== What the caller owes
  * At every power-up recovery comes first, until it has finished, before any other call but Format. Every call gets the sizes and buffers as the last one left them: nobody else

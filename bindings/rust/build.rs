@@ -1,4 +1,4 @@
-//! Links the store's static library, which `rt staticlib vandzulge` writes in the repository's root.
+//! Links the store's static library, which `rt lib` in `crates/vandzulge` writes.
 
 use std::path::{Path, PathBuf};
 
@@ -9,7 +9,7 @@ fn main() {
     let crate_dir = PathBuf::from(std::env::var_os("CARGO_MANIFEST_DIR").expect("cargo sets CARGO_MANIFEST_DIR"));
     let folder = match std::env::var_os(VARIABLE) {
         Some(folder) => PathBuf::from(folder),
-        None => Path::new("../../target/staticlib").to_path_buf(),
+        None => Path::new("../../crates/vandzulge/out").to_path_buf(),
     };
     // what is relative is so to the crate, where cargo runs this
     let folder = crate_dir.join(folder);
@@ -18,7 +18,7 @@ fn main() {
     println!("cargo:rerun-if-changed={}", library.display());
     if !library.is_file() {
         eprintln!("error: the store's static library is missing: {}", library.display());
-        eprintln!("  make it with `rt staticlib vandzulge`, in the repository's root,");
+        eprintln!("  make it with `rt lib`, in the repository's crates/vandzulge,");
         eprintln!("  or set {VARIABLE} to the folder that holds libvandzulge.a");
         std::process::exit(1);
     }
