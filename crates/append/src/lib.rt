@@ -1,52 +1,28 @@
 // The calls that append a sequence to a lane's log: Log, which settles the lane where it is given no words, and Mark.
+// Kept: a lane is a number below 8, in clauses and not in a type, as in codec::read.
 #![tactic(auto)]
 
 ghost use Rattle.std.specs.Prelude.{◌≡◌, true, List, [], ◌++◌, ℕ, ◌+◌, ◌<◌, length, take};
 ghost use Rattle.txn.specs.Txn.{max_writes, txn_ok, run};
-ghost use Rattle.txn.specs.inner.Writes.{writes_of};
 ghost use Rattle.image.specs.Image.{max_lanes, data_of, log_start};
 ghost use Rattle.image.specs.inner.Facts.{IsImage};
 ghost use Rattle.image.specs.Flush.{flush_all};
 ghost use Rattle.image.specs.Stores.{stored, places};
 ghost use Rattle.lane_log.specs.Log.{latest_in};
 ghost use Rattle.lane_log.specs.Append.{advance, append_stores};
-ghost use Rattle.codec.specs.Fields.{record_length, record_of, words_of};
+ghost use Rattle.codec.specs.Fields.{record_of, words_of};
 ghost use Rattle.store.specs.Calls.{log_refusal, log_step, mark_refusal, mark_step};
-ghost use Rattle.store.specs.declared.Answer.{Answer};
-ghost use Rattle.store.specs.Machine.{said};
-ghost use Rattle.store.specs.Interface.{machine_of, machine_in, kept_by, keeps};
+ghost use Rattle.store.specs.Interface.{refusal_of, answer_of, machine_of, machine_in, kept_by, keeps};
 ghost use Rattle.store.specs.inner.Checked.{drained_state};
 ghost use Rattle.append.specs.inner.Plans.{room_refusal, log_checks, log_room, Planned, Searchable, Appendable};
 ghost use Rattle.append.specs.inner.Plans.{AfterDrain, appended_state, logged_step, marked_step};
 
 use codec::RECORD_WORDS;
 use image::Sizes;
-use lane_log::{Cursor, Latest};
-use record::Phase;
-use store::{Answer, Appended, Marked};
-use txn::Writes;
-
-// What Log or Mark would do: the number of its refusal or 0, and, where it is 0, the lane's latest sequence, from which
-// its drain takes the floor.
-#[derive(Clone, Copy)]
-struct Plan {
-    number: u64,
-    latest: Latest,
-}
-
-// No writes.
-fn none() -> Writes
-    ensures { result ≡ writes_of max_writes [] }
-{
-    Writes {
-        count: 0,
-        list: [txn::Write {
-            word: 0,
-            old: 0,
-            new: 0,
-        }; txn::MAX_WRITES],
-    }
-}
+use lane_log::{Cursor, Log, Sequence};
+use record::Logged;
+use store::{Answer, Appended, Marked, Refusal};
+use txn::{MAX_WRITES, Write};
 
 // Refusals 8, 15 and 9 of a call that appends `count` slots: the clock is spent; the new timestamp is more than the lag
 // limit above the lower bound, where the limit binds the call; a slot of a sequence at or above the lower bound would
@@ -54,20 +30,19 @@ fn none() -> Writes
 // the append writes and 16 more.
 pub fn append_refusal(
     sizes: Sizes,
-    words: &[u64],
-    latest: Latest,
+    words: &[u64; RECORD_WORDS],
+    latest: Option<Sequence>,
     cache: &[u64],
     lane: usize,
     count: usize,
     binds: bool,
-) -> u64
-    requires words_len { length words.now ≡ record_length }
+) -> Result<(), Refusal>
     requires searchable { Searchable sizes (record_of words.now) latest cache.now lane count }
-    ensures { result
+    ensures { refusal_of result
         ≡ room_refusal sizes (record_of words.now) cache.now lane count binds }
 {
     if codec::read::spent(words) {
-        return 8;
+        return Err(Refusal::ClockSpent);
     }
     let floor = record::floor_after_drain(latest, codec::read::floor(words, lane));
     let bound = codec::read::bound(sizes, words, lane, floor);
@@ -78,22 +53,14 @@ pub fn append_refusal(
             bound,
         )
     {
-        return 15;
+        return Err(Refusal::WouldLag);
     }
     let cursor = codec::read::cursor(words, lane);
-    let log = image::log_part(sizes, cache, lane);
-    if lane_log::search::would_hit(
-        log,
-        sizes.words,
-        sizes.slots,
-        cache[0],
-        cursor.slot,
-        count,
-        bound,
-    ) {
-        return 9;
+    let log = Log::of(sizes, cache, lane);
+    if log.would_hit(cursor.slot, count, bound) {
+        return Err(Refusal::WouldHit);
     }
-    0
+    Ok(())
 }
 
 // Log's refusals before it runs the transaction. No words are no transaction to be checked.
@@ -105,27 +72,24 @@ fn log_checks(
     flags: &[u8],
     lane: usize,
     txn: &[u64],
-) -> u64
-    ensures { result ≡ log_checks sizes lane txn.now
+) -> Result<(), Refusal>
+    ensures { refusal_of result ≡ log_checks sizes lane txn.now
         (machine_in state.now cache.now nvm.now flags.now) }
 {
-    let number = store::drain_refusal(sizes, state, cache, nvm, flags, lane);
-    if number != 0 {
-        return number;
+    store::drain_refusal(sizes, state, cache, nvm, flags, lane)?;
+    if txn.len() != 0 && !txn::txn_ok(txn, sizes.words, MAX_WRITES) {
+        return Err(Refusal::BadTxn);
     }
-    if txn.len() != 0 && !txn::txn_ok(txn, sizes.words, txn::MAX_WRITES) {
-        return 5;
-    }
-    let words = &state[..RECORD_WORDS];
+    let words = state.first_chunk().unwrap();
     let phase = codec::read::phase(words, lane);
-    if record::is_logged(phase) {
-        return 6;
+    if phase.is_some() {
+        return Err(Refusal::AlreadyLogged);
     }
     let lock = codec::read::lock(words);
-    if record::is_held(lock) {
-        return 11;
+    if lock.is_some() {
+        return Err(Refusal::LockHeld);
     }
-    0
+    Ok(())
 }
 
 // How much a transaction writes on the cached data words; no words write nothing.
@@ -137,21 +101,19 @@ fn count_of(sizes: Sizes, cache: &[u64], txn: &[u64]) -> usize
     if txn.len() == 0 {
         return 0;
     }
-    let writes = store::writes_on(sizes, cache, txn);
-    writes.count
+    store::writes_on::<MAX_WRITES>(sizes, cache, txn).len()
 }
 
 // What a Log would do that its checks do not refuse and that has this many writes: an append, where it settles the lane
-// or writes.
+// or writes. It is refused, or finds the lane's latest sequence, from which its drain takes the floor.
 fn plan_log(
     sizes: Sizes,
-    words: &[u64],
+    words: &[u64; RECORD_WORDS],
     cache: &[u64],
     lane: usize,
     settles: bool,
     count: usize,
-) -> Plan
-    requires words_len { length words.now ≡ record_length }
+) -> Result<Option<Sequence>, Refusal>
     requires searchable { Searchable sizes (record_of words.now) (latest_in sizes cache.now lane) cache.now lane
         (count + 1) }
     ensures { Planned result
@@ -160,15 +122,13 @@ fn plan_log(
 {
     let latest = store::latest_near(sizes, words, cache, lane);
     if !settles && count == 0 {
-        return Plan { number: 0, latest };
+        return Ok(latest);
     }
-    Plan {
-        number: append_refusal(sizes, words, latest, cache, lane, count + 1, true),
-        latest,
-    }
+    append_refusal(sizes, words, latest, cache, lane, count + 1, true)?;
+    Ok(latest)
 }
 
-// The number of Log's refusal, or 0.
+// Would Log be refused?
 pub fn log_refusal(
     sizes: Sizes,
     state: &[u64],
@@ -177,18 +137,22 @@ pub fn log_refusal(
     flags: &[u8],
     lane: usize,
     txn: &[u64],
-) -> u64
-    ensures { result ≡ log_refusal sizes lane txn.now
+) -> Result<(), Refusal>
+    ensures { refusal_of result ≡ log_refusal sizes lane txn.now
         (machine_in state.now cache.now nvm.now flags.now) }
 {
-    let number = log_checks(sizes, state, cache, nvm, flags, lane, txn);
-    if number != 0 {
-        return number;
-    }
+    log_checks(sizes, state, cache, nvm, flags, lane, txn)?;
     let count = count_of(sizes, cache, txn);
     let settles = txn.len() == 0;
-    let plan = plan_log(sizes, &state[..RECORD_WORDS], cache, lane, settles, count);
-    plan.number
+    plan_log(
+        sizes,
+        state.first_chunk().unwrap(),
+        cache,
+        lane,
+        settles,
+        count,
+    )?;
+    Ok(())
 }
 
 // A sequence of these writes at this timestamp, appended to a lane's log at a cursor; the place after it. All cached
@@ -198,18 +162,16 @@ pub fn append(
     cache: &mut [u64],
     flags: &mut [u8],
     lane: usize,
-    writes: Writes,
+    writes: &[Write],
     stamp: u64,
     cursor: Cursor,
 ) -> Cursor
-    requires { Appendable sizes cursor cache.old flags.old lane writes stamp }
-    ensures after { result ≡ advance sizes.slots (writes.count + 1) cursor }
+    requires { Appendable sizes cursor cache.old flags.old lane writes.now stamp }
+    ensures after { result ≡ advance sizes.slots (length writes.now + 1) cursor }
     ensures written { cache.new
-        ≡ stored (append_stores (log_start sizes lane) sizes.slots stamp cursor
-        (take writes.count writes.list)) cache.old }
+        ≡ stored (append_stores (log_start sizes lane) sizes.slots stamp cursor writes.now) cache.old }
     ensures flushed { flags.new
-        ≡ flush_all lane (places (append_stores (log_start sizes lane) sizes.slots stamp cursor
-        (take writes.count writes.list))) flags.old }
+        ≡ flush_all lane (places (append_stores (log_start sizes lane) sizes.slots stamp cursor writes.now)) flags.old }
 {
     let start = image::log_start(sizes, lane);
     lane_log::tail::append(
@@ -225,17 +187,17 @@ pub fn append(
 }
 
 // Stores the record after an append at a new timestamp, which ended at a cursor and leaves the lane with this phase.
-// Before it the lane was drained, and its latest sequence found.
+// Before it the lane was drained, and its latest sequence found. Kept: a lane is a number and no type of its own, for the
+// reason in `codec::read`.
 fn put_appended(
-    words: &mut [u64],
+    words: &mut [u64; RECORD_WORDS],
     lane: usize,
-    latest: Latest,
+    latest: Option<Sequence>,
     stamp: u64,
     end: Cursor,
-    phase: Phase,
+    phase: Option<Logged>,
 )
-    requires words_len { length words.old ≡ record_length }
-    requires lane_lt_max_lanes { lane < max_lanes }
+    requires { lane < max_lanes }
     ensures { words.new
         ≡ words_of (appended_state (record_of words.old) lane latest stamp end phase) }
 {
@@ -254,25 +216,24 @@ fn put_appended(
 // Log of a transaction that writes, once its lane is drained. The record is still the one before the drain.
 fn log_writes(
     sizes: Sizes,
-    words: &mut [u64],
-    latest: Latest,
+    words: &mut [u64; RECORD_WORDS],
+    latest: Option<Sequence>,
     cache: &mut [u64],
     flags: &mut [u8],
     lane: usize,
-    writes: Writes,
+    writes: &[Write],
 ) -> Answer
-    requires words_len { length words.old ≡ record_length }
-    requires after_drain { AfterDrain sizes (record_of words.old) latest cache.old flags.old lane writes }
+    requires after_drain { AfterDrain sizes (record_of words.old) latest cache.old flags.old lane writes.now }
     ensures { (before pairs nvm : List ℕ)
-        → kept_by result (words.new ++ pairs) cache.new nvm flags.new
-        ≡ keeps before (logged_step sizes lane (take writes.count writes.list)
+        → kept_by (answer_of (Ok result)) (words.new ++ pairs) cache.new nvm flags.new
+        ≡ keeps before (logged_step sizes lane writes.now
         (machine_of (drained_state sizes cache.old lane (record_of words.old)) pairs
         cache.old nvm flags.old)) }
 {
-    let count = writes.count;
+    let count = writes.len();
     let stamp = codec::read::clock(words) + 2;
     let cursor = codec::read::cursor(words, lane);
-    let phase = Phase::Holds(record::Logged {
+    let phase = Some(record::Logged {
         first: cursor.slot,
         count,
         stamp,
@@ -286,25 +247,24 @@ fn log_writes(
 // A mark on a drained lane, which then holds nothing: its timestamp. The record is still the one before the drain.
 fn put_mark(
     sizes: Sizes,
-    words: &mut [u64],
-    latest: Latest,
+    words: &mut [u64; RECORD_WORDS],
+    latest: Option<Sequence>,
     cache: &mut [u64],
     flags: &mut [u8],
     lane: usize,
 ) -> u64
-    requires words_len { length words.old ≡ record_length }
-    requires after_drain { AfterDrain sizes (record_of words.old) latest cache.old flags.old lane (writes_of max_writes []) }
+    requires after_drain { AfterDrain sizes (record_of words.old) latest cache.old flags.old lane [] }
     ensures stamp { result ≡ (record_of words.old).clock + 2 }
-    ensures marked { (before pairs nvm : List ℕ) (answer : Answer) → (said answer).number ≡ 0
-        → kept_by answer (words.new ++ pairs) cache.new nvm flags.new
-        ≡ keeps before (marked_step sizes lane answer
+    ensures marked { (before pairs nvm : List ℕ) (answer : Answer)
+        → kept_by (answer_of (Ok answer)) (words.new ++ pairs) cache.new nvm flags.new
+        ≡ keeps before (marked_step sizes lane (answer_of (Ok answer))
         (machine_of (drained_state sizes cache.old lane (record_of words.old)) pairs
         cache.old nvm flags.old)) }
 {
     let stamp = codec::read::clock(words) + 2;
     let cursor = codec::read::cursor(words, lane);
-    let end = append(sizes, cache, flags, lane, none(), stamp, cursor);
-    put_appended(words, lane, latest, stamp, end, Phase::Idle);
+    let end = append(sizes, cache, flags, lane, &[], stamp, cursor);
+    put_appended(words, lane, latest, stamp, end, None);
     stamp
 }
 
@@ -316,21 +276,16 @@ fn settle(
     nvm: &mut [u64],
     flags: &mut [u8],
     lane: usize,
-) -> Answer
+) -> Result<Answer, Refusal>
     requires { log_checks sizes lane [] (machine_in state.old cache.old nvm.old flags.old) ≡ 0 }
-    ensures { kept_by result state.new cache.new nvm.new flags.new
+    ensures { kept_by (answer_of result) state.new cache.new nvm.new flags.new
         ≡ keeps state.old (log_step sizes lane []
         (machine_in state.old cache.old nvm.old flags.old)) }
 {
-    let plan = plan_log(sizes, &state[..RECORD_WORDS], cache, lane, true, 0);
-    let number = plan.number;
-    let latest = plan.latest;
-    if number != 0 {
-        return Answer::Refused(number);
-    }
+    let latest = plan_log(sizes, state.first_chunk().unwrap(), cache, lane, true, 0)?;
     image::flush::drain(lane, cache, nvm, flags);
-    let words = &mut state[..RECORD_WORDS];
-    Answer::Settled(put_mark(sizes, words, latest, cache, flags, lane))
+    let words = state.first_chunk_mut().unwrap();
+    Ok(Answer::Settled(put_mark(sizes, words, latest, cache, flags, lane)))
 }
 
 // Log of a transaction, which its checks do not refuse.
@@ -342,34 +297,30 @@ fn log_txn(
     flags: &mut [u8],
     lane: usize,
     txn: &[u64],
-) -> Answer
+) -> Result<Answer, Refusal>
     requires flags_value { log_checks sizes lane txn.now (machine_in state.old cache.old nvm.old flags.old) ≡ 0 }
     requires fact { length txn.now ≡ 0 → ⊥ }
-    ensures { kept_by result state.new cache.new nvm.new flags.new
+    ensures { kept_by (answer_of result) state.new cache.new nvm.new flags.new
         ≡ keeps state.old (log_step sizes lane txn.now
         (machine_in state.old cache.old nvm.old flags.old)) }
 {
-    let writes = store::writes_on(sizes, cache, txn);
-    let plan = plan_log(
+    let writes = store::writes_on::<MAX_WRITES>(sizes, cache, txn);
+    let writes = writes.as_slice();
+    let latest = plan_log(
         sizes,
-        &state[..RECORD_WORDS],
+        state.first_chunk().unwrap(),
         cache,
         lane,
         false,
-        writes.count,
-    );
-    let number = plan.number;
-    let latest = plan.latest;
-    if number != 0 {
-        return Answer::Refused(number);
-    }
+        writes.len(),
+    )?;
     image::flush::drain(lane, cache, nvm, flags);
-    let words = &mut state[..RECORD_WORDS];
-    if writes.count == 0 {
+    let words = state.first_chunk_mut().unwrap();
+    if writes.is_empty() {
         store::put_drained(words, lane, latest);
-        return Answer::NoWrites;
+        return Ok(Answer::NoWrites);
     }
-    log_writes(sizes, words, latest, cache, flags, lane, writes)
+    Ok(log_writes(sizes, words, latest, cache, flags, lane, writes))
 }
 
 // Logs a transaction: its run on the cached words is left as undo entries in the log and as the redo log in the record.
@@ -383,21 +334,19 @@ pub fn log(
     flags: &mut [u8],
     lane: usize,
     txn: &[u64],
-) -> Answer
-    ensures { kept_by result state.new cache.new nvm.new flags.new
+) -> Result<Answer, Refusal>
+    ensures { kept_by (answer_of result) state.new cache.new nvm.new flags.new
         ≡ keeps state.old (log_step sizes lane txn.now
         (machine_in state.old cache.old nvm.old flags.old)) }
 {
-    let number = log_checks(sizes, state, cache, nvm, flags, lane, txn);
-    if number != 0 {
-        return Answer::Refused(number);
-    }
+    log_checks(sizes, state, cache, nvm, flags, lane, txn)?;
     if txn.len() == 0 {
         return settle(sizes, state, cache, nvm, flags, lane);
     }
     log_txn(sizes, state, cache, nvm, flags, lane, txn)
 }
 
+// What Mark would do: it is refused, or finds the lane's latest sequence, from which its drain takes the floor.
 fn plan_mark(
     sizes: Sizes,
     state: &[u64],
@@ -405,35 +354,24 @@ fn plan_mark(
     nvm: &[u64],
     flags: &[u8],
     lane: usize,
-) -> Plan
+) -> Result<Option<Sequence>, Refusal>
     ensures { Planned result
         (mark_refusal sizes lane
         (machine_in state.now cache.now nvm.now flags.now))
         (latest_in sizes cache.now lane) }
 {
-    let number = store::drain_refusal(sizes, state, cache, nvm, flags, lane);
-    if number != 0 {
-        return Plan {
-            number,
-            latest: Latest::Nothing,
-        };
-    }
-    let words = &state[..RECORD_WORDS];
+    store::drain_refusal(sizes, state, cache, nvm, flags, lane)?;
+    let words = state.first_chunk().unwrap();
     let lock = codec::read::lock(words);
-    if record::is_held(lock) {
-        return Plan {
-            number: 11,
-            latest: Latest::Nothing,
-        };
+    if lock.is_some() {
+        return Err(Refusal::LockHeld);
     }
     let latest = store::latest_near(sizes, words, cache, lane);
-    Plan {
-        number: append_refusal(sizes, words, latest, cache, lane, 1, false),
-        latest,
-    }
+    append_refusal(sizes, words, latest, cache, lane, 1, false)?;
+    Ok(latest)
 }
 
-// The number of Mark's refusal, or 0.
+// Would Mark be refused?
 pub fn mark_refusal(
     sizes: Sizes,
     state: &[u64],
@@ -441,12 +379,12 @@ pub fn mark_refusal(
     nvm: &[u64],
     flags: &[u8],
     lane: usize,
-) -> u64
-    ensures { result ≡ mark_refusal sizes lane
+) -> Result<(), Refusal>
+    ensures { refusal_of result ≡ mark_refusal sizes lane
         (machine_in state.now cache.now nvm.now flags.now) }
 {
-    let plan = plan_mark(sizes, state, cache, nvm, flags, lane);
-    plan.number
+    plan_mark(sizes, state, cache, nvm, flags, lane)?;
+    Ok(())
 }
 
 // Appends a timestamp over no entries; a logged transaction of the lane is dropped. One pass over the flags, one over
@@ -458,21 +396,16 @@ pub fn mark(
     nvm: &mut [u64],
     flags: &mut [u8],
     lane: usize,
-) -> Answer
-    ensures { kept_by result state.new cache.new nvm.new flags.new
+) -> Result<Answer, Refusal>
+    ensures { kept_by (answer_of result) state.new cache.new nvm.new flags.new
         ≡ keeps state.old (mark_step sizes lane
         (machine_in state.old cache.old nvm.old flags.old)) }
 {
-    let plan = plan_mark(sizes, state, cache, nvm, flags, lane);
-    let number = plan.number;
-    let latest = plan.latest;
-    if number != 0 {
-        return Answer::Refused(number);
-    }
+    let latest = plan_mark(sizes, state, cache, nvm, flags, lane)?;
     image::flush::drain(lane, cache, nvm, flags);
-    let words = &mut state[..RECORD_WORDS];
+    let words = state.first_chunk_mut().unwrap();
     let phase = codec::read::phase(words, lane);
-    let dropped = record::is_logged(phase);
+    let dropped = phase.is_some();
     let stamp = put_mark(sizes, words, latest, cache, flags, lane);
-    Answer::Marked(Marked { stamp, dropped })
+    Ok(Answer::Marked(Marked { stamp, dropped }))
 }

@@ -1,2 +1,3 @@
 -- How the code goes and why it is right: need not be believed.
+pub mod Lengths
 pub mod Run

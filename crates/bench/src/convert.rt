@@ -1,241 +1,200 @@
-// The store's sizes, record and answers in the words of the second implementation, and back.
+// The store's sizes, record and answers in those of the second implementation, and back.
+// Kept: functions in place of From, for neither side's types are this crate's own, and wrappers would be no plainer.
 ghost use Rattle.std.specs.Prelude.{◌≡◌, length};
 ghost use Rattle.codec.specs.Fields.{state_length};
 
-use crate::regions::STORED;
-use codec::RECORD_WORDS;
-use image::{MAX_LANES, Sizes};
-use lane_log::Timestamp;
-use record::{Lane, Lock, Locked, Logged, Pair, Phase, Record};
-use second::fields;
-use second::words::{
-    Arena, LANES, RECORD, SLOTS, STATE, WORDS, cell, clear, get, plus, put, set_row,
-};
-use txn::MAX_WRITES;
+use codec::{RECORD_WORDS, STATE_WORDS};
+use image::Sizes;
+use record::{Locked, Logged};
+use recovery::Finished;
+use second::records::{Held, Lane, Lock, Pair, Record};
+use second::{Answer, Refusal};
 
-pub(crate) fn sizes(arena: &Arena) -> Sizes {
+pub(crate) fn sizes(sizes: &second::image::Sizes) -> Sizes {
     Sizes {
-        words: get(arena, STATE, WORDS) as usize,
-        lanes: get(arena, STATE, LANES) as usize,
-        slots: get(arena, STATE, SLOTS) as usize,
+        words: sizes.words as usize,
+        lanes: sizes.lanes as usize,
+        slots: sizes.slots as usize,
     }
 }
 
-fn phase_from(arena: &Arena, lane: u64) -> Phase {
-    if fields::field(arena, lane, fields::HELD) == 0 {
-        return Phase::Idle;
+fn pair_to(pair: Pair) -> record::Pair {
+    record::Pair {
+        word: pair.word as usize,
+        value: pair.value,
     }
-    Phase::Holds(Logged {
-        first: fields::field(arena, lane, fields::FIRST) as usize,
-        count: fields::field(arena, lane, fields::COUNT) as usize,
-        stamp: fields::field(arena, lane, fields::STAMPED),
-    })
 }
 
-fn floor_from(arena: &Arena, lane: u64) -> Timestamp {
-    let floor = fields::field(arena, lane, fields::FLOOR);
-    if floor == fields::NONE {
-        return Timestamp::None;
+fn pair_from(pair: record::Pair) -> Pair {
+    Pair {
+        word: pair.word as u64,
+        value: pair.value,
     }
-    Timestamp::At(floor)
 }
 
-fn pairs_from(arena: &Arena, lane: u64) -> [Pair; MAX_WRITES] {
-    let mut pairs = [Pair { word: 0, value: 0 }; MAX_WRITES];
-    for i in 0..MAX_WRITES {
-        let row = fields::pair(lane, i as u64);
-        pairs[i] = Pair {
-            word: cell(arena, RECORD, row, 0) as usize,
-            value: cell(arena, RECORD, row, 2),
+fn held_to(held: Held) -> Logged {
+    Logged {
+        first: held.first as usize,
+        count: held.count as usize,
+        stamp: held.stamp,
+    }
+}
+
+fn held_from(logged: Logged) -> Held {
+    Held {
+        first: logged.first as u64,
+        count: logged.count as u64,
+        stamp: logged.stamp,
+    }
+}
+
+fn lock_to(lock: Lock) -> Locked {
+    Locked {
+        lane: lock.lane as usize,
+        stamp: lock.stamp,
+        count: lock.count as usize,
+        logged: lock.logged as usize,
+        written: lock.written as usize,
+    }
+}
+
+fn lock_from(locked: Locked) -> Lock {
+    Lock {
+        lane: locked.lane as u64,
+        stamp: locked.stamp,
+        count: locked.count as u64,
+        logged: locked.logged as u64,
+        written: locked.written as u64,
+    }
+}
+
+fn lane_to(lane: Lane) -> record::Lane {
+    record::Lane {
+        phase: lane.held.map(held_to),
+        next: lane.next as usize,
+        wrap: lane.wrap,
+        floor: lane.floor,
+        redo: lane.pairs.map(pair_to),
+    }
+}
+
+fn lane_from(lane: record::Lane) -> Lane {
+    Lane {
+        held: lane.phase.map(held_from),
+        next: lane.next as u64,
+        wrap: lane.wrap,
+        floor: lane.floor,
+        pairs: lane.redo.map(pair_from),
+    }
+}
+
+fn record_to(state: &Record) -> record::Record {
+    record::Record {
+        clock: state.clock,
+        last: state.last,
+        lanes: state.lanes.map(lane_to),
+        lag: state.lag,
+        lock: state.lock.map(lock_to),
+    }
+}
+
+// A record of the store, and the lock's pairs, which stand beside it.
+fn record_from(state: record::Record, lock_pairs: [Pair; 64]) -> Record {
+    Record {
+        clock: state.clock,
+        last: state.last,
+        lag: state.lag,
+        lanes: state.lanes.map(lane_from),
+        lock: state.lock.map(lock_from),
+        lock_pairs,
+    }
+}
+
+// The record of a start; its pairs are 0.
+pub(crate) fn start_from(state: record::Record) -> Record {
+    record_from(state, [Pair::default(); 64])
+}
+
+fn put_pairs(pairs: &[Pair; 64], words: &mut [u64]) {
+    let (rows, _) = words.as_chunks_mut::<2>();
+    for (row, pair) in rows.iter_mut().zip(pairs.iter()) {
+        *row = [pair.word, pair.value];
+    }
+}
+
+// The words that a call on the store is lent: those of the record, in normal form, and of the lock's pairs.
+pub(crate) fn words_of(state: &Record) -> [u64; STATE_WORDS] {
+    let mut words = [0u64; STATE_WORDS];
+    codec::record_to(record_to(state), words.first_chunk_mut().unwrap());
+    put_pairs(&state.lock_pairs, &mut words[RECORD_WORDS..]);
+    words
+}
+
+fn pairs_in(words: &[u64]) -> [Pair; 64] {
+    let mut pairs = [Pair::default(); 64];
+    let (rows, _) = words.as_chunks::<2>();
+    for (pair, [word, value]) in pairs.iter_mut().zip(rows.iter()) {
+        *pair = Pair {
+            word: *word,
+            value: *value,
         };
     }
     pairs
 }
 
-fn lane_from(arena: &Arena, lane: u64) -> Lane {
-    Lane {
-        phase: phase_from(arena, lane),
-        next: fields::field(arena, lane, fields::NEXT) as usize,
-        wrap: fields::field(arena, lane, fields::PRESENT),
-        floor: floor_from(arena, lane),
-        redo: pairs_from(arena, lane),
+// The record that these words are.
+pub(crate) fn record_in(words: &[u64; STATE_WORDS]) -> Record {
+    let pairs = pairs_in(&words[RECORD_WORDS..]);
+    record_from(codec::record_from(words.first_chunk().unwrap()), pairs)
+}
+
+pub(crate) fn refusal(refusal: store::Refusal) -> Refusal {
+    match refusal {
+        store::Refusal::BadBuffers => Refusal::Lengths,
+        store::Refusal::BadRecord => Refusal::BadRecord,
+        store::Refusal::BadLane => Refusal::NoLane,
+        store::Refusal::BadWord => Refusal::NoWord,
+        store::Refusal::BadTxn => Refusal::BadTransaction,
+        store::Refusal::AlreadyLogged => Refusal::Holds,
+        store::Refusal::NotLogged => Refusal::HoldsNone,
+        store::Refusal::ClockSpent => Refusal::Spent,
+        store::Refusal::WouldHit => Refusal::Overwrites,
+        store::Refusal::OddBase => Refusal::OddBase,
+        store::Refusal::LockHeld => Refusal::Locked,
+        store::Refusal::TooLong => Refusal::TooLong,
+        store::Refusal::BadTrailer => Refusal::NoTrailer,
+        store::Refusal::WouldLag => Refusal::Lags,
+        store::Refusal::BadLag => Refusal::BadLag,
     }
 }
 
-fn lock_from(arena: &Arena) -> Lock {
-    if get(arena, RECORD, fields::LOCKED) == 0 {
-        return Lock::Free;
-    }
-    Lock::Held(Locked {
-        lane: get(arena, RECORD, fields::LOCK_LANE) as usize,
-        stamp: get(arena, RECORD, fields::LOCK_STAMP),
-        count: get(arena, RECORD, fields::LOCK_COUNT) as usize,
-        logged: get(arena, RECORD, fields::LOCK_LOGGED) as usize,
-        written: get(arena, RECORD, fields::LOCK_WRITTEN) as usize,
-    })
-}
-
-// Where word k of the lock's pairs stands, which have a word and a value each.
-fn pair_place(k: usize) -> u64 {
-    plus(fields::LOCK_PAIRS, (k as u64) << 1)
-}
-
-// The lock's pairs, of the words in RECORD.
-fn load_pairs(arena: &Arena, pairs: &mut [u64]) {
-    for k in 0..pairs.len() {
-        pairs[k] = get(arena, RECORD, pair_place(k));
+pub(crate) fn answer(answer: store::Answer) -> Answer {
+    match answer {
+        store::Answer::Done => Answer::Done,
+        store::Answer::NoWrites => Answer::NoWrites,
+        store::Answer::Logged(appended) => Answer::Logged {
+            count: appended.count as u64,
+            stamp: appended.stamp,
+        },
+        store::Answer::Settled(stamp) => Answer::Settled { stamp },
+        store::Answer::Committed(stamp) => Answer::Committed { stamp },
+        store::Answer::Stale => Answer::Stale,
+        store::Answer::Changed => Answer::Changed,
+        store::Answer::Marked(marked) => Answer::Marked {
+            dropped: marked.dropped,
+            stamp: marked.stamp,
+        },
+        store::Answer::Locked(progress) => Answer::Locked {
+            left: progress.left as u64,
+            stamp: progress.stamp,
+        },
     }
 }
 
-// Their words, in STORED.
-fn keep_pairs(arena: &mut Arena, pairs: &[u64]) {
-    for k in 0..pairs.len() {
-        put(arena, STORED, pair_place(k), pairs[k]);
+pub(crate) fn finished(finished: Finished) -> Answer {
+    Answer::Recovered {
+        boundary: finished.boundary,
+        undone: finished.undone as u64,
+        torn: finished.torn as u64,
     }
-}
-
-// The record of the words in RECORD.
-fn record(arena: &Arena) -> Record {
-    let mut lanes = [lane_from(arena, 0); MAX_LANES];
-    for l in 0..MAX_LANES {
-        lanes[l] = lane_from(arena, l as u64);
-    }
-    Record {
-        clock: get(arena, RECORD, fields::CLOCK),
-        last: get(arena, RECORD, fields::LAST),
-        lanes,
-        lag: get(arena, RECORD, fields::LAG),
-        lock: lock_from(arena),
-    }
-}
-
-// The words that a call on the store is given: those of the record in RECORD, in normal form, and of the lock's pairs.
-pub(crate) fn load_state(arena: &Arena, state: &mut [u64])
-    requires { length state.old ≡ state_length }
-{
-    codec::record_to(record(arena), &mut state[..RECORD_WORDS]);
-    load_pairs(arena, &mut state[RECORD_WORDS..]);
-}
-
-fn put_logged(arena: &mut Arena, lane: u64, logged: Logged) {
-    let first = logged.first as u64;
-    set_row(
-        arena,
-        STORED,
-        lane << 4,
-        1,
-        first,
-        logged.count as u64,
-        logged.stamp,
-    );
-}
-
-fn put_phase(arena: &mut Arena, lane: u64, phase: Phase) {
-    match phase {
-        Phase::Idle => {}
-        Phase::Holds(logged) => put_logged(arena, lane, logged),
-    }
-}
-
-// A timestamp or none.
-fn number_of(stamp: Timestamp) -> u64 {
-    match stamp {
-        Timestamp::None => fields::NONE,
-        Timestamp::At(number) => number,
-    }
-}
-
-fn put_pairs(arena: &mut Arena, lane: u64, redo: [Pair; MAX_WRITES]) {
-    for i in 0..MAX_WRITES {
-        let pair = redo[i];
-        let row = fields::pair(lane, i as u64);
-        set_row(arena, STORED, row, pair.word as u64, 0, pair.value, 0);
-    }
-}
-
-fn put_lane(arena: &mut Arena, at: u64, lane: Lane) {
-    let phase = lane.phase;
-    let floor = lane.floor;
-    let redo = lane.redo;
-    put_phase(arena, at, phase);
-    set_row(
-        arena,
-        STORED,
-        at << 4 | 1,
-        lane.next as u64,
-        lane.wrap,
-        number_of(floor),
-        0,
-    );
-    put_pairs(arena, at, redo);
-}
-
-fn put_locked(arena: &mut Arena, locked: Locked) {
-    let lane = locked.lane as u64;
-    let count = locked.count as u64;
-    let logged = locked.logged as u64;
-    set_row(
-        arena,
-        STORED,
-        fields::LOCK_ROW,
-        1,
-        lane,
-        locked.stamp,
-        count,
-    );
-    set_row(
-        arena,
-        STORED,
-        fields::LOCK_PARTS_ROW,
-        logged,
-        locked.written as u64,
-        0,
-        0,
-    );
-}
-
-fn put_lock(arena: &mut Arena, lock: Lock) {
-    match lock {
-        Lock::Free => {}
-        Lock::Held(locked) => put_locked(arena, locked),
-    }
-}
-
-// Clock, last commit, lag limit and lock.
-fn put_shared(arena: &mut Arena, state: Record) {
-    let lock = state.lock;
-    set_row(
-        arena,
-        STORED,
-        fields::TIME_ROW,
-        state.clock,
-        state.last,
-        state.lag,
-        0,
-    );
-    put_lock(arena, lock);
-}
-
-// The words of a record, in STORED; those of the lock's pairs are 0.
-pub(crate) fn put_record(arena: &mut Arena, state: Record) {
-    clear(arena, STORED, fields::LENGTH);
-    put_shared(arena, state);
-    for l in 0..MAX_LANES {
-        let lane = state.lanes[l];
-        put_lane(arena, l as u64, lane);
-    }
-}
-
-// The words that the call left, in STORED.
-pub(crate) fn keep_state(arena: &mut Arena, state: &[u64])
-    requires { length state.now ≡ state_length }
-{
-    put_record(arena, codec::record_from(&state[..RECORD_WORDS]));
-    keep_pairs(arena, &state[RECORD_WORDS..]);
-}
-
-// An answer, in STORED.
-pub(crate) fn put_answer(arena: &mut Arena, kind: u64, number: u64, stamp: u64) {
-    set_row(arena, STORED, second::ANSWER_ROW, kind, number, stamp, 0);
-    put(arena, STORED, second::TORN, 0);
 }

@@ -3,52 +3,49 @@
 #![tactic(auto)]
 
 mod any;
+mod images;
 mod lists;
+mod sizes;
+mod transactions;
 
 use bench::print;
-use bench::regions::{SEED, TALLIED, TALLY};
-use second::words::{ALL, Arena, STATE, clear, put};
+use bench::session::{Session, Tally};
 use std::io::Result;
 
 // The groups.
-const SMALL_LISTS: u64 = 0;
-
-const FULL_LISTS: u64 = 1;
-
-const SMALL_STATES: u64 = 2;
-
-const FULL_STATES: u64 = 3;
+#[derive(Clone, Copy)]
+enum Group {
+    SmallLists,
+    FullLists,
+    SmallStates,
+    FullStates,
+}
 
 // A case of a group.
-fn case(arena: &mut Arena, group: u64) {
+fn case(session: &mut Session, group: Group) {
     match group {
-        SMALL_LISTS => lists::small_list(arena),
-        FULL_LISTS => lists::full_list(arena),
-        SMALL_STATES => any::small_state(arena),
-        _ => any::full_state(arena),
+        Group::SmallLists => lists::small_list(session),
+        Group::FullLists => lists::full_list(session),
+        Group::SmallStates => any::small_state(session),
+        Group::FullStates => any::full_state(session),
     }
 }
 
-// So many cases of a group, counted anew.
-fn cases(arena: &mut Arena, group: u64, count: u64) {
-    clear(arena, TALLY, TALLIED);
+// So many cases of a group, counted anew, and the lines about it.
+fn run(rt: &impl Print, session: &mut Session, group: Group, count: u64, name: &str) -> Result<()> {
+    session.tally = Tally::new();
     for _ in 0..count {
-        case(arena, group);
+        case(session, group);
     }
-}
-
-// A group, and the lines about it.
-fn run(rt: &impl Print, arena: &mut Arena, group: u64, count: u64, name: &[u8]) -> Result<()> {
-    cases(arena, group, count);
-    print::group(rt, name, arena)?;
-    print::kinds(rt, arena)
+    print::group(rt, name, session)?;
+    print::kinds(rt, session)
 }
 
 fn main(rt: HostRuntime) -> Result<()> {
-    let mut arena = [0u64; ALL];
-    put(&mut arena, STATE, SEED, 88172645463325252);
-    run(&rt, &mut arena, SMALL_LISTS, 50, b"small lists")?;
-    run(&rt, &mut arena, FULL_LISTS, 10, b"full lists")?;
-    run(&rt, &mut arena, SMALL_STATES, 6000, b"small states")?;
-    run(&rt, &mut arena, FULL_STATES, 300, b"full states")
+    let mut session = Session::new();
+    session.random.seed = 88172645463325252;
+    run(&rt, &mut session, Group::SmallLists, 50, "small lists")?;
+    run(&rt, &mut session, Group::FullLists, 10, "full lists")?;
+    run(&rt, &mut session, Group::SmallStates, 6000, "small states")?;
+    run(&rt, &mut session, Group::FullStates, 300, "full states")
 }

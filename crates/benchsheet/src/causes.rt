@@ -1,215 +1,321 @@
 // Refusals together: for each call every set of causes that it knows, of which the one that comes first wins.
-use crate::edges;
-use bench::session;
-use second::fields;
-use second::fields::set_field;
-use second::words::{
-    Arena, CACHE, CACHE_LENGTH, MAX_STAMP, MIN_LAG, RECORD, STATE, TXN, minus, put,
-};
+use crate::setup::{self, LENGTH, Slot, Trial};
+use bench::print;
+use bench::session::Session;
+use second::words::{MAX_STAMP, MIN_LAG};
+use second::{Call, Refusal};
+use std::fmt;
+use std::io::Result;
 
-// A set of causes is a number. Its bits are the causes in the order in which they win: 1, 14, 16, 2 to 7, 11, 12, 8,
-// 15, 9, 10.
-fn has(set: u64, cause: u64) -> bool {
-    set & cause != 0
-}
-
-const LENGTHS: u64 = 1;
-
-const TRAILERS: u64 = 2;
-
-const BAD_LAG: u64 = 4;
-
-const RECORDS: u64 = 8;
-
-const NO_LANE: u64 = 16;
-
-const NO_WORD: u64 = 32;
-
-const BAD_TXN: u64 = 64;
-
-const HOLDS: u64 = 128;
-
-const IDLE: u64 = 256;
-
-const LOCKED: u64 = 512;
-
-const LONG: u64 = 1024;
-
-const SPENT: u64 = 2048;
-
-const LAGS: u64 = 4096;
-
-const OVERWRITES: u64 = 8192;
-
-const ODD: u64 = 16384;
+// A set of causes. Bit k is the one that comes k-th where refusals are compared.
+#[derive(Clone, Copy, PartialEq, Eq, Debug)]
+pub(crate) struct Causes(u64);
 
 // The sets of fifteen causes.
 const SETS: u64 = 32768;
 
-// Each set with each call.
-pub(crate) const CASES: u64 = edges::CALLS * SETS;
+fn weight(cause: Refusal) -> u64 {
+    1 << (cause as u64 % 64)
+}
 
-// The causes that a call knows. SPECIFICATION, "Calls".
-fn known(call: u64) -> u64 {
-    match call {
-        // 1 2 3 5 6 11 8 15 9
-        second::LOG => 15065,
-        // 1 2 3 6 11 8 15 9
-        edges::NO_WORDS => 15001,
-        // 1 2 3 7 11 8
-        second::REDO => 2841,
-        // 1 2 3 5 7 11 8
-        second::VALIDATE => 2905,
-        // 1 2 3 11 8 9
-        second::MARK => 10777,
-        // 1 2 3 5 6 11 12 8 15 9
-        second::LOCK => 16089,
-        // 1 2 3 7 11
-        second::CONTINUE => 793,
-        // 1 2 3
-        second::DRAIN => 25,
-        // 1 4
-        second::WRITE_BACK => 33,
-        // 1 16 10
-        second::RECOVER => 16389,
-        // 1 14 16 10
-        second::RECOVER_READ => 16391,
-        // 1 16
-        _ => 5,
+impl Causes {
+    fn of(causes: &[Refusal]) -> Causes {
+        Causes(causes.iter().fold(0, |bits, cause| bits | weight(*cause)))
+    }
+
+    fn has(self, cause: Refusal) -> bool {
+        self.0 & weight(cause) != 0
+    }
+
+    fn is_within(self, other: Causes) -> bool {
+        self.0 & other.0 == self.0
+    }
+
+    // The one that wins.
+    fn first(self) -> Option<Refusal> {
+        Refusal::ALL.into_iter().find(|cause| self.has(*cause))
     }
 }
 
-// The number of the cause that a bit is.
-fn number_of(bit: u64) -> u64 {
-    match bit {
-        0 => 1,
-        1 => 14,
-        2 => 16,
-        9 => 11,
-        10 => 12,
-        11 => 8,
-        12 => 15,
-        13 => 9,
-        14 => 10,
-        _ => minus(bit, 1),
-    }
-}
-
-// The number that wins of a set, or 0.
-fn first(set: u64) -> u64 {
-    let mut rest = set;
-    for bit in 0..15 {
-        if rest % 2 == 1 {
-            return number_of(bit);
+impl fmt::Display for Causes {
+    fn fmt<W: fmt::Write>(&self, f: &mut fmt::Formatter<W>) -> fmt::Result {
+        f.write_str(match self.0.count_ones() {
+            0 => "no cause",
+            1 => "cause",
+            _ => "causes",
+        })?;
+        for cause in Refusal::ALL {
+            if self.has(cause) {
+                write!(f, " {cause}")?;
+            }
         }
-        rest = rest / 2;
+        Ok(())
     }
-    0
+}
+
+// The causes that a call knows, in the order in which they win. SPECIFICATION, "Calls".
+const LOG: [Refusal; 9] = [
+    Refusal::Lengths,
+    Refusal::BadRecord,
+    Refusal::NoLane,
+    Refusal::BadTransaction,
+    Refusal::Holds,
+    Refusal::Locked,
+    Refusal::Spent,
+    Refusal::Lags,
+    Refusal::Overwrites,
+];
+
+pub(crate) const SETTLE: [Refusal; 8] = [
+    Refusal::Lengths,
+    Refusal::BadRecord,
+    Refusal::NoLane,
+    Refusal::Holds,
+    Refusal::Locked,
+    Refusal::Spent,
+    Refusal::Lags,
+    Refusal::Overwrites,
+];
+
+const REDO: [Refusal; 6] = [
+    Refusal::Lengths,
+    Refusal::BadRecord,
+    Refusal::NoLane,
+    Refusal::HoldsNone,
+    Refusal::Locked,
+    Refusal::Spent,
+];
+
+const VALIDATE: [Refusal; 7] = [
+    Refusal::Lengths,
+    Refusal::BadRecord,
+    Refusal::NoLane,
+    Refusal::BadTransaction,
+    Refusal::HoldsNone,
+    Refusal::Locked,
+    Refusal::Spent,
+];
+
+const MARK: [Refusal; 6] = [
+    Refusal::Lengths,
+    Refusal::BadRecord,
+    Refusal::NoLane,
+    Refusal::Locked,
+    Refusal::Spent,
+    Refusal::Overwrites,
+];
+
+pub(crate) const LOCK: [Refusal; 10] = [
+    Refusal::Lengths,
+    Refusal::BadRecord,
+    Refusal::NoLane,
+    Refusal::BadTransaction,
+    Refusal::Holds,
+    Refusal::Locked,
+    Refusal::TooLong,
+    Refusal::Spent,
+    Refusal::Lags,
+    Refusal::Overwrites,
+];
+
+const CONTINUE: [Refusal; 5] = [
+    Refusal::Lengths,
+    Refusal::BadRecord,
+    Refusal::NoLane,
+    Refusal::HoldsNone,
+    Refusal::Locked,
+];
+
+fn known(trial: Trial) -> Causes {
+    match trial {
+        Trial::Settle => Causes::of(&SETTLE),
+        Trial::Of(Call::Log) => Causes::of(&LOG),
+        Trial::Of(Call::Redo) => Causes::of(&REDO),
+        Trial::Of(Call::Validate) => Causes::of(&VALIDATE),
+        Trial::Of(Call::Mark) => Causes::of(&MARK),
+        Trial::Of(Call::Lock) => Causes::of(&LOCK),
+        Trial::Of(Call::Continue) => Causes::of(&CONTINUE),
+        Trial::Of(Call::Drain) => {
+            Causes::of(&[Refusal::Lengths, Refusal::BadRecord, Refusal::NoLane])
+        }
+        Trial::Of(Call::WriteBack) => Causes::of(&[Refusal::Lengths, Refusal::NoWord]),
+        Trial::Of(Call::Format) => Causes::of(&[Refusal::Lengths, Refusal::BadLag]),
+        Trial::Of(Call::Recover) => {
+            Causes::of(&[Refusal::Lengths, Refusal::BadLag, Refusal::OddBase])
+        }
+        Trial::Of(Call::RecoverRead) => Causes::of(&[
+            Refusal::Lengths,
+            Refusal::NoTrailer,
+            Refusal::BadLag,
+            Refusal::OddBase,
+        ]),
+    }
 }
 
 // The lane, word or limit.
-fn number_for(call: u64, set: u64) -> u64 {
-    if edges::recovers(call) {
+fn number_for(call: Call, causes: Causes) -> u64 {
+    if setup::recovers(call) {
         return u64::MAX;
     }
-    if has(set, NO_WORD) {
-        return edges::LENGTH;
+    if causes.has(Refusal::NoWord) {
+        return LENGTH;
     }
-    if has(set, NO_LANE) {
+    if causes.has(Refusal::NoLane) {
         return 2;
     }
     0
 }
 
 // Puts the causes 1, 16, 2, 5 and 12 into lengths, lag limit, record and transaction.
-fn spoil_arguments(arena: &mut Arena, set: u64) {
-    if has(set, LENGTHS) {
-        let length = session::length(arena);
-        put(arena, STATE, CACHE_LENGTH, minus(length, 1));
+fn spoil_arguments(session: &mut Session, causes: Causes) {
+    if causes.has(Refusal::Lengths) {
+        session.lengths.cache = session.length().wrapping_sub(1);
     }
-    if has(set, BAD_LAG) {
-        session::set_lag(arena, 0);
+    if causes.has(Refusal::BadLag) {
+        session.lag = 0;
     }
-    if has(set, RECORDS) {
-        set_field(arena, 1, fields::PRESENT, 2);
+    if causes.has(Refusal::BadRecord) {
+        session.state.lanes[1].wrap = 2;
     }
-    if has(set, LONG) {
-        edges::put_sets(arena);
+    if causes.has(Refusal::TooLong) {
+        setup::put_sets(session);
     }
-    if has(set, BAD_TXN) {
-        put(arena, TXN, 0, 0);
+    if causes.has(Refusal::BadTransaction) {
+        session.words[0] = 0;
     }
 }
 
 // How many words the call is given: for 12 those of 17 instructions, which count as 19 slots, two more than 34 less 17.
-fn used_by(arena: &Arena, call: u64, set: u64) -> u64 {
-    if has(set, LONG) {
+fn used_by(session: &Session, trial: Trial, causes: Causes) -> u64 {
+    if causes.has(Refusal::TooLong) {
         return 68;
     }
-    edges::used_by(arena, call)
+    trial.used(session)
 }
 
 // Puts the cause 11 into the record: lane 1 has the lock, and no call is on it. Continue without 7 and 11 is on the
 // lane that has the lock.
-fn spoil_lock(arena: &mut Arena, call: u64, set: u64) {
-    if has(set, LOCKED) {
-        edges::hold_lock(arena, 1);
-    } else if call == second::CONTINUE && !has(set, IDLE) {
-        edges::hold_lock(arena, 0);
+fn spoil_lock(session: &mut Session, call: Call, causes: Causes) {
+    if causes.has(Refusal::Locked) {
+        setup::hold_lock(session, 1);
+    } else if call == Call::Continue && !causes.has(Refusal::HoldsNone) {
+        setup::hold_lock(session, 0);
     }
 }
 
+// For cause 9 the lane's log has a sequence, an entry of word 0 and timestamp 6, in the two slots that come next.
+fn put_next(session: &mut Session, lane: u64) {
+    setup::put_slot(
+        session,
+        lane,
+        2,
+        Slot::Entry {
+            word: 0,
+            old: 0,
+            wrap: 1,
+        },
+    );
+    setup::put_slot(
+        session,
+        lane,
+        3,
+        Slot::Stamp {
+            stamp: 6,
+            count: 1,
+            wrap: 1,
+        },
+    );
+}
+
 // Puts the causes 14, 8, 15, 9 and 10 into record and image. For 14 the trailer's last word is one too great; for 15
-// the limit is 2, while timestamp 10 comes next and the lane's newest is 2, or 6 with 9; for 9 the lane's log has a
-// sequence, an entry of word 0 and timestamp 6, in the two slots that come next.
-fn spoil_state(arena: &mut Arena, set: u64, lane: u64) {
-    if has(set, TRAILERS) {
-        put(arena, CACHE, edges::LENGTH - 1, edges::FORMER + 1);
+// the limit is 2, while timestamp 10 comes next and the lane's newest is 2, or 6 with 9.
+fn spoil_state(session: &mut Session, causes: Causes, lane: u64) {
+    if causes.has(Refusal::NoTrailer) {
+        session.buffers.cache[142] = 140;
     }
-    if has(set, SPENT) {
-        put(arena, RECORD, fields::CLOCK, MAX_STAMP);
+    if causes.has(Refusal::Spent) {
+        session.state.clock = MAX_STAMP;
     }
-    if has(set, LAGS) {
-        fields::set_lag(arena, MIN_LAG);
+    if causes.has(Refusal::Lags) {
+        session.state.lag = MIN_LAG;
     }
-    if has(set, OVERWRITES) {
-        edges::put_slot(arena, lane, 2, 9, 1);
-        edges::put_slot(arena, lane, 3, 32777, 7);
+    if causes.has(Refusal::Overwrites) {
+        put_next(session, lane);
     }
-    if has(set, ODD) {
-        put(arena, CACHE, 0, 1);
+    if causes.has(Refusal::OddBase) {
+        session.buffers.cache[0] = 1;
     }
 }
 
 // Is the lane to hold a transaction? Log wants none, Redo and Validate want one.
-fn held(call: u64, set: u64) -> bool {
-    has(set, HOLDS) || (edges::commits(call) && !has(set, IDLE))
+fn is_held(call: Call, causes: Causes) -> bool {
+    causes.has(Refusal::Holds) || (setup::commits(call) && !causes.has(Refusal::HoldsNone))
 }
 
 // A call in whose state and arguments just these causes hold.
-pub(crate) fn call_with(arena: &mut Arena, call: u64, set: u64) {
-    let number = number_for(call, set);
-    edges::start(arena);
-    edges::fit_for(arena, call);
-    edges::prepare(arena, number, held(call, set));
-    spoil_arguments(arena, set);
-    spoil_state(arena, set, number);
-    spoil_lock(arena, call, set);
-    let used = used_by(arena, call, set);
-    edges::probe(arena, edges::code_of(call), number, used);
-    edges::expect(arena, first(set));
+fn call_with(session: &mut Session, trial: Trial, causes: Causes) {
+    let call = trial.call();
+    let number = number_for(call, causes);
+    setup::start(session);
+    setup::fit_for(session, call);
+    setup::prepare(session, number, is_held(call, causes));
+    spoil_arguments(session, causes);
+    spoil_state(session, causes, number);
+    spoil_lock(session, call, causes);
+    let used = used_by(session, trial, causes);
+    setup::probe(session, call, number, used);
+    setup::expect(session, causes.first());
 }
 
 // Can these causes hold together? Where no lock is held, no other lane has it.
-fn agrees(call: u64, set: u64) -> bool {
-    call != second::CONTINUE || !has(set, IDLE) || !has(set, LOCKED)
+fn agrees(trial: Trial, causes: Causes) -> bool {
+    trial != Trial::Of(Call::Continue)
+        || !causes.has(Refusal::HoldsNone)
+        || !causes.has(Refusal::Locked)
 }
 
-// Each call with each set of which it knows all causes.
-pub(crate) fn every_set(arena: &mut Arena, i: u64) {
-    let call = i / SETS + 1;
-    let set = i % SETS;
-    if set & known(call) == set && agrees(call, set) {
-        call_with(arena, call, set);
+// A call with each set of causes that it knows.
+fn each_set(session: &mut Session, trial: Trial) {
+    let known = known(trial);
+    for bits in 0..SETS {
+        let causes = Causes(bits);
+        if causes.is_within(known) && agrees(trial, causes) {
+            call_with(session, trial, causes);
+        }
     }
+}
+
+pub(crate) fn every_set(session: &mut Session) {
+    for trial in Trial::ALL {
+        each_set(session, trial);
+    }
+}
+
+// A call with these causes, and the line about it.
+pub(crate) fn refused(
+    rt: &impl Print,
+    session: &mut Session,
+    name: &str,
+    trial: Trial,
+    causes: &[Refusal],
+) -> Result<()> {
+    let causes = Causes::of(causes);
+    call_with(session, trial, causes);
+    print!(rt; "{name}, {causes}")?;
+    print::row(rt, "", session)
+}
+
+// A call with these causes, in the order in which they win, then each time without the first one.
+pub(crate) fn in_order(
+    rt: &impl Print,
+    session: &mut Session,
+    name: &str,
+    trial: Trial,
+    order: &[Refusal],
+) -> Result<()> {
+    // Kept as a range: `first` is where the rest begins, and the last round has one cause left.
+    for first in 0..order.len() {
+        refused(rt, session, name, trial, &order[first..])?;
+    }
+    Ok(())
 }

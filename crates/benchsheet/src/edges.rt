@@ -1,355 +1,216 @@
 // Both sides of the ends of each range, one call a case, on a small store of two lanes unless the case is about sizes.
 // Where the specification gives the number of the refusal, it is expected too.
-use bench::regions::{ROOM, START};
-use bench::{print, session};
-use second::words::{
-    Arena, CACHE, FLAGS, MAX_LAG, MAX_LANES, MAX_SLOTS, MAX_STAMP, MAX_WORDS, MIN_SLOTS, NVM,
-    RECORD, STATE, TXN, WORDS, clear, copy, get, least, minus, only, plus, put, set_row,
-};
-use second::{fields, reading, restart};
+use crate::setup::{self, HELD, Trial};
+use bench::print;
+use bench::session::Session;
+use second::image::Sizes;
+use second::records::{Held, Lane, Record};
+use second::words::{MAX_LANES, MAX_SLOTS, MAX_STAMP, MAX_WORDS, MIN_SLOTS};
+use second::{Call, Refusal};
 use std::io::Result;
 
-// The words of an image of the small store, W 2, T 2, N 34: with its trailer, and without.
-pub(crate) const LENGTH: u64 = 143;
+// ---- sizes. W, T and N in range, and one of them out of it.
+const IN_RANGE: [[u64; 3]; 7] = [
+    [1, 1, MIN_SLOTS],
+    [MAX_WORDS, 1, MIN_SLOTS],
+    [1, MAX_LANES, MIN_SLOTS],
+    [1, 1, MAX_SLOTS],
+    [MAX_WORDS, MAX_LANES, MAX_SLOTS],
+    [MAX_WORDS - 1, MAX_LANES - 1, MAX_SLOTS - 1],
+    [2, 2, MIN_SLOTS + 1],
+];
 
-pub(crate) const FORMER: u64 = 139;
-
-// The calls are 1 to 11; a Log of no words, which settles its lane, is one more here.
-pub(crate) const NO_WORDS: u64 = 12;
-
-pub(crate) const CALLS: u64 = 12;
-
-pub(crate) fn code_of(call: u64) -> u64 {
-    if call == NO_WORDS {
-        return second::LOG;
-    }
-    call
-}
-
-// How many words it is given: a transaction of one instruction, none, or as many as Format wants.
-pub(crate) fn used_by(arena: &Arena, call: u64) -> u64 {
-    match call {
-        second::FORMAT => get(arena, STATE, WORDS),
-        NO_WORDS => 0,
-        _ => 4,
-    }
-}
-
-// An empty store of these sizes with the greatest lag limit, and a transaction that sets word 0 to 3.
-pub(crate) fn start_with(arena: &mut Arena, words: u64, lanes: u64, slots: u64) {
-    session::set_sizes(arena, words, lanes, slots);
-    session::fit(arena);
-    clear(arena, CACHE, ROOM);
-    clear(arena, FLAGS, ROOM);
-    clear(arena, TXN, START);
-    restart::put_trailer(arena, CACHE);
-    session::set_lag(arena, MAX_LAG);
-    fields::set_start(arena, MAX_LAG, 0);
-    set_row(arena, TXN, 0, 1, 0, 0, 3);
-}
-
-// The small one.
-pub(crate) fn start(arena: &mut Arena) {
-    start_with(arena, 2, 2, MIN_SLOTS);
-}
-
-// Recovery by given sizes wants an image without a trailer.
-pub(crate) fn fit_for(arena: &mut Arena, code: u64) {
-    if code == second::RECOVER {
-        session::fit_former(arena);
-    }
-}
-
-// A call. Non-volatile memory lags behind the cache by data word 0, which every lane has flushed.
-pub(crate) fn probe(arena: &mut Arena, code: u64, number: u64, used: u64) {
-    copy(arena, CACHE, NVM, 0, ROOM);
-    put(arena, NVM, 1, 9);
-    put(arena, FLAGS, 1, 255);
-    session::call(arena, code, number, used);
-}
-
-// Counts a difference unless the call was refused with this number, or not at all where it is 0.
-pub(crate) fn expect(arena: &mut Arena, number: u64) {
-    session::expect(arena, session::refusal(arena) == number);
-}
-
-// A call at an edge, printed with what stands there.
-fn probe_at(
-    rt: &impl Print,
-    arena: &mut Arena,
-    call: u64,
-    number: u64,
-    refusal: u64,
-    what: &[u8],
-    n: u64,
-) -> Result<()> {
-    probe(arena, code_of(call), number, used_by(arena, call));
-    expect(arena, refusal);
-    print::edge(rt, arena, what, n)
-}
-
-// The two words of a slot in the cached log.
-pub(crate) fn put_slot(arena: &mut Arena, lane: u64, slot: u64, address: u64, value: u64) {
-    let at = reading::place(arena, lane, slot);
-    put(arena, CACHE, at, address);
-    put(arena, CACHE, plus(at, 1), value);
-}
-
-// The lane holds that transaction.
-fn hold(arena: &mut Arena, lane: u64) {
-    fields::set_held(arena, lane, 1, 0, 1, 2);
-    set_row(arena, RECORD, fields::pair(lane, 0), 0, 0, 3, 0);
-}
-
-// The clock is 8, and in a lane's log there is one sequence, with wrap bit 1: an entry of word 0 with old value 0, and
-// timestamp 2. The transaction set word 0 to 3, and is logged where `held` is set.
-pub(crate) fn prepare(arena: &mut Arena, lane: u64, held: bool) {
-    put_slot(arena, lane, 0, 9, 1);
-    put_slot(arena, lane, 1, 32777, 3);
-    fields::set_time(arena, 8, 0);
-    fields::set_log(arena, lane, 2, 1, 2);
-    if held {
-        hold(arena, lane);
-    }
-}
-
-// Does the call commit what the lane holds?
-pub(crate) fn commits(call: u64) -> bool {
-    call == second::REDO || call == second::VALIDATE
-}
-
-// The lock is held by a lane, with timestamp 8 and that transaction's one write, of which nothing is logged yet.
-pub(crate) fn hold_lock(arena: &mut Arena, lane: u64) {
-    fields::set_lock(arena, lane, 8, 1);
-    fields::set_parts(arena, 0, 0);
-    set_row(arena, RECORD, fields::lock_pair(0), 0, 0, 3, 0);
-}
-
-// A start with a lane prepared for a call. Where the lane is not in use, another one has the lock.
-pub(crate) fn start_for(arena: &mut Arena, call: u64, lane: u64) {
-    start(arena);
-    prepare(arena, lane, commits(call));
-    if call == second::CONTINUE {
-        hold_lock(arena, least(lane, 1));
-    }
-}
-
-// ---- sizes. The first seven cases are in range.
-fn words_case(i: u64) -> u64 {
-    match i {
-        1 | 4 => MAX_WORDS,
-        5 => MAX_WORDS - 1,
-        6 => 2,
-        7 => 0,
-        8 => MAX_WORDS + 1,
-        13 => u64::MAX,
-        _ => 1,
-    }
-}
-
-fn lanes_case(i: u64) -> u64 {
-    match i {
-        2 | 4 => MAX_LANES,
-        5 => MAX_LANES - 1,
-        6 => 2,
-        9 => 0,
-        10 => MAX_LANES + 1,
-        14 => u64::MAX,
-        _ => 1,
-    }
-}
-
-fn slots_case(i: u64) -> u64 {
-    match i {
-        3 | 4 => MAX_SLOTS,
-        5 => MAX_SLOTS - 1,
-        6 => MIN_SLOTS + 1,
-        11 => MIN_SLOTS - 1,
-        12 => MAX_SLOTS + 1,
-        15 => u64::MAX,
-        _ => MIN_SLOTS,
-    }
-}
-
-pub(crate) fn recovers(call: u64) -> bool {
-    call == second::RECOVER || call == second::RECOVER_READ
-}
-
-// Lane 0, word 0, or no limit.
-pub(crate) fn probe_empty(arena: &mut Arena, call: u64) {
-    let number = only(recovers(call), u64::MAX);
-    probe(arena, code_of(call), number, used_by(arena, call));
-}
+const OUT_OF_RANGE: [[u64; 3]; 9] = [
+    [0, 1, MIN_SLOTS],
+    [MAX_WORDS + 1, 1, MIN_SLOTS],
+    [1, 0, MIN_SLOTS],
+    [1, MAX_LANES + 1, MIN_SLOTS],
+    [1, 1, MIN_SLOTS - 1],
+    [1, 1, MAX_SLOTS + 1],
+    [u64::MAX, 1, MIN_SLOTS],
+    [1, u64::MAX, MIN_SLOTS],
+    [1, 1, u64::MAX],
+];
 
 // The refusal for sizes out of range: recovery without sizes finds them in the trailer.
-fn size_refusal(call: u64) -> u64 {
-    if call == second::RECOVER_READ {
-        return 14;
+fn size_refusal(call: Call) -> Refusal {
+    if call == Call::RecoverRead {
+        return Refusal::NoTrailer;
     }
-    1
+    Refusal::Lengths
 }
 
-// Each size case with each call.
-pub(crate) fn sizes(rt: &impl Print, arena: &mut Arena, i: u64) -> Result<()> {
-    let call = i % CALLS + 1;
-    let case = i / CALLS;
-    start_with(arena, words_case(case), lanes_case(case), slots_case(case));
-    fit_for(arena, call);
-    probe_empty(arena, call);
-    let refused = session::refusal(arena) == size_refusal(call);
-    session::expect(arena, refused == (7 <= case));
-    if call == second::FORMAT {
-        print::sizes(rt, arena)?;
+// Sizes with each call. The Formats are printed.
+fn with_sizes(
+    rt: &impl Print,
+    session: &mut Session,
+    sizes: [u64; 3],
+    is_in_range: bool,
+) -> Result<()> {
+    let [words, lanes, slots] = sizes;
+    for trial in Trial::ALL {
+        let call = trial.call();
+        setup::start_with(
+            session,
+            Sizes {
+                words,
+                lanes,
+                slots,
+            },
+        );
+        setup::fit_for(session, call);
+        trial.probe_empty(session);
+        setup::expect_just(session, size_refusal(call), !is_in_range);
+        if call == Call::Format {
+            print::sizes(rt, session)?;
+        }
+    }
+    Ok(())
+}
+
+pub(crate) fn sizes(rt: &impl Print, session: &mut Session) -> Result<()> {
+    for sizes in IN_RANGE {
+        with_sizes(rt, session, sizes, true)?;
+    }
+    for sizes in OUT_OF_RANGE {
+        with_sizes(rt, session, sizes, false)?;
     }
     Ok(())
 }
 
 // ---- buffers. One of them is a word too short or too long; with each call. Then Format with 1, 2 and 3 start words.
-fn wrong_length(arena: &mut Arena, i: u64) {
-    let all = session::length(arena);
-    let wrong = minus(plus(all, i % 2 * 2), 1);
-    match i / 2 {
-        0 => session::set_lengths(arena, wrong, all, all),
-        1 => session::set_lengths(arena, all, wrong, all),
-        _ => session::set_lengths(arena, all, all, wrong),
+#[derive(Clone, Copy)]
+enum Buffer {
+    Cache,
+    Nvm,
+    Flags,
+}
+
+impl Buffer {
+    const ALL: [Buffer; 3] = [Buffer::Cache, Buffer::Nvm, Buffer::Flags];
+
+    fn set_length(self, session: &mut Session, length: u64) {
+        match self {
+            Buffer::Cache => session.lengths.cache = length,
+            Buffer::Nvm => session.lengths.nvm = length,
+            Buffer::Flags => session.lengths.flags = length,
+        }
     }
 }
 
-// The cases of a wrong length.
-const WRONG_BUFFERS: u64 = 6 * CALLS;
-
-pub(crate) fn buffers(arena: &mut Arena, i: u64) {
-    start(arena);
-    if i < WRONG_BUFFERS {
-        let call = i % CALLS + 1;
-        fit_for(arena, call);
-        wrong_length(arena, i / CALLS);
-        probe_empty(arena, call);
-        expect(arena, 1);
-    } else {
-        let used = plus(minus(i, WRONG_BUFFERS), 1);
-        probe(arena, second::FORMAT, 0, used);
-        expect(arena, only(used != 2, 1));
+// A buffer that is too short, and too long, with each call.
+fn wrong_length(session: &mut Session, buffer: Buffer, is_long: bool) {
+    for trial in Trial::ALL {
+        setup::start(session);
+        setup::fit_for(session, trial.call());
+        let all = session.length();
+        let wrong = if is_long {
+            all.wrapping_add(1)
+        } else {
+            all.wrapping_sub(1)
+        };
+        buffer.set_length(session, wrong);
+        trial.probe_empty(session);
+        setup::expect(session, Some(Refusal::Lengths));
     }
 }
 
-// ---- words and lanes
-fn word_case(i: u64, length: u64) -> u64 {
-    match i {
-        0 => 0,
-        1 => minus(length, 1),
-        2 => length,
-        _ => u64::MAX,
+fn start_words(session: &mut Session, used: u64) {
+    setup::start(session);
+    setup::probe(session, Call::Format, 0, used);
+    setup::expect(session, (used != 2).then_some(Refusal::Lengths));
+}
+
+pub(crate) fn buffers(session: &mut Session) {
+    for buffer in Buffer::ALL {
+        wrong_length(session, buffer, false);
+        wrong_length(session, buffer, true);
+    }
+    for used in 1..4 {
+        start_words(session, used);
     }
 }
 
-// Of an image with a trailer, or without.
-pub(crate) fn words(rt: &impl Print, arena: &mut Arena, i: u64, length: u64) -> Result<()> {
-    start_for(arena, second::WRITE_BACK, 0);
-    session::set_lengths(arena, length, length, length);
-    let word = word_case(i, length);
-    probe_at(
-        rt,
-        arena,
-        second::WRITE_BACK,
-        word,
-        only(2 <= i, 4),
-        b", word ",
-        word,
-    )
-}
-
-fn lane_case(i: u64) -> u64 {
-    match i {
-        0 => 1,
-        1 => 2,
-        _ => u64::MAX,
-    }
-}
-
-// The eight calls on a lane.
-pub(crate) fn lane_call(i: u64) -> u64 {
-    match i {
-        5 => NO_WORDS,
-        6 => second::LOCK,
-        7 => second::CONTINUE,
-        _ => plus(i, 1),
-    }
-}
-
-// Each lane case with each of them.
-pub(crate) fn lanes(rt: &impl Print, arena: &mut Arena, i: u64) -> Result<()> {
-    let call = lane_call(i % 8);
-    let lane = lane_case(i / 8);
-    start_for(arena, call, lane);
-    probe_at(rt, arena, call, lane, only(8 <= i, 3), b", lane ", lane)
-}
-
-// ---- transactions
-pub(crate) fn put_sets(arena: &mut Arena) {
-    for at in 0..68 {
-        set_row(arena, TXN, at, 1, 0, 0, 3);
-    }
-}
-
-// Log takes no words at all, too.
-fn is_bad_length(code: u64, used: u64) -> bool {
-    used % 4 != 0 || 64 < used || (used == 0 && code != second::LOG)
-}
-
-// A transaction of so many words of SETs.
-fn length_of_txn(rt: &impl Print, arena: &mut Arena, code: u64, used: u64) -> Result<()> {
-    start_for(arena, code, 0);
-    put_sets(arena);
-    probe(arena, code, 0, used);
-    let refused = session::refusal(arena) == 5;
-    session::expect(arena, refused == is_bad_length(code, used));
-    if used == 64 || used == 68 {
-        print::edge(rt, arena, b", instructions ", used / 4)?;
+// ---- words, of an image of that length, with a trailer or without
+pub(crate) fn words(rt: &impl Print, session: &mut Session, length: u64) -> Result<()> {
+    for word in [0, length.wrapping_sub(1), length, u64::MAX] {
+        setup::start_for(session, Call::WriteBack, 0);
+        setup::set_length(session, length);
+        Trial::Of(Call::WriteBack).probe(session, word);
+        setup::expect(session, (length <= word).then_some(Refusal::NoWord));
+        print::edge(rt, session, ", word ", word)?;
     }
     Ok(())
 }
 
+// ---- lanes, each with each call on a lane
+pub(crate) fn lanes(rt: &impl Print, session: &mut Session) -> Result<()> {
+    for lane in [1, 2, u64::MAX] {
+        for trial in Trial::ON_LANE {
+            setup::start_for(session, trial.call(), lane);
+            trial.probe(session, lane);
+            setup::expect(session, (2 <= lane).then_some(Refusal::NoLane));
+            print::edge(rt, session, ", lane ", lane)?;
+        }
+    }
+    Ok(())
+}
+
+// ---- transactions
+// Log takes no words at all, too.
+fn is_bad_length(call: Call, used: u64) -> bool {
+    used % 4 != 0 || 64 < used || (used == 0 && call != Call::Log)
+}
+
+// A transaction of so many words of SETs.
+fn length_of_txn(rt: &impl Print, session: &mut Session, call: Call, used: u64) -> Result<()> {
+    setup::start_for(session, call, 0);
+    setup::put_sets(session);
+    setup::probe(session, call, 0, used);
+    setup::expect_just(session, Refusal::BadTransaction, is_bad_length(call, used));
+    if used == 64 || used == 68 {
+        print::edge(rt, session, ", instructions ", used / 4)?;
+    }
+    Ok(())
+}
+
+// An instruction, followed by SETs.
+fn instruction(session: &mut Session, words: [u64; 4], used: u64) {
+    setup::start_for(session, Call::Log, 0);
+    setup::put_sets(session);
+    session.set_instruction(0, words);
+    setup::probe(session, Call::Log, 0, used);
+}
+
 // An operand: 0, below W, W, or far from it; and k at its ends.
-fn operand_case(i: u64) -> u64 {
-    match i {
-        3 => u64::MAX,
-        _ => i,
+const OPERANDS: [u64; 4] = [0, 1, 2, u64::MAX];
+
+const LAST_FIELDS: [u64; 6] = [0, 1, 2, 15, 16, u64::MAX];
+
+// An instruction of each code from 0 to 6, with each field at its ends. Kept as words: an enum of instructions that
+// holds codes and fields which no instruction has would be no plainer.
+fn instructions(session: &mut Session, used: u64) {
+    for code in 0..7 {
+        for k in LAST_FIELDS {
+            for b in OPERANDS {
+                for a in OPERANDS {
+                    instruction(session, [code, a, b, k], used);
+                }
+            }
+        }
     }
 }
 
-fn k_case(i: u64) -> u64 {
-    match i {
-        3 => 15,
-        4 => 16,
-        5 => u64::MAX,
-        _ => i,
+// 0 to 69 words for Log and for Validate, then instructions that are last in their transaction, or followed by one or
+// fifteen SETs.
+pub(crate) fn transactions(rt: &impl Print, session: &mut Session) -> Result<()> {
+    for call in [Call::Log, Call::Validate] {
+        for used in 0..70 {
+            length_of_txn(rt, session, call, used)?;
+        }
     }
-}
-
-// An instruction of codes 0 to 6 with each field at its ends, last in its transaction or followed by one or fifteen
-// SETs.
-fn instruction_case(arena: &mut Arena, i: u64, used: u64) {
-    start_for(arena, second::LOG, 0);
-    put_sets(arena);
-    let a = operand_case(i % 4);
-    let b = operand_case(i / 4 % 4);
-    set_row(arena, TXN, 0, i / 96, a, b, k_case(i / 16 % 6));
-    probe(arena, second::LOG, 0, used);
-}
-
-// 0 to 69 words for Log and for Validate, then 672 instructions three times.
-pub(crate) fn txns(rt: &impl Print, arena: &mut Arena, i: u64) -> Result<()> {
-    if i < 70 {
-        length_of_txn(rt, arena, second::LOG, i)?;
-    } else if i < 140 {
-        length_of_txn(rt, arena, second::VALIDATE, i - 70)?;
-    } else if i < 812 {
-        instruction_case(arena, i - 140, 4);
-    } else if i < 1484 {
-        instruction_case(arena, i - 812, 8);
-    } else {
-        instruction_case(arena, i - 1484, 64);
+    for used in [4, 8, 64] {
+        instructions(session, used);
     }
     Ok(())
 }
@@ -357,134 +218,146 @@ pub(crate) fn txns(rt: &impl Print, arena: &mut Arena, i: u64) -> Result<()> {
 // ---- the clock
 pub(crate) const LATE: u64 = MAX_STAMP - 2;
 
-// The lane has no floor, so that no lag limit binds: its sequence is not above the base timestamp.
-fn clock_case(
-    rt: &impl Print,
-    arena: &mut Arena,
-    call: u64,
-    clock: u64,
-    number: u64,
-) -> Result<()> {
-    start_for(arena, call, 0);
-    put(arena, CACHE, 0, 2);
-    fields::set_field(arena, 0, fields::FLOOR, fields::NONE);
-    put(arena, RECORD, fields::CLOCK, clock);
-    probe_at(rt, arena, call, 0, number, b", clock ", clock)
-}
-
-// A Log that writes nothing takes no timestamp: the SKIP passes over the SET.
-fn no_writes(rt: &impl Print, arena: &mut Arena) -> Result<()> {
-    start_for(arena, second::LOG, 0);
-    put(arena, RECORD, fields::CLOCK, MAX_STAMP);
-    put_skip(arena);
-    probe(arena, second::LOG, 0, 8);
-    expect(arena, 0);
-    print::edge(rt, arena, b" without writes, clock ", MAX_STAMP)
-}
-
-pub(crate) fn put_skip(arena: &mut Arena) {
-    set_row(arena, TXN, 0, 5, 0, 1, 1);
-    set_row(arena, TXN, 1, 1, 0, 0, 3);
-}
-
 // The calls that take a timestamp.
-fn clock_call(i: u64) -> u64 {
-    match i {
-        4 => NO_WORDS,
-        5 => second::LOCK,
-        _ => plus(i, 1),
-    }
+const STAMPING: [Trial; 6] = [
+    Trial::Of(Call::Log),
+    Trial::Of(Call::Redo),
+    Trial::Of(Call::Validate),
+    Trial::Of(Call::Mark),
+    Trial::Settle,
+    Trial::Of(Call::Lock),
+];
+
+// The lane has no floor, so that no lag limit binds: its sequence is not above the base timestamp.
+fn at_clock(
+    rt: &impl Print,
+    session: &mut Session,
+    trial: Trial,
+    clock: u64,
+    refusal: Option<Refusal>,
+) -> Result<()> {
+    setup::start_for(session, trial.call(), 0);
+    session.buffers.cache[0] = 2;
+    session.state.lanes[0].floor = None;
+    session.state.clock = clock;
+    trial.probe(session, 0);
+    setup::expect(session, refusal);
+    print::edge(rt, session, ", clock ", clock)
 }
 
-pub(crate) fn clocks(rt: &impl Print, arena: &mut Arena, i: u64) -> Result<()> {
-    if i == 12 {
-        no_writes(rt, arena)?;
-    } else if i % 2 == 0 {
-        clock_case(rt, arena, clock_call(i / 2), LATE, 0)?;
-    } else {
-        clock_case(rt, arena, clock_call(i / 2), MAX_STAMP, 8)?;
+// A Log that writes nothing takes no timestamp.
+fn no_writes(rt: &impl Print, session: &mut Session) -> Result<()> {
+    setup::start_for(session, Call::Log, 0);
+    session.state.clock = MAX_STAMP;
+    setup::put_skip(session);
+    setup::probe(session, Call::Log, 0, 8);
+    setup::expect(session, None);
+    print::edge(rt, session, " without writes, clock ", MAX_STAMP)
+}
+
+pub(crate) fn clocks(rt: &impl Print, session: &mut Session) -> Result<()> {
+    for trial in STAMPING {
+        at_clock(rt, session, trial, LATE, None)?;
+        at_clock(rt, session, trial, MAX_STAMP, Some(Refusal::Spent))?;
     }
-    Ok(())
+    no_writes(rt, session)
 }
 
 // ---- the record
-// Each of twelve cases puts one field out of its range; the last two are in range: a pair past the count, and a floor
-// at the clock.
-fn field_case(i: u64) -> u64 {
-    match i {
-        0 => fields::NEXT,
-        1 => fields::PRESENT,
-        4 => fields::FIRST,
-        5 | 6 => fields::COUNT,
-        7 | 8 => fields::STAMPED,
-        9 => fields::PAIRS,
-        10 => fields::PAIRS + 4,
-        _ => fields::FLOOR,
+// What a lane of the record is given.
+#[derive(Clone, Copy)]
+enum Edit {
+    Next(u64),
+    Wrap(u64),
+    Floor(u64),
+    Held(Held),
+    FirstWord(u64),
+    SecondWord(u64),
+}
+
+impl Edit {
+    fn apply(self, lane: &mut Lane) {
+        match self {
+            Edit::Next(next) => lane.next = next,
+            Edit::Wrap(wrap) => lane.wrap = wrap,
+            Edit::Floor(floor) => lane.floor = Some(floor),
+            Edit::Held(held) => lane.held = Some(held),
+            Edit::FirstWord(word) => lane.pairs[0].word = word,
+            Edit::SecondWord(word) => lane.pairs[1].word = word,
+        }
     }
 }
 
-fn value_case(i: u64) -> u64 {
-    match i {
-        0 | 4 => MIN_SLOTS,
-        2 => 1,
-        3 | 8 => 10,
-        5 => 0,
-        6 => 17,
-        7 => 3,
-        11 => 8,
-        _ => 2,
-    }
-}
+// Each puts one field out of its range.
+const BAD: [Edit; 10] = [
+    Edit::Next(MIN_SLOTS),
+    Edit::Wrap(2),
+    Edit::Floor(1),
+    Edit::Floor(10),
+    Edit::Held(Held {
+        first: MIN_SLOTS,
+        ..HELD
+    }),
+    Edit::Held(Held { count: 0, ..HELD }),
+    Edit::Held(Held { count: 17, ..HELD }),
+    Edit::Held(Held { stamp: 3, ..HELD }),
+    Edit::Held(Held { stamp: 10, ..HELD }),
+    Edit::FirstWord(2),
+];
 
-// A field of a lane, or a word of its first two pairs, which stand 64 words apart too.
-fn edit_field(arena: &mut Arena, lane: u64, case: u64) {
-    put(
-        arena,
-        RECORD,
-        lane << 6 | field_case(case),
-        value_case(case),
-    );
-}
+// A pair past the count, and a floor at the clock.
+const GOOD: [Edit; 2] = [Edit::SecondWord(2), Edit::Floor(8)];
 
-// Then the clock odd, and last commits odd, above the clock and at it.
-fn edit_time(arena: &mut Arena, case: u64) {
-    match case {
-        0 => put(arena, RECORD, fields::CLOCK, 9),
-        1 => put(arena, RECORD, fields::LAST, 1),
-        2 => put(arena, RECORD, fields::LAST, 10),
-        _ => put(arena, RECORD, fields::LAST, 8),
-    }
-}
-
-fn edit(arena: &mut Arena, case: u64) {
-    if case < 36 {
-        edit_field(arena, case / 12, case % 12);
-    } else {
-        edit_time(arena, case - 36);
-    }
-}
-
-// Is the record out of range? Lane 2 is not in use.
-fn is_bad(case: u64) -> bool {
-    if case < 24 {
-        return case % 12 < 10;
-    }
-    36 <= case && case < 39
-}
+// Clock and last commit: the clock odd, and last commits odd, above the clock and at it. Only the last is in range.
+const TIMES: [(u64, u64, bool); 4] = [(9, 0, true), (8, 1, true), (8, 10, true), (8, 8, false)];
 
 // All lanes of the small store, and one that is not in use, hold a transaction.
-fn hold_all(arena: &mut Arena) {
-    prepare(arena, 0, true);
-    prepare(arena, 1, true);
-    prepare(arena, 2, true);
+fn held_by_all(session: &mut Session) -> Record {
+    setup::start(session);
+    setup::prepare(session, 0, true);
+    setup::prepare(session, 1, true);
+    setup::prepare(session, 2, true);
+    session.state
 }
 
-// Each case with each call on a lane.
-pub(crate) fn records(arena: &mut Arena, i: u64) {
-    let call = lane_call(i % 8);
-    start(arena);
-    hold_all(arena);
-    edit(arena, i / 8);
-    probe(arena, code_of(call), 0, used_by(arena, call));
-    session::expect(arena, (session::refusal(arena) == 2) == is_bad(i / 8));
+// A record with each call on a lane.
+fn with_record(session: &mut Session, record: Record, is_bad: bool) {
+    for trial in Trial::ON_LANE {
+        held_by_all(session);
+        session.state = record;
+        trial.probe(session, 0);
+        setup::expect_just(session, Refusal::BadRecord, is_bad);
+    }
+}
+
+fn with_edit(session: &mut Session, at: u64, edit: Edit, is_bad: bool) {
+    let mut record = held_by_all(session);
+    if let Some(lane) = record.edit(at) {
+        edit.apply(lane);
+    }
+    with_record(session, record, is_bad);
+}
+
+// Lane 2 is not in use.
+fn with_edits(session: &mut Session, lane: u64) {
+    for edit in BAD {
+        with_edit(session, lane, edit, lane < 2);
+    }
+    for edit in GOOD {
+        with_edit(session, lane, edit, false);
+    }
+}
+
+pub(crate) fn records(session: &mut Session) {
+    for lane in 0..3 {
+        with_edits(session, lane);
+    }
+    for (clock, last, is_bad) in TIMES {
+        let record = Record {
+            clock,
+            last,
+            ..held_by_all(session)
+        };
+        with_record(session, record, is_bad);
+    }
 }

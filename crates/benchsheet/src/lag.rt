@@ -1,290 +1,323 @@
 // The lag limit: which numbers Format, recoveries and the record take for one, where it refuses a Log or a Lock, and
 // where it does not refuse. They take the clock plus 2, which may not be more than the limit above the least floor; a
 // Log also without words.
-use crate::{edges, idle, logs, scenario};
-use bench::regions::STORED;
-use bench::{print, session};
-use second::fields;
-use second::words::{Arena, MAX_LAG, MAX_STAMP, MIN_LAG, get};
+use crate::edges::LATE;
+use crate::logs::Sequence::{Mark, Part, Whole};
+use crate::logs::{self, Sequence};
+use crate::setup::{self, SMALL, Trial};
+use crate::{idle, scenario};
+use bench::print;
+use bench::session::Session;
+use second::words::{MAX_LAG, MAX_STAMP, MIN_LAG};
+use second::{Call, Refusal};
 use std::io::Result;
 
-// ---- limits in range and out of it
-const LIMITS: u64 = 10;
-
-fn limit_case(i: u64) -> u64 {
-    match i {
-        4 => MAX_LAG - 1,
-        5 => MAX_LAG,
-        6 => MAX_LAG + 1,
-        7 => MAX_LAG + 2,
-        8 => u64::MAX - 1,
-        9 => u64::MAX,
-        _ => i,
-    }
-}
-
-fn is_limit(i: u64) -> bool {
-    i == 2 || i == 5
-}
+// ---- limits, and whether they are in range
+const LIMITS: [(u64, bool); 10] = [
+    (0, false),
+    (1, false),
+    (2, true),
+    (3, false),
+    (MAX_LAG - 1, false),
+    (MAX_LAG, true),
+    (MAX_LAG + 1, false),
+    (MAX_LAG + 2, false),
+    (u64::MAX - 1, false),
+    (u64::MAX, false),
+];
 
 // The limit of the record that the call returned.
-fn expect_lag(arena: &mut Arena, lag: u64) {
-    let left = get(arena, STORED, fields::LAG);
-    session::expect(arena, left == lag);
+fn expect_lag(session: &mut Session, lag: u64) {
+    let left = session.stored.state.lag;
+    session.expect(left == lag);
 }
 
-// The calls that are given one.
-fn start_code(i: u64) -> u64 {
-    match i {
-        0 => second::FORMAT,
-        1 => second::RECOVER,
-        _ => second::RECOVER_READ,
+fn give(
+    rt: &impl Print,
+    session: &mut Session,
+    call: Call,
+    lag: u64,
+    is_in_range: bool,
+) -> Result<()> {
+    setup::start_for(session, call, 0);
+    setup::fit_for(session, call);
+    session.lag = lag;
+    Trial::Of(call).probe_empty(session);
+    setup::expect(session, (!is_in_range).then_some(Refusal::BadLag));
+    if is_in_range {
+        expect_lag(session, lag);
     }
+    print::edge(rt, session, ", lag limit ", lag)
 }
 
-fn expect_given(arena: &mut Arena, i: u64) {
-    if is_limit(i) {
-        edges::expect(arena, 0);
-        expect_lag(arena, limit_case(i));
-    } else {
-        edges::expect(arena, 16);
+// To the calls that are given one.
+pub(crate) fn given(rt: &impl Print, session: &mut Session) -> Result<()> {
+    for call in [Call::Format, Call::Recover, Call::RecoverRead] {
+        for (lag, is_in_range) in LIMITS {
+            give(rt, session, call, lag, is_in_range)?;
+        }
     }
+    Ok(())
 }
 
-pub(crate) const GIVEN: u64 = 3 * LIMITS;
-
-pub(crate) fn given(rt: &impl Print, arena: &mut Arena, i: u64) -> Result<()> {
-    let code = start_code(i / LIMITS);
-    let lag = limit_case(i % LIMITS);
-    edges::start_for(arena, code, 0);
-    edges::fit_for(arena, code);
-    session::set_lag(arena, lag);
-    edges::probe_empty(arena, code);
-    expect_given(arena, i % LIMITS);
-    print::edge(rt, arena, b", lag limit ", lag)
-}
-
-// The five calls on a lane and write-back, which takes no record.
-pub(crate) const RECORDED: u64 = 6 * LIMITS;
+// The five calls on a lane, and write-back, which takes no record.
+const RECORDED: [Call; 6] = [
+    Call::Log,
+    Call::Redo,
+    Call::Validate,
+    Call::Mark,
+    Call::Drain,
+    Call::WriteBack,
+];
 
 // The record keeps its limit, in range or not. The Marks are printed.
-pub(crate) fn recorded(rt: &impl Print, arena: &mut Arena, i: u64) -> Result<()> {
-    let code = i / LIMITS + 1;
-    let lag = limit_case(i % LIMITS);
-    edges::start_for(arena, code, 0);
-    fields::set_lag(arena, lag);
-    edges::probe(arena, code, 0, 4);
-    let refused = session::refusal(arena) == 2;
-    let bad = code != second::WRITE_BACK && !is_limit(i % LIMITS);
-    session::expect(arena, refused == bad);
-    expect_lag(arena, lag);
-    if code == second::MARK {
-        print::edge(rt, arena, b", lag limit of the record ", lag)?;
+fn record(
+    rt: &impl Print,
+    session: &mut Session,
+    call: Call,
+    lag: u64,
+    is_in_range: bool,
+) -> Result<()> {
+    setup::start_for(session, call, 0);
+    session.state.lag = lag;
+    setup::probe(session, call, 0, 4);
+    let is_bad = call != Call::WriteBack && !is_in_range;
+    setup::expect_just(session, Refusal::BadRecord, is_bad);
+    expect_lag(session, lag);
+    if call == Call::Mark {
+        print::edge(rt, session, ", lag limit of the record ", lag)?;
+    }
+    Ok(())
+}
+
+pub(crate) fn recorded(rt: &impl Print, session: &mut Session) -> Result<()> {
+    for call in RECORDED {
+        for (lag, is_in_range) in LIMITS {
+            record(rt, session, call, lag, is_in_range)?;
+        }
     }
     Ok(())
 }
 
 // ---- where it refuses a Log
-const NONE: u64 = fields::NONE;
-
 // The clock, the floors of the two lanes, and what is in lane 0's log: up to one sequence.
-fn set_case(arena: &mut Arena, clock: u64, own: u64, other: u64, sequence: u64) {
-    edges::start(arena);
-    fields::set_time(arena, clock, 0);
-    fields::set_log(arena, 0, 0, 1, own);
-    fields::set_log(arena, 1, 0, 1, other);
-    logs::put_log(arena, 0, sequence, 0);
-}
-
-fn say(
-    rt: &impl Print,
-    arena: &Arena,
+#[derive(Clone, Copy, Debug)]
+struct Case {
     clock: u64,
-    own: u64,
-    other: u64,
-    sequence: u64,
-    lag: u64,
-) -> Result<()> {
-    print::counted(rt, b"clock ", clock)?;
-    print::text(rt, b", floors")?;
-    print::floor(rt, own)?;
-    print::floor(rt, other)?;
-    print::text(rt, b", ")?;
-    logs::say(rt, sequence, 0)?;
-    print::counted(rt, b", lag limit ", lag)?;
-    print::text(rt, b": ")?;
-    print::floors(rt, arena)
+    floors: [Option<u64>; 2],
+    log: &'static [Sequence],
 }
 
-// A Log of lane 0 in such a case, one of no words, or a Lock, with this limit, and its refusal or 0.
-fn log(
-    rt: &impl Print,
-    arena: &mut Arena,
-    call: u64,
-    clock: u64,
-    own: u64,
-    other: u64,
-    sequence: u64,
-    lag: u64,
-    number: u64,
-) -> Result<()> {
-    set_case(arena, clock, own, other, sequence);
-    fields::set_lag(arena, lag);
-    edges::probe(arena, edges::code_of(call), 0, edges::used_by(arena, call));
-    edges::expect(arena, number);
-    expect_lag(arena, lag);
-    say(rt, arena, clock, own, other, sequence, lag)
-}
+impl Case {
+    fn set(&self, session: &mut Session) {
+        let [own, other] = self.floors;
+        setup::start(session);
+        session.state.clock = self.clock;
+        session.state.last = 0;
+        session.state.set_log(0, 0, 1, own);
+        session.state.set_log(1, 0, 1, other);
+        logs::put_log(session, 0, self.log);
+    }
 
-// The log is empty: a floor is what the record says.
-fn log_by_record(rt: &impl Print, arena: &mut Arena, i: u64, call: u64) -> Result<()> {
-    match i {
-        0 => log(rt, arena, call, 8, NONE, 2, 0, 8, 0),
-        1 => log(rt, arena, call, 8, NONE, 2, 0, 6, 15),
-        2 => log(rt, arena, call, 10, NONE, 2, 0, 8, 15),
-        3 => log(rt, arena, call, 8, 2, NONE, 0, 8, 0),
-        4 => log(rt, arena, call, 8, 2, NONE, 0, 6, 15),
-        5 => log(rt, arena, call, 8, 8, 2, 0, 6, 15),
-        6 => log(rt, arena, call, 8, 2, 8, 0, 6, 15),
-        7 => log(rt, arena, call, 8, 8, 4, 0, 6, 0),
-        8 => log(rt, arena, call, 8, 8, 8, 0, 2, 0),
-        9 => log(rt, arena, call, 8, 8, 6, 0, 2, 15),
-        _ => log(rt, arena, call, 8, NONE, NONE, 0, 2, 0),
+    fn say(&self, rt: &impl Print, session: &Session, lag: u64) -> Result<()> {
+        let [own, other] = self.floors;
+        print!(rt; "clock {}, floors", self.clock)?;
+        print::floor(rt, own)?;
+        print::floor(rt, other)?;
+        print!(rt; ", ")?;
+        logs::say(rt, self.log)?;
+        print!(rt; ", lag limit {lag}: ")?;
+        print::floors(rt, session)
+    }
+
+    // A Log of lane 0 in such a case, one of no words, or a Lock, with this limit.
+    fn log(
+        &self,
+        rt: &impl Print,
+        session: &mut Session,
+        trial: Trial,
+        lag: u64,
+        lags: bool,
+    ) -> Result<()> {
+        self.set(session);
+        session.state.lag = lag;
+        trial.probe(session, 0);
+        setup::expect(session, lags.then_some(Refusal::Lags));
+        expect_lag(session, lag);
+        self.say(rt, session, lag)
     }
 }
 
 // The least floor that the greatest timestamp may have, with the greatest limit.
 const HIGH: u64 = MAX_STAMP - MAX_LAG;
 
-// The greatest limit, and the greatest timestamp.
-fn log_late(rt: &impl Print, arena: &mut Arena, i: u64, call: u64) -> Result<()> {
-    match i {
-        0 => log(rt, arena, call, MAX_LAG - 2, NONE, 0, 0, MAX_LAG, 0),
-        1 => log(rt, arena, call, MAX_LAG, NONE, 0, 0, MAX_LAG, 15),
-        2 => log(rt, arena, call, edges::LATE, NONE, NONE, 0, 2, 0),
-        3 => log(rt, arena, call, edges::LATE, NONE, HIGH, 0, MAX_LAG, 0),
-        4 => log(rt, arena, call, edges::LATE, NONE, HIGH - 2, 0, MAX_LAG, 15),
-        _ => log(rt, arena, call, edges::LATE, NONE, 2, 0, MAX_LAG, 15),
-    }
-}
+// The clock, the floors, the limit, and whether the call is refused. The log is empty: a floor is what the record says.
+// Then the greatest limit, and the greatest timestamp.
+const AT_LIMIT: [(u64, [Option<u64>; 2], u64, bool); 17] = [
+    (8, [None, Some(2)], 8, false),
+    (8, [None, Some(2)], 6, true),
+    (10, [None, Some(2)], 8, true),
+    (8, [Some(2), None], 8, false),
+    (8, [Some(2), None], 6, true),
+    (8, [Some(8), Some(2)], 6, true),
+    (8, [Some(2), Some(8)], 6, true),
+    (8, [Some(8), Some(4)], 6, false),
+    (8, [Some(8), Some(8)], 2, false),
+    (8, [Some(8), Some(6)], 2, true),
+    (8, [None, None], 2, false),
+    (MAX_LAG - 2, [None, Some(0)], MAX_LAG, false),
+    (MAX_LAG, [None, Some(0)], MAX_LAG, true),
+    (LATE, [None, None], 2, false),
+    (LATE, [None, Some(HIGH)], MAX_LAG, false),
+    (LATE, [None, Some(HIGH - 2)], MAX_LAG, true),
+    (LATE, [None, Some(2)], MAX_LAG, true),
+];
 
-pub(crate) fn at_limit(rt: &impl Print, arena: &mut Arena, i: u64, call: u64) -> Result<()> {
-    if i < 11 {
-        log_by_record(rt, arena, i, call)?;
-    } else {
-        log_late(rt, arena, i - 11, call)?;
+pub(crate) fn at_limit(rt: &impl Print, session: &mut Session, trial: Trial) -> Result<()> {
+    for (clock, floors, lag, lags) in AT_LIMIT {
+        let case = Case {
+            clock,
+            floors,
+            log: &[],
+        };
+        case.log(rt, session, trial, lag, lags)?;
     }
     Ok(())
 }
 
-// The lane's own floor is the one after its drain: that of its sequence, none where that is a mark, the record's where
-// it is not complete. Only a damaged log has one that is not below 10, the timestamp that comes next.
-pub(crate) fn drained(rt: &impl Print, arena: &mut Arena, i: u64, call: u64) -> Result<()> {
-    match i {
-        0 => log(rt, arena, call, 8, 2, NONE, 61, 4, 0),
-        1 => log(rt, arena, call, 8, 2, NONE, 61, 2, 15),
-        2 => log(rt, arena, call, 8, 8, NONE, 41, 4, 15),
-        3 => log(rt, arena, call, 8, NONE, NONE, 41, 4, 15),
-        4 => log(rt, arena, call, 8, NONE, NONE, 41, 6, 0),
-        5 => log(rt, arena, call, 8, 2, NONE, 82, 6, 15),
-        6 => log(rt, arena, call, 8, 2, 6, 61, 4, 0),
-        7 => log(rt, arena, call, 8, 2, NONE, 60, 2, 0),
-        8 => log(rt, arena, call, 8, 2, 8, 60, 2, 0),
-        9 => log(rt, arena, call, 8, 2, 6, 60, 2, 15),
-        10 => log(rt, arena, call, 8, 2, NONE, 101, 2, 0),
-        11 => log(rt, arena, call, 8, 2, NONE, 121, 2, 0),
-        12 => log(rt, arena, call, 8, 2, 8, 121, 2, 0),
-        _ => log(rt, arena, call, 8, 2, 6, 121, 2, 15),
+// The floors, the log, the limit, and whether the call is refused; the clock is 8. The lane's own floor is the one
+// after its drain: that of its sequence, none where that is a mark, the record's where it is not complete. Only a
+// damaged log has one that is not below 10, the timestamp that comes next.
+const DRAINED: [([Option<u64>; 2], &[Sequence], u64, bool); 14] = [
+    ([Some(2), None], &[Whole(6)], 4, false),
+    ([Some(2), None], &[Whole(6)], 2, true),
+    ([Some(8), None], &[Whole(4)], 4, true),
+    ([None, None], &[Whole(4)], 4, true),
+    ([None, None], &[Whole(4)], 6, false),
+    ([Some(2), None], &[Part(8)], 6, true),
+    ([Some(2), Some(6)], &[Whole(6)], 4, false),
+    ([Some(2), None], &[Mark(6)], 2, false),
+    ([Some(2), Some(8)], &[Mark(6)], 2, false),
+    ([Some(2), Some(6)], &[Mark(6)], 2, true),
+    ([Some(2), None], &[Whole(10)], 2, false),
+    ([Some(2), None], &[Whole(12)], 2, false),
+    ([Some(2), Some(8)], &[Whole(12)], 2, false),
+    ([Some(2), Some(6)], &[Whole(12)], 2, true),
+];
+
+pub(crate) fn drained(rt: &impl Print, session: &mut Session, trial: Trial) -> Result<()> {
+    for (floors, log, lag, lags) in DRAINED {
+        let case = Case {
+            clock: 8,
+            floors,
+            log,
+        };
+        case.log(rt, session, trial, lag, lags)?;
     }
+    Ok(())
 }
 
 // ---- where it refuses no other call
 // The clock is 8 and the lane's floor 2.
-fn start_past(arena: &mut Arena, code: u64) {
-    edges::start_for(arena, code, 0);
-    fields::set_lag(arena, MIN_LAG);
+fn start_past(session: &mut Session, call: Call) {
+    setup::start_for(session, call, 0);
+    session.state.lag = MIN_LAG;
 }
 
-fn call_past(rt: &impl Print, arena: &mut Arena, code: u64) -> Result<()> {
-    start_past(arena, code);
-    edges::probe(arena, code, 0, 4);
-    print::edge(rt, arena, b", lane ", 0)
+fn call_past(rt: &impl Print, session: &mut Session, call: Call) -> Result<()> {
+    start_past(session, call);
+    setup::probe(session, call, 0, 4);
+    print::edge(rt, session, ", lane ", 0)
 }
 
-fn no_words(rt: &impl Print, arena: &mut Arena) -> Result<()> {
-    start_past(arena, second::LOG);
-    edges::probe(arena, second::LOG, 0, 0);
-    edges::expect(arena, 15);
-    print::edge(rt, arena, b", lane ", 0)
+fn no_words(rt: &impl Print, session: &mut Session) -> Result<()> {
+    start_past(session, Call::Log);
+    setup::probe(session, Call::Log, 0, 0);
+    setup::expect(session, Some(Refusal::Lags));
+    print::edge(rt, session, ", lane ", 0)
 }
 
-fn no_writes(rt: &impl Print, arena: &mut Arena) -> Result<()> {
-    start_past(arena, second::LOG);
-    edges::put_skip(arena);
-    edges::probe(arena, second::LOG, 0, 8);
-    print::edge(rt, arena, b" without writes, lane ", 0)
+fn no_writes(rt: &impl Print, session: &mut Session) -> Result<()> {
+    start_past(session, Call::Log);
+    setup::put_skip(session);
+    setup::probe(session, Call::Log, 0, 8);
+    print::edge(rt, session, " without writes, lane ", 0)
 }
 
 // Lane 2 of two.
-fn unused_lane(rt: &impl Print, arena: &mut Arena) -> Result<()> {
-    set_case(arena, 8, NONE, NONE, 0);
-    fields::set_log(arena, 2, 0, 1, 2);
-    fields::set_lag(arena, MIN_LAG);
-    edges::probe(arena, second::LOG, 0, 4);
+fn unused_lane(rt: &impl Print, session: &mut Session) -> Result<()> {
+    let case = Case {
+        clock: 8,
+        floors: [None, None],
+        log: &[],
+    };
+    case.set(session);
+    session.state.set_log(2, 0, 1, Some(2));
+    session.state.lag = MIN_LAG;
+    setup::probe(session, Call::Log, 0, 4);
     print::row(
         rt,
-        b"Log, only a lane that is not in use has a floor",
-        arena,
+        "Log, only a lane that is not in use has a floor",
+        session,
     )
 }
 
-pub(crate) fn past_limit(rt: &impl Print, arena: &mut Arena, i: u64) -> Result<()> {
-    if i < 5 {
-        call_past(rt, arena, i + 1)?;
-    } else if i == 5 {
-        no_words(rt, arena)?;
-    } else if i == 6 {
-        no_writes(rt, arena)?;
-    } else {
-        unused_lane(rt, arena)?;
+pub(crate) fn past_limit(rt: &impl Print, session: &mut Session) -> Result<()> {
+    for call in [
+        Call::Log,
+        Call::Redo,
+        Call::Validate,
+        Call::Mark,
+        Call::Drain,
+    ] {
+        call_past(rt, session, call)?;
     }
-    Ok(())
+    no_words(rt, session)?;
+    no_writes(rt, session)?;
+    unused_lane(rt, session)
 }
 
 // ---- a lane that lags behind another one, until it is marked and that mark is drained
-fn fall_behind(rt: &impl Print, arena: &mut Arena) -> Result<()> {
-    idle::commit(rt, arena, 1)?;
-    idle::commit(rt, arena, 0)?;
-    idle::commit(rt, arena, 0)?;
-    idle::step(rt, arena, second::LOG, 0)?;
-    idle::step(rt, arena, second::LOG, 1)
-}
+const FALL_BEHIND: [(Call, u64); 8] = [
+    (Call::Log, 1),
+    (Call::Redo, 1),
+    (Call::Log, 0),
+    (Call::Redo, 0),
+    (Call::Log, 0),
+    (Call::Redo, 0),
+    (Call::Log, 0),
+    (Call::Log, 1),
+];
 
-fn catch_up(rt: &impl Print, arena: &mut Arena) -> Result<()> {
-    idle::step(rt, arena, second::DRAIN, 1)?;
-    idle::step(rt, arena, second::LOG, 0)?;
-    idle::step(rt, arena, second::MARK, 1)?;
-    idle::step(rt, arena, second::LOG, 0)?;
-    idle::step(rt, arena, second::DRAIN, 1)?;
-    idle::commit(rt, arena, 0)?;
-    expect_lag(arena, 8);
-    Ok(())
-}
+const CATCH_UP: [(Call, u64); 7] = [
+    (Call::Drain, 1),
+    (Call::Log, 0),
+    (Call::Mark, 1),
+    (Call::Log, 0),
+    (Call::Drain, 1),
+    (Call::Log, 0),
+    (Call::Redo, 0),
+];
 
 // Recovery is given another limit, which counts from then on.
-fn start_again(rt: &impl Print, arena: &mut Arena) -> Result<()> {
-    scenario::write_all_back(arena);
-    session::set_lag(arena, 2);
-    idle::recover(rt, arena)?;
-    expect_lag(arena, 2);
-    idle::commit(rt, arena, 0)?;
-    idle::step(rt, arena, second::LOG, 1)?;
-    idle::step(rt, arena, second::LOG, 0)
+fn start_again(rt: &impl Print, session: &mut Session) -> Result<()> {
+    scenario::write_all_back(session);
+    session.lag = 2;
+    idle::recover(rt, session, "recovery")?;
+    expect_lag(session, 2);
+    let calls = [
+        (Call::Log, 0),
+        (Call::Redo, 0),
+        (Call::Log, 1),
+        (Call::Log, 0),
+    ];
+    idle::run(rt, session, &calls)
 }
 
-pub(crate) fn list(rt: &impl Print, arena: &mut Arena) -> Result<()> {
-    scenario::format_with(arena, 8);
-    fall_behind(rt, arena)?;
-    catch_up(rt, arena)?;
-    start_again(rt, arena)
+pub(crate) fn list(rt: &impl Print, session: &mut Session) -> Result<()> {
+    scenario::format_with(session, SMALL, 8);
+    idle::run(rt, session, &FALL_BEHIND)?;
+    idle::run(rt, session, &CATCH_UP)?;
+    expect_lag(session, 8);
+    start_again(rt, session)
 }

@@ -1,20 +1,20 @@
 // The lock: how many instructions a long transaction has and how many slots they count as, in which order Lock and
 // Continue are refused, whom the lock keeps out, and what the record may say of it.
-use crate::{causes, edges};
-use bench::regions::STORED;
-use bench::{print, session};
-use second::fields;
-use second::words::{
-    Arena, MAX_STAMP, MIN_LAG, MIN_SLOTS, RECORD, TXN, get, only, plus, put, set_row,
-};
+use crate::causes;
+use crate::setup::{self, Instruction, Trial};
+use bench::print;
+use bench::session::Session;
+use second::records::{Lock, Pair, Record};
+use second::words::{MAX_STAMP, MIN_LAG, MIN_SLOTS};
+use second::{Answer, Call, Refusal};
 use std::io::Result;
 
 // ---- how many instructions
 // Lanes of so many slots, of which lane 0 has one sequence; the clock is 8. The transaction is of SETs.
-fn start(arena: &mut Arena, slots: u64) {
-    edges::start_with(arena, 2, 2, slots);
-    edges::prepare(arena, 0, false);
-    edges::put_sets(arena);
+fn start(session: &mut Session, slots: u64) {
+    setup::start_with(session, setup::with_slots(slots));
+    setup::prepare(session, 0, false);
+    setup::put_sets(session);
 }
 
 fn is_length(used: u64) -> bool {
@@ -22,389 +22,386 @@ fn is_length(used: u64) -> bool {
 }
 
 // No words, and 1, 16, 17, 32, 33, 64 and 65 instructions.
-fn is_end(used: u64) -> bool {
-    match used {
-        0 | 4 | 64 | 68 | 128 | 132 | 256 | 260 => true,
-        _ => false,
+const ENDS: [u64; 8] = [0, 4, 64, 68, 128, 132, 256, 260];
+
+// The count that is answered.
+fn left(session: &Session) -> Option<u64> {
+    match session.stored.outcome {
+        Ok(Answer::Locked { left, .. }) => Some(left),
+        _ => None,
     }
 }
 
-// The count that is answered, or the refusal.
-fn expect_answer(arena: &mut Arena, number: u64) {
-    session::expect(arena, get(arena, STORED, second::ANSWER) == number);
+// A Lock of so many words. The slots are just enough for 64 instructions.
+fn length(rt: &impl Print, session: &mut Session, used: u64) -> Result<()> {
+    start(session, 85);
+    setup::probe(session, Call::Lock, 0, used);
+    setup::expect(
+        session,
+        (!is_length(used)).then_some(Refusal::BadTransaction),
+    );
+    session.expect(left(session) == is_length(used).then_some(used / 4));
+    if ENDS.contains(&used) {
+        print::edge(rt, session, ", instructions ", used / 4)?;
+    }
+    Ok(())
 }
 
-pub(crate) const LENGTHS: u64 = 273;
-
-// Of so many words. The slots are just enough for 64 instructions.
-pub(crate) fn lengths(rt: &impl Print, arena: &mut Arena, used: u64) -> Result<()> {
-    start(arena, 85);
-    edges::probe(arena, second::LOCK, 0, used);
-    edges::expect(arena, only(!is_length(used), 5));
-    expect_answer(
-        arena,
-        only(!is_length(used), 5) | only(is_length(used), used / 4),
-    );
-    if is_end(used) {
-        print::edge(rt, arena, b", instructions ", used / 4)?;
+pub(crate) fn lengths(rt: &impl Print, session: &mut Session) -> Result<()> {
+    for used in 0..273 {
+        length(rt, session, used)?;
     }
     Ok(())
 }
 
 // ---- how many slots they count as
-fn slots_case(i: u64) -> u64 {
-    match i {
-        0 => MIN_SLOTS,
-        1 => 35,
-        2 => 36,
-        3 => 50,
-        4 => 51,
-        5 => 52,
-        6 => 53,
-        7 => 84,
-        _ => 85,
-    }
-}
+// Slots, and the most instructions that count as at most 17 slots less: 16 and 1, 17 and 2, 31 and 2, 32 and 2, 33 and
+// 3, 63 and 4, 64 and 4.
+const SLOTS: [(u64, u64); 9] = [
+    (MIN_SLOTS, 16),
+    (35, 16),
+    (36, 17),
+    (50, 31),
+    (51, 32),
+    (52, 32),
+    (53, 33),
+    (84, 63),
+    (85, 64),
+];
 
-// The most instructions that count as at most 17 slots less: 16 and 1, 17 and 2, 31 and 2, 32 and 2, 33 and 3, 63 and
-// 4, 64 and 4.
-fn most(slots: u64) -> u64 {
-    match slots {
-        36 => 17,
-        50 => 31,
-        51 | 52 => 32,
-        53 => 33,
-        84 => 63,
-        85 => 64,
-        _ => 16,
+fn count(rt: &impl Print, session: &mut Session, slots: u64, most: u64, n: u64) -> Result<()> {
+    start(session, slots);
+    setup::probe(session, Call::Lock, 0, n << 2);
+    setup::expect(session, (most < n).then_some(Refusal::TooLong));
+    if n == most || n == most.wrapping_add(1) {
+        print!(rt; "N {slots}, ")?;
+        print::edge(rt, session, ", instructions ", n)?;
     }
+    Ok(())
 }
 
 // 1 to 64 instructions, with each number of slots.
-pub(crate) const COUNTS: u64 = 9 * 64;
-
-pub(crate) fn counts(rt: &impl Print, arena: &mut Arena, i: u64) -> Result<()> {
-    let slots = slots_case(i / 64);
-    let count = plus(i % 64, 1);
-    start(arena, slots);
-    edges::probe(arena, second::LOCK, 0, count << 2);
-    edges::expect(arena, only(most(slots) < count, 12));
-    if count == most(slots) || count == plus(most(slots), 1) {
-        print::counted(rt, b"N ", slots)?;
-        print::text(rt, b", ")?;
-        print::edge(rt, arena, b", instructions ", count)?;
+pub(crate) fn counts(rt: &impl Print, session: &mut Session) -> Result<()> {
+    for (slots, most) in SLOTS {
+        for n in 1..65 {
+            count(rt, session, slots, most, n)?;
+        }
     }
     Ok(())
 }
 
 // ---- the order of the refusals
-fn refused(rt: &impl Print, arena: &mut Arena, call: u64, set: u64, what: &[u8]) -> Result<()> {
-    causes::call_with(arena, call, set);
-    print::row(rt, what, arena)
-}
+// Those of Continue, where no lock is held, and where another lane has it.
+const FREE: [Refusal; 4] = [
+    Refusal::Lengths,
+    Refusal::BadRecord,
+    Refusal::NoLane,
+    Refusal::HoldsNone,
+];
 
-fn lock_order(rt: &impl Print, arena: &mut Arena, i: u64) -> Result<()> {
-    match i {
-        0 => refused(
-            rt,
-            arena,
-            second::LOCK,
-            16089,
-            b"Lock, causes 1 2 3 5 6 11 12 8 15 9",
-        ),
-        1 => refused(
-            rt,
-            arena,
-            second::LOCK,
-            16088,
-            b"Lock, causes 2 3 5 6 11 12 8 15 9",
-        ),
-        2 => refused(
-            rt,
-            arena,
-            second::LOCK,
-            16080,
-            b"Lock, causes 3 5 6 11 12 8 15 9",
-        ),
-        3 => refused(
-            rt,
-            arena,
-            second::LOCK,
-            16064,
-            b"Lock, causes 5 6 11 12 8 15 9",
-        ),
-        4 => refused(
-            rt,
-            arena,
-            second::LOCK,
-            16000,
-            b"Lock, causes 6 11 12 8 15 9",
-        ),
-        5 => refused(rt, arena, second::LOCK, 15872, b"Lock, causes 11 12 8 15 9"),
-        6 => refused(rt, arena, second::LOCK, 15360, b"Lock, causes 12 8 15 9"),
-        7 => refused(rt, arena, second::LOCK, 14336, b"Lock, causes 8 15 9"),
-        8 => refused(rt, arena, second::LOCK, 12288, b"Lock, causes 15 9"),
-        9 => refused(rt, arena, second::LOCK, 8192, b"Lock, cause 9"),
-        _ => refused(rt, arena, second::LOCK, 0, b"Lock, no cause"),
-    }
-}
-
-fn continue_order(rt: &impl Print, arena: &mut Arena, i: u64) -> Result<()> {
-    match i {
-        0 => refused(
-            rt,
-            arena,
-            second::CONTINUE,
-            281,
-            b"Continue, causes 1 2 3 7",
-        ),
-        1 => refused(rt, arena, second::CONTINUE, 280, b"Continue, causes 2 3 7"),
-        2 => refused(rt, arena, second::CONTINUE, 272, b"Continue, causes 3 7"),
-        3 => refused(rt, arena, second::CONTINUE, 256, b"Continue, cause 7"),
-        4 => refused(rt, arena, second::CONTINUE, 528, b"Continue, causes 3 11"),
-        5 => refused(rt, arena, second::CONTINUE, 512, b"Continue, cause 11"),
-        _ => refused(rt, arena, second::CONTINUE, 0, b"Continue, no cause"),
-    }
-}
+const LOCKED: [Refusal; 2] = [Refusal::NoLane, Refusal::Locked];
 
 // All causes of Lock, then each time without the first one; and those of Continue.
-pub(crate) const ORDER: u64 = 18;
-
-pub(crate) fn order(rt: &impl Print, arena: &mut Arena, i: u64) -> Result<()> {
-    if i < 11 {
-        lock_order(rt, arena, i)?;
-    } else {
-        continue_order(rt, arena, i - 11)?;
-    }
-    Ok(())
+pub(crate) fn order(rt: &impl Print, session: &mut Session) -> Result<()> {
+    let lock = Trial::Of(Call::Lock);
+    causes::in_order(rt, session, "Lock", lock, &causes::LOCK)?;
+    causes::refused(rt, session, "Lock", lock, &[])?;
+    let proceed = Trial::Of(Call::Continue);
+    causes::in_order(rt, session, "Continue", proceed, &FREE)?;
+    causes::in_order(rt, session, "Continue", proceed, &LOCKED)?;
+    causes::refused(rt, session, "Continue", proceed, &[])
 }
 
 // ---- whom it keeps out
 // A call while lane 1 has the lock; lane 0 holds a transaction or not.
-fn kept_out(rt: &impl Print, arena: &mut Arena, call: u64, lane: u64, held: bool) -> Result<()> {
-    edges::start(arena);
-    edges::prepare(arena, 1, false);
-    edges::prepare(arena, 0, held);
-    edges::hold_lock(arena, 1);
-    let used = edges::used_by(arena, call);
-    edges::probe(arena, edges::code_of(call), lane, used);
-    print::edge(rt, arena, b", lane ", lane)
+fn kept_out(
+    rt: &impl Print,
+    session: &mut Session,
+    trial: Trial,
+    lane: u64,
+    is_held: bool,
+) -> Result<()> {
+    setup::start(session);
+    setup::prepare(session, 1, false);
+    setup::prepare(session, 0, is_held);
+    setup::hold_lock(session, 1);
+    trial.probe(session, lane);
+    print::edge(rt, session, ", lane ", lane)
 }
-
-pub(crate) const KEPT_OUT: u64 = 24;
 
 // Each call on lane 0 as the call wants it, which has 11 alone, then as it does not want it, and on the lock's own
 // lane.
-pub(crate) fn keeps_out(rt: &impl Print, arena: &mut Arena, i: u64) -> Result<()> {
-    let call = edges::lane_call(i % 8);
-    match i / 8 {
-        0 => kept_out(rt, arena, call, 0, edges::commits(call)),
-        1 => kept_out(rt, arena, call, 0, !edges::commits(call)),
-        _ => kept_out(rt, arena, call, 1, false),
+pub(crate) fn keeps_out(rt: &impl Print, session: &mut Session) -> Result<()> {
+    for trial in Trial::ON_LANE {
+        kept_out(rt, session, trial, 0, setup::commits(trial.call()))?;
     }
+    for trial in Trial::ON_LANE {
+        kept_out(rt, session, trial, 0, !setup::commits(trial.call()))?;
+    }
+    for trial in Trial::ON_LANE {
+        kept_out(rt, session, trial, 1, false)?;
+    }
+    Ok(())
 }
 
 // ---- what is waived
-fn probe(rt: &impl Print, arena: &mut Arena, code: u64, used: u64, what: &[u8]) -> Result<()> {
-    edges::probe(arena, code, 0, used);
-    print::row(rt, what, arena)
+fn probe(rt: &impl Print, session: &mut Session, call: Call, used: u64, what: &str) -> Result<()> {
+    setup::probe(session, call, 0, used);
+    print::row(rt, what, session)
 }
 
-// The state of a case: the clock spent, past the lag limit, or the next slots those of the newest sequence.
-fn set_cause(arena: &mut Arena, cause: u64) {
+// The state of a case: the clock spent, past the lag limit, the next slots those of the newest sequence, or the lock of
+// lane 1.
+fn set_cause(session: &mut Session, cause: Option<Refusal>) {
     match cause {
-        8 => put(arena, RECORD, fields::CLOCK, MAX_STAMP),
-        15 => fields::set_lag(arena, MIN_LAG),
-        9 => fields::set_field(arena, 0, fields::NEXT, 0),
-        11 => edges::hold_lock(arena, 1),
+        Some(Refusal::Spent) => session.state.clock = MAX_STAMP,
+        Some(Refusal::Lags) => session.state.lag = MIN_LAG,
+        Some(Refusal::Overwrites) => session.state.lanes[0].next = 0,
+        Some(Refusal::Locked) => setup::hold_lock(session, 1),
         _ => {}
     }
 }
 
-// A Lock that writes nothing takes no lock: the SKIP passes over the SET.
-fn no_writes(rt: &impl Print, arena: &mut Arena, cause: u64, what: &[u8]) -> Result<()> {
-    edges::start_for(arena, second::LOCK, 0);
-    edges::put_skip(arena);
-    set_cause(arena, cause);
-    probe(rt, arena, second::LOCK, 8, what)
-}
+// The causes of a refusal, and the lines about the calls.
+type Waived = (Option<Refusal>, &'static str);
 
-fn one_write(rt: &impl Print, arena: &mut Arena, cause: u64, what: &[u8]) -> Result<()> {
-    edges::start_for(arena, second::LOCK, 0);
-    set_cause(arena, cause);
-    probe(rt, arena, second::LOCK, 4, what)
-}
+const NO_WRITES: [Waived; 5] = [
+    (None, "Lock without writes"),
+    (Some(Refusal::Spent), "Lock without writes, cause 8"),
+    (Some(Refusal::Lags), "Lock without writes, cause 15"),
+    (Some(Refusal::Overwrites), "Lock without writes, cause 9"),
+    (Some(Refusal::Locked), "Lock without writes, cause 11"),
+];
 
-fn goes_on(rt: &impl Print, arena: &mut Arena, cause: u64, what: &[u8]) -> Result<()> {
-    edges::start_for(arena, second::CONTINUE, 0);
-    set_cause(arena, cause);
-    probe(rt, arena, second::CONTINUE, 0, what)
+const ONE_WRITE: [Waived; 3] = [
+    (Some(Refusal::Spent), "Lock, cause 8"),
+    (Some(Refusal::Lags), "Lock, cause 15"),
+    (Some(Refusal::Overwrites), "Lock, cause 9"),
+];
+
+const GOES_ON: [Waived; 4] = [
+    (None, "Continue"),
+    (Some(Refusal::Spent), "Continue, the clock spent"),
+    (Some(Refusal::Lags), "Continue, past the lag limit"),
+    (
+        Some(Refusal::Overwrites),
+        "Continue, over the newest sequence",
+    ),
+];
+
+// A Lock that writes nothing takes no lock.
+fn no_writes(rt: &impl Print, session: &mut Session) -> Result<()> {
+    for (cause, what) in NO_WRITES {
+        setup::start_for(session, Call::Lock, 0);
+        setup::put_skip(session);
+        set_cause(session, cause);
+        probe(rt, session, Call::Lock, 8, what)?;
+    }
+    Ok(())
 }
 
 // Eighteen instructions, two of them SKIPs that pass over all SETs.
-fn no_writes_long(rt: &impl Print, arena: &mut Arena) -> Result<()> {
-    edges::start_for(arena, second::LOCK, 0);
-    edges::put_sets(arena);
-    set_row(arena, TXN, 0, 5, 0, 1, 15);
-    set_row(arena, TXN, 16, 5, 0, 1, 1);
+fn no_writes_long(rt: &impl Print, session: &mut Session) -> Result<()> {
+    setup::start_for(session, Call::Lock, 0);
+    setup::put_sets(session);
+    setup::put(
+        session,
+        0,
+        Instruction::Skip {
+            unless: 1,
+            distance: 15,
+        },
+    );
+    setup::put(
+        session,
+        16,
+        Instruction::Skip {
+            unless: 1,
+            distance: 1,
+        },
+    );
     probe(
         rt,
-        arena,
-        second::LOCK,
+        session,
+        Call::Lock,
         72,
-        b"Lock without writes, 18 instructions",
+        "Lock without writes, 18 instructions",
     )
 }
 
-pub(crate) const WAIVED: u64 = 13;
-
-pub(crate) fn waived(rt: &impl Print, arena: &mut Arena, i: u64) -> Result<()> {
-    match i {
-        0 => no_writes(rt, arena, 0, b"Lock without writes"),
-        1 => no_writes(rt, arena, 8, b"Lock without writes, cause 8"),
-        2 => no_writes(rt, arena, 15, b"Lock without writes, cause 15"),
-        3 => no_writes(rt, arena, 9, b"Lock without writes, cause 9"),
-        4 => no_writes(rt, arena, 11, b"Lock without writes, cause 11"),
-        5 => no_writes_long(rt, arena),
-        6 => one_write(rt, arena, 8, b"Lock, cause 8"),
-        7 => one_write(rt, arena, 15, b"Lock, cause 15"),
-        8 => one_write(rt, arena, 9, b"Lock, cause 9"),
-        9 => goes_on(rt, arena, 0, b"Continue"),
-        10 => goes_on(rt, arena, 8, b"Continue, the clock spent"),
-        11 => goes_on(rt, arena, 15, b"Continue, past the lag limit"),
-        _ => goes_on(rt, arena, 9, b"Continue, over the newest sequence"),
+fn one_write(rt: &impl Print, session: &mut Session) -> Result<()> {
+    for (cause, what) in ONE_WRITE {
+        setup::start_for(session, Call::Lock, 0);
+        set_cause(session, cause);
+        probe(rt, session, Call::Lock, 4, what)?;
     }
+    Ok(())
+}
+
+fn goes_on(rt: &impl Print, session: &mut Session) -> Result<()> {
+    for (cause, what) in GOES_ON {
+        setup::start_for(session, Call::Continue, 0);
+        set_cause(session, cause);
+        probe(rt, session, Call::Continue, 0, what)?;
+    }
+    Ok(())
+}
+
+pub(crate) fn waived(rt: &impl Print, session: &mut Session) -> Result<()> {
+    no_writes(rt, session)?;
+    no_writes_long(rt, session)?;
+    one_write(rt, session)?;
+    goes_on(rt, session)
 }
 
 // ---- the record
-fn set_locked(arena: &mut Arena, lane: u64, stamp: u64, count: u64, logged: u64, written: u64) {
-    fields::set_lock(arena, lane, stamp, count);
-    fields::set_parts(arena, logged, written);
-}
+// Of 40 pairs, of which a part is logged.
+const LOCK: Lock = Lock {
+    lane: 0,
+    stamp: 8,
+    count: 40,
+    logged: 16,
+    written: 0,
+};
 
-fn set_parts(arena: &mut Arena, count: u64, logged: u64, written: u64) {
-    set_locked(arena, 0, 8, count, logged, written);
-}
+// The lane, which lane 1 is not as it holds a transaction; the timestamp, where the clock is 8; and is the record out
+// of range?
+const OWNERS: [(u64, u64, bool); 7] = [
+    (0, 8, false),
+    (1, 8, true),
+    (2, 8, true),
+    (u64::MAX, 8, true),
+    (0, 0, false),
+    (0, 7, true),
+    (0, 10, true),
+];
 
-// The lane, which lane 1 is not as it holds a transaction; the timestamp, where the clock is 8; the count.
-fn edit_lock(arena: &mut Arena, case: u64) {
-    match case {
-        1 => set_locked(arena, 1, 8, 40, 16, 0),
-        2 => set_locked(arena, 2, 8, 40, 16, 0),
-        3 => set_locked(arena, u64::MAX, 8, 40, 16, 0),
-        4 => set_locked(arena, 0, 0, 40, 16, 0),
-        5 => set_locked(arena, 0, 7, 40, 16, 0),
-        6 => set_locked(arena, 0, 10, 40, 16, 0),
-        7 => set_parts(arena, 0, 0, 0),
-        8 => set_parts(arena, 1, 0, 0),
-        9 => set_parts(arena, 64, 0, 0),
-        10 => set_parts(arena, 65, 0, 0),
-        _ => set_parts(arena, 40, 16, 0),
-    }
-}
-
-// How many are logged and written, of 40.
-fn edit_parts(arena: &mut Arena, case: u64) {
-    match case {
-        0 => set_parts(arena, 40, 0, 0),
-        1 => set_parts(arena, 40, 15, 0),
-        2 => set_parts(arena, 40, 17, 0),
-        3 => set_parts(arena, 40, 32, 0),
-        4 => set_parts(arena, 40, 16, 16),
-        5 => set_parts(arena, 40, 32, 16),
-        6 => set_parts(arena, 40, 0, 16),
-        7 => set_parts(arena, 40, 40, 16),
-        8 => set_parts(arena, 40, 32, 32),
-        9 => set_parts(arena, 40, 40, 32),
-        10 => set_parts(arena, 40, 39, 32),
-        _ => set_parts(arena, 40, 48, 32),
-    }
-}
-
-// At the end of the last part, and other counts.
-fn edit_end(arena: &mut Arena, case: u64) {
-    match case {
-        0 => set_parts(arena, 40, 40, 40),
-        1 => set_parts(arena, 40, 48, 48),
-        2 => set_parts(arena, 40, 8, 8),
-        3 => set_parts(arena, 16, 16, 0),
-        4 => set_parts(arena, 16, 16, 16),
-        5 => set_parts(arena, 17, 17, 16),
-        6 => set_parts(arena, 17, 16, 16),
-        7 => set_parts(arena, 1, 1, 0),
-        8 => set_parts(arena, 1, 2, 0),
-        9 => set_parts(arena, 64, 64, 48),
-        _ => set_parts(arena, 64, 64, 64),
-    }
-}
+// How many pairs there are, are logged, and written.
+const PARTS: [([u64; 3], bool); 27] = [
+    ([0, 0, 0], true),
+    ([1, 0, 0], false),
+    ([64, 0, 0], false),
+    ([65, 0, 0], true),
+    ([40, 0, 0], false),
+    ([40, 15, 0], true),
+    ([40, 17, 0], true),
+    ([40, 32, 0], true),
+    ([40, 16, 16], false),
+    ([40, 32, 16], false),
+    ([40, 0, 16], true),
+    ([40, 40, 16], true),
+    ([40, 32, 32], false),
+    ([40, 40, 32], false),
+    ([40, 39, 32], true),
+    ([40, 48, 32], true),
+    ([40, 40, 40], true),
+    ([40, 48, 48], true),
+    ([40, 8, 8], true),
+    ([16, 16, 0], false),
+    ([16, 16, 16], true),
+    ([17, 17, 16], false),
+    ([17, 16, 16], false),
+    ([1, 1, 0], false),
+    ([1, 2, 0], true),
+    ([64, 64, 48], false),
+    ([64, 64, 64], true),
+];
 
 // A pair whose word is not below W: the last of 40, the one behind it, the first; and while the lock is free.
-fn edit_pair(arena: &mut Arena, case: u64) {
-    match case {
-        0 => put_bad_pair(arena, 39),
-        1 => put_bad_pair(arena, 40),
-        2 => put_bad_pair(arena, 0),
-        _ => {
-            put_bad_pair(arena, 0);
-            set_row(arena, RECORD, fields::LOCK_ROW, 0, 0, 0, 0);
-            fields::set_parts(arena, 0, 0);
+const PAIRS: [(u64, Option<Lock>, bool); 4] = [
+    (39, Some(LOCK), true),
+    (40, Some(LOCK), false),
+    (0, Some(LOCK), true),
+    (0, None, false),
+];
+
+fn say(rt: &impl Print, session: &Session) -> Result<()> {
+    let Lock {
+        lane,
+        stamp,
+        count,
+        logged,
+        written,
+    } = session.state.lock.unwrap_or_default();
+    print::called(rt, session)?;
+    print!(rt; ", lock of lane {lane}, stamp {stamp}, count {count}")?;
+    print!(rt; ", logged {logged}, written {written}")?;
+    print::row(rt, "", session)
+}
+
+// Lane 1 holds a transaction.
+fn held_by_other(session: &mut Session) -> Record {
+    setup::start(session);
+    setup::prepare(session, 1, true);
+    setup::prepare(session, 0, false);
+    session.state
+}
+
+// A record with each call on lane 0. The Drains are printed.
+fn with_record(rt: &impl Print, session: &mut Session, record: Record, is_bad: bool) -> Result<()> {
+    for trial in Trial::ON_LANE {
+        held_by_other(session);
+        session.state = record;
+        trial.probe(session, 0);
+        setup::expect_just(session, Refusal::BadRecord, is_bad);
+        if trial == Trial::Of(Call::Drain) {
+            say(rt, session)?;
         }
     }
+    Ok(())
 }
 
-fn put_bad_pair(arena: &mut Arena, i: u64) {
-    set_parts(arena, 40, 16, 0);
-    set_row(arena, RECORD, fields::lock_pair(i), 2, 0, 0, 0);
+fn with_lock(rt: &impl Print, session: &mut Session, lock: Lock, is_bad: bool) -> Result<()> {
+    let record = Record {
+        lock: Some(lock),
+        ..held_by_other(session)
+    };
+    with_record(rt, session, record, is_bad)
 }
 
-fn edit(arena: &mut Arena, case: u64) {
-    if case < 11 {
-        edit_lock(arena, case);
-    } else if case < 23 {
-        edit_parts(arena, case - 11);
-    } else if case < 34 {
-        edit_end(arena, case - 23);
-    } else {
-        edit_pair(arena, case - 34);
+fn with_bad_pair(
+    rt: &impl Print,
+    session: &mut Session,
+    i: u64,
+    lock: Option<Lock>,
+    is_bad: bool,
+) -> Result<()> {
+    let mut record = Record {
+        lock,
+        ..held_by_other(session)
+    };
+    record.set_lock_pair(i, Pair { word: 2, value: 0 });
+    with_record(rt, session, record, is_bad)
+}
+
+pub(crate) fn records(rt: &impl Print, session: &mut Session) -> Result<()> {
+    for (lane, stamp, is_bad) in OWNERS {
+        with_lock(
+            rt,
+            session,
+            Lock {
+                lane,
+                stamp,
+                ..LOCK
+            },
+            is_bad,
+        )?;
     }
-}
-
-fn is_bad(case: u64) -> bool {
-    match case {
-        1 | 2 | 3 | 5 | 6 | 7 | 10 | 12 | 13 | 14 | 17 | 18 | 21 | 22 => true,
-        23 | 24 | 25 | 27 | 31 | 33 | 34 | 36 => true,
-        _ => false,
+    for ([count, logged, written], is_bad) in PARTS {
+        with_lock(
+            rt,
+            session,
+            Lock {
+                count,
+                logged,
+                written,
+                ..LOCK
+            },
+            is_bad,
+        )?;
     }
-}
-
-fn say(rt: &impl Print, arena: &Arena) -> Result<()> {
-    print::called(rt, arena)?;
-    print::counted(
-        rt,
-        b", lock of lane ",
-        get(arena, RECORD, fields::LOCK_LANE),
-    )?;
-    print::counted(rt, b", stamp ", get(arena, RECORD, fields::LOCK_STAMP))?;
-    print::counted(rt, b", count ", get(arena, RECORD, fields::LOCK_COUNT))?;
-    print::counted(rt, b", logged ", get(arena, RECORD, fields::LOCK_LOGGED))?;
-    print::counted(rt, b", written ", get(arena, RECORD, fields::LOCK_WRITTEN))?;
-    print::row(rt, b"", arena)
-}
-
-pub(crate) const RECORDS: u64 = 38 * 8;
-
-// Each case with each call on lane 0. The Drains are printed.
-pub(crate) fn records(rt: &impl Print, arena: &mut Arena, i: u64) -> Result<()> {
-    let call = edges::lane_call(i % 8);
-    edges::start(arena);
-    edges::prepare(arena, 1, true);
-    edges::prepare(arena, 0, false);
-    edit(arena, i / 8);
-    let used = edges::used_by(arena, call);
-    edges::probe(arena, edges::code_of(call), 0, used);
-    session::expect(arena, (session::refusal(arena) == 2) == is_bad(i / 8));
-    if call == second::DRAIN {
-        say(rt, arena)?;
+    for (i, lock, is_bad) in PAIRS {
+        with_bad_pair(rt, session, i, lock, is_bad)?;
     }
     Ok(())
 }

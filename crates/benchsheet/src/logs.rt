@@ -1,50 +1,78 @@
-// Logs made by hand, of up to two sequences. A sequence is a number here: its timestamp times ten, plus its count, and
-// 0 for none. So 41 and 60 are timestamp 4 over one entry, and behind it a mark 6.
-use crate::edges;
-use bench::print;
-use second::words::{Arena, plus};
+// Logs made by hand, of up to two sequences.
+use crate::setup::{self, Slot};
+use bench::session::Session;
+use std::fmt;
 use std::io::Result;
 
-fn stamp_of(sequence: u64) -> u64 {
-    sequence / 10
+// A sequence, with its timestamp.
+#[derive(Clone, Copy, PartialEq, Eq, Debug)]
+pub(crate) enum Sequence {
+    // over one entry
+    Whole(u64),
+    // over none
+    Mark(u64),
+    // over two entries, of which there is one, so that it is not complete
+    Part(u64),
 }
 
-fn count_of(sequence: u64) -> u64 {
-    sequence % 10
-}
-
-// The entry has the word of the lane's own number, and the timestamp as its old value; the wrap bits are 1. There is
-// one entry at most, so that a timestamp over two is not complete.
-fn put_sequence(arena: &mut Arena, lane: u64, slot: u64, sequence: u64) {
-    let value = plus(stamp_of(sequence), 1);
-    if count_of(sequence) != 0 {
-        edges::put_slot(arena, lane, slot, plus(lane << 3, 9), value);
+impl Sequence {
+    fn stamp(self) -> u64 {
+        match self {
+            Sequence::Whole(stamp) | Sequence::Mark(stamp) | Sequence::Part(stamp) => stamp,
+        }
     }
-    if sequence != 0 {
-        let address = plus(count_of(sequence) << 3, 32769);
-        edges::put_slot(arena, lane, plus(slot, 1), address, value);
+
+    fn count(self) -> u64 {
+        match self {
+            Sequence::Mark(_) => 0,
+            Sequence::Whole(_) => 1,
+            Sequence::Part(_) => 2,
+        }
+    }
+
+    // Puts it into slots `at` and `at` + 1 of the cached log. The entry has the word of the lane's own number, and the
+    // timestamp as its old value; the wrap bits are 1.
+    fn put(self, session: &mut Session, lane: u64, at: u64) {
+        let stamp = self.stamp();
+        let count = self.count();
+        if count != 0 {
+            setup::put_slot(
+                session,
+                lane,
+                at,
+                Slot::Entry {
+                    word: lane,
+                    old: stamp,
+                    wrap: 1,
+                },
+            );
+        }
+        let slot = Slot::Stamp {
+            stamp,
+            count,
+            wrap: 1,
+        };
+        setup::put_slot(session, lane, at.wrapping_add(1), slot);
+    }
+}
+
+impl fmt::Display for Sequence {
+    fn fmt<W: fmt::Write>(&self, f: &mut fmt::Formatter<W>) -> fmt::Result {
+        write!(f, "{} over {}", self.stamp(), self.count())
     }
 }
 
 // In slots 10 to 13 of the cached log.
-pub(crate) fn put_log(arena: &mut Arena, lane: u64, a: u64, b: u64) {
-    put_sequence(arena, lane, 10, a);
-    put_sequence(arena, lane, 12, b);
+pub(crate) fn put_log(session: &mut Session, lane: u64, log: &[Sequence]) {
+    for (at, sequence) in [10, 12].into_iter().zip(log) {
+        sequence.put(session, lane, at);
+    }
 }
 
-fn say_sequence(rt: &impl Print, name: &[u8], sequence: u64) -> Result<()> {
-    print::counted(rt, name, stamp_of(sequence))?;
-    print::counted(rt, b" over ", count_of(sequence))
-}
-
-pub(crate) fn say(rt: &impl Print, a: u64, b: u64) -> Result<()> {
-    if a == 0 {
-        print::text(rt, b"nothing")?;
-    } else {
-        say_sequence(rt, b"", a)?;
+pub(crate) fn say(rt: &impl Print, log: &[Sequence]) -> Result<()> {
+    match log {
+        [] => print!(rt; "nothing"),
+        [only] => print!(rt; "{only}"),
+        [first, second, ..] => print!(rt; "{first}, {second}"),
     }
-    if b != 0 {
-        say_sequence(rt, b", ", b)?;
-    }
-    Ok(())
 }

@@ -1,39 +1,15 @@
 // Refusal 9 at each slot: a Mark, Logs and a Lock over two sequences of lane 0, of which the newer one closes an entry
 // or is a mark.
-use crate::edges;
-use bench::{print, session};
-use second::fields;
-use second::words::{Arena, MIN_SLOTS, TXN, minus, only, plus, set_row};
+use crate::setup::{self, Instruction, Slot};
+use bench::print;
+use bench::session::Session;
+use second::words::MIN_SLOTS;
+use second::{Call, Refusal};
 use std::io::Result;
 
-// Entries of word 1, old value 5, in four slots of lane 0's log.
-fn four_entries(arena: &mut Arena, slot: u64) {
-    edges::put_slot(arena, 0, slot, 18, 4);
-    edges::put_slot(arena, 0, plus(slot, 1), 18, 4);
-    edges::put_slot(arena, 0, plus(slot, 2), 18, 4);
-    edges::put_slot(arena, 0, plus(slot, 3), 18, 4);
-}
-
-// Lane 0's log has a sequence of sixteen entries, the longest, at slots 10 to 25 with timestamp 4 at slot 26, and one
-// of an entry at slot 33 and timestamp 10 at slot 0, over the wrap. A mark closes no entry: that one is then no part of
-// the sequence.
-pub(crate) fn two_sequences(arena: &mut Arena, marked: bool) {
-    four_entries(arena, 10);
-    four_entries(arena, 14);
-    four_entries(arena, 18);
-    four_entries(arena, 22);
-    edges::put_slot(arena, 0, 26, 32896, 4);
-    edges::put_slot(arena, 0, 33, 19, 5);
-    if marked {
-        edges::put_slot(arena, 0, 0, 32768, 10);
-    } else {
-        edges::put_slot(arena, 0, 0, 32776, 10);
-    }
-}
-
-// Would the call write slot `slot`, where it appends `count` from `next` on?
+// Would a call write slot `slot`, where it appends `count` from `next` on?
 fn writes_slot(next: u64, count: u64, slot: u64) -> bool {
-    let distance = minus(plus(slot, MIN_SLOTS), next) % MIN_SLOTS;
+    let distance = slot.wrapping_add(MIN_SLOTS).wrapping_sub(next) % MIN_SLOTS;
     distance < count
 }
 
@@ -41,114 +17,192 @@ fn writes_older(next: u64, count: u64) -> bool {
     writes_slot(next, count, 10) || (10 <= next && next <= 26)
 }
 
-// The newer sequence is always protected, by the lane's own floor after its drain, which is 10; the older one where the
-// other lane's floor is not above 4. What lane 0's record says of its floor does not matter.
-pub(crate) fn hits(next: u64, count: u64, other: u64) -> bool {
-    let newer = writes_slot(next, count, 33) || writes_slot(next, count, 0);
-    newer || (writes_older(next, count) && other <= 4)
+// Does a floor, if there is one, protect a sequence with this timestamp?
+fn protects(floor: Option<u64>, stamp: u64) -> bool {
+    floor.is_some_and(|floor| floor <= stamp)
 }
 
-// Where it is a mark, the drain ends the lane's own floor: only the other lane's floor protects, a sequence that is not
-// below it.
-pub(crate) fn hits_marked(next: u64, count: u64, other: u64) -> bool {
-    (writes_slot(next, count, 0) && other <= 10) || (writes_older(next, count) && other <= 4)
+// Lane 0's next slot, its floor and the other lane's, and whether its newer sequence is a mark.
+#[derive(Clone, Copy, Debug)]
+pub(crate) struct Case {
+    pub next: u64,
+    pub own: Option<u64>,
+    pub other: Option<u64>,
+    pub is_marked: bool,
 }
 
-fn three_sets(arena: &mut Arena) {
-    set_row(arena, TXN, 0, 1, 0, 0, 3);
-    set_row(arena, TXN, 1, 1, 1, 0, 3);
-    set_row(arena, TXN, 2, 1, 0, 0, 4);
-}
+impl Case {
+    // Lane 0's log has a sequence of sixteen entries, the longest, at slots 10 to 25 with timestamp 4 at slot 26, and
+    // one of an entry at slot 33 and timestamp 10 at slot 0, over the wrap. A mark closes no entry: that one is then no
+    // part of the sequence.
+    fn put_sequences(&self, session: &mut Session) {
+        for at in 10..26 {
+            setup::put_slot(
+                session,
+                0,
+                at,
+                Slot::Entry {
+                    word: 1,
+                    old: 5,
+                    wrap: 0,
+                },
+            );
+        }
+        setup::put_slot(
+            session,
+            0,
+            26,
+            Slot::Stamp {
+                stamp: 4,
+                count: 16,
+                wrap: 0,
+            },
+        );
+        setup::put_slot(
+            session,
+            0,
+            33,
+            Slot::Entry {
+                word: 1,
+                old: 5,
+                wrap: 1,
+            },
+        );
+        let count = if self.is_marked { 0 } else { 1 };
+        setup::put_slot(
+            session,
+            0,
+            0,
+            Slot::Stamp {
+                stamp: 10,
+                count,
+                wrap: 0,
+            },
+        );
+    }
 
-// The state of a case: lane 0's next slot, its floor and the other lane's, at clock 20.
-pub(crate) fn set_case(arena: &mut Arena, next: u64, own: u64, other: u64) {
-    edges::start(arena);
-    three_sets(arena);
-    fields::set_time(arena, 20, 20);
-    fields::set_log(arena, 0, next, 1, own);
-    fields::set_log(arena, 1, 0, 1, other);
+    // The clock is 20, and the transaction has three SETs.
+    pub(crate) fn set(&self, session: &mut Session) {
+        setup::start(session);
+        setup::put(session, 1, Instruction::Set { word: 1, value: 3 });
+        setup::put(session, 2, Instruction::Set { word: 0, value: 4 });
+        session.state.clock = 20;
+        session.state.last = 20;
+        session.state.set_log(0, self.next, 1, self.own);
+        session.state.set_log(1, 0, 1, self.other);
+        self.put_sequences(session);
+    }
+
+    // Would so many slots hit a sequence that is protected? The newer one always is, by the lane's own floor after its
+    // drain, which is 10, unless it is a mark: that ends the lane's own floor. Then, and for the older one, only the
+    // other lane's floor protects, a sequence that is not below it. What lane 0's record says of its floor does not
+    // matter.
+    pub(crate) fn is_hit(&self, count: u64) -> bool {
+        let next = self.next;
+        let older = writes_older(next, count) && protects(self.other, 4);
+        let newer = if self.is_marked {
+            writes_slot(next, count, 0) && protects(self.other, 10)
+        } else {
+            writes_slot(next, count, 33) || writes_slot(next, count, 0)
+        };
+        older || newer
+    }
 }
 
 // A Mark, or a Log of `writes` SETs. Is it refused with 9 just where it is expected to be?
-fn append(arena: &mut Arena, writes: u64, hit: bool) {
-    let mut code = second::LOG;
-    if writes == 0 {
-        code = second::MARK;
+fn append(session: &mut Session, case: Case, writes: u64) {
+    let call = if writes == 0 { Call::Mark } else { Call::Log };
+    case.set(session);
+    setup::probe(session, call, 0, writes << 2);
+    setup::expect_just(
+        session,
+        Refusal::Overwrites,
+        case.is_hit(writes.wrapping_add(1)),
+    );
+}
+
+// None, below, at, and above the older sequence's timestamp.
+const OTHERS: [Option<u64>; 4] = [None, Some(2), Some(4), Some(6)];
+
+// Then one above both.
+pub(crate) const ALL_OTHERS: [Option<u64>; 5] = [None, Some(2), Some(4), Some(6), Some(12)];
+
+// How many writes, and the lane's own floor: a Mark with and without a floor of its own, a Log of one write and one of
+// three.
+const APPENDS: [(u64, Option<u64>); 4] = [(0, None), (0, Some(2)), (1, Some(2)), (3, None)];
+
+// The other lane's floor in four ways, each slot, and four appends.
+pub(crate) fn cases(session: &mut Session) {
+    for other in OTHERS {
+        for next in 0..MIN_SLOTS {
+            for (writes, own) in APPENDS {
+                append(
+                    session,
+                    Case {
+                        next,
+                        own,
+                        other,
+                        is_marked: false,
+                    },
+                    writes,
+                );
+            }
+        }
     }
-    edges::probe(arena, code, 0, writes << 2);
-    let refused = session::refusal(arena) == 9;
-    session::expect(arena, refused == hit);
 }
-
-// None, below, at, and above the older sequence's timestamp; above both.
-pub(crate) fn floor_case(i: u64) -> u64 {
-    match i {
-        0 => fields::NONE,
-        4 => 12,
-        _ => i << 1,
-    }
-}
-
-// How many writes: none for a Mark.
-fn writes_case(i: u64) -> u64 {
-    match i {
-        2 => 1,
-        3 => 3,
-        _ => 0,
-    }
-}
-
-// The lane's own floor.
-fn own_case(i: u64) -> u64 {
-    if i == 1 || i == 2 {
-        return 2;
-    }
-    fields::NONE
-}
-
-// The cases of one floor of the other lane.
-const APPENDS: u64 = 136;
-
-pub(crate) const CASES: u64 = 4 * APPENDS;
-
-// The other lane's floor in four ways, each slot, and four appends: a Mark with and without a floor of its own, a Log
-// of one write and one of three.
-pub(crate) fn cases(arena: &mut Arena, i: u64) {
-    let other = floor_case(i / APPENDS);
-    let next = i / 4 % MIN_SLOTS;
-    let writes = writes_case(i % 4);
-    set_case(arena, next, own_case(i % 4), other);
-    two_sequences(arena, false);
-    append(arena, writes, hits(next, plus(writes, 1), other));
-}
-
-pub(crate) const LOCK_CASES: u64 = 4 * MIN_SLOTS;
 
 // A Lock counts its slots by the instructions: of these three a SKIP passes over one, and one writes, but they count as
 // four slots.
-pub(crate) fn locking(arena: &mut Arena, i: u64) {
-    let other = floor_case(i / MIN_SLOTS);
-    let next = i % MIN_SLOTS;
-    set_case(arena, next, 2, other);
-    edges::put_skip(arena);
-    two_sequences(arena, false);
-    edges::probe(arena, second::LOCK, 0, 12);
-    edges::expect(arena, only(hits(next, 4, other), 9));
+fn lock(session: &mut Session, case: Case) {
+    case.set(session);
+    setup::put_skip(session);
+    setup::probe(session, Call::Lock, 0, 12);
+    setup::expect(session, case.is_hit(4).then_some(Refusal::Overwrites));
 }
 
-pub(crate) const MARKED_CASES: u64 = 5 * APPENDS;
+pub(crate) fn locking(session: &mut Session) {
+    for other in OTHERS {
+        for next in 0..MIN_SLOTS {
+            lock(
+                session,
+                Case {
+                    next,
+                    own: Some(2),
+                    other,
+                    is_marked: false,
+                },
+            );
+        }
+    }
+}
 
-// The same where the newer one is a mark, and with a fifth floor. The Marks over that mark are printed.
-pub(crate) fn marked(rt: &impl Print, arena: &mut Arena, i: u64) -> Result<()> {
-    let other = floor_case(i / APPENDS);
-    let next = i / 4 % MIN_SLOTS;
-    let writes = writes_case(i % 4);
-    set_case(arena, next, own_case(i % 4), other);
-    two_sequences(arena, true);
-    append(arena, writes, hits_marked(next, plus(writes, 1), other));
-    if i % APPENDS == 1 {
-        print::text(rt, b"Mark over a mark: ")?;
-        print::floors(rt, arena)?;
+// Four appends, where the newer sequence is a mark. The Marks over that mark are printed.
+fn over_mark(rt: &impl Print, session: &mut Session, next: u64, other: Option<u64>) -> Result<()> {
+    for (writes, own) in APPENDS {
+        append(
+            session,
+            Case {
+                next,
+                own,
+                other,
+                is_marked: true,
+            },
+            writes,
+        );
+        if next == 0 && writes == 0 && own.is_some() {
+            print!(rt; "Mark over a mark: ")?;
+            print::floors(rt, session)?;
+        }
+    }
+    Ok(())
+}
+
+// With a fifth floor.
+pub(crate) fn marked(rt: &impl Print, session: &mut Session) -> Result<()> {
+    for other in ALL_OTHERS {
+        for next in 0..MIN_SLOTS {
+            over_mark(rt, session, next, other)?;
+        }
     }
     Ok(())
 }

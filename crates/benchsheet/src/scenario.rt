@@ -1,87 +1,83 @@
 // The bench sheet's two-lane scenario, and the same with recovery cut after each of its stores, of images with a
 // trailer and without.
-use crate::{edges, trailers};
-use bench::regions::{IMAGE, SEED, STORED, STORED_NVM};
-use bench::{power, print, session};
-use second::words::{Arena, MAX_LAG, NVM, STATE, TXN, copy, get, put, set_row};
+use crate::setup::{self, Instruction, SMALL};
+use crate::trailers;
+use bench::session::Session;
+use bench::{power, print};
+use second::image::Sizes;
+use second::words::MAX_LAG;
+use second::{Answer, Call};
 use std::io::Result;
 
-// The calls of the scenario, and their lanes.
-fn code_of(i: u64) -> u64 {
-    match i {
-        2 => second::REDO,
-        3 => second::REDO,
-        4 => second::VALIDATE,
-        _ => second::LOG,
-    }
-}
-
-fn lane_of(i: u64) -> u64 {
-    match i {
-        1 => 0,
-        2 => 0,
-        _ => 1,
-    }
-}
+// The calls, and their lanes.
+const CALLS: [(Call, u64); 6] = [
+    (Call::Log, 1),
+    (Call::Log, 0),
+    (Call::Redo, 0),
+    (Call::Redo, 1),
+    (Call::Validate, 1),
+    (Call::Log, 1),
+];
 
 // Lane 0 has a SET of word 0 to 2, lane 1 a COPY of word 0 into word 1.
-fn step(rt: &impl Print, arena: &mut Arena, i: u64) -> Result<()> {
-    let lane = lane_of(i);
-    if lane == 0 {
-        set_row(arena, TXN, 0, 1, 0, 0, 2);
-    } else {
-        set_row(arena, TXN, 0, 2, 1, 0, 0);
+fn instruction_of(lane: u64) -> Instruction {
+    match lane {
+        0 => Instruction::Set { word: 0, value: 2 },
+        _ => Instruction::Copy { word: 1, from: 0 },
     }
-    session::call(arena, code_of(i), lane, 4);
-    print::edge(rt, arena, b", lane ", lane)
 }
 
-// A new store, of two words of 0.
-pub(crate) fn format(arena: &mut Arena) {
-    format_with(arena, MAX_LAG);
+// A new store of words of 0.
+pub(crate) fn format_with(session: &mut Session, sizes: Sizes, lag: u64) {
+    setup::start_with(session, sizes);
+    session.lag = lag;
+    session.set_instruction(0, [0; 4]);
+    session.call(Call::Format, 0, sizes.words);
 }
 
-pub(crate) fn format_with(arena: &mut Arena, lag: u64) {
-    edges::start(arena);
-    session::set_lag(arena, lag);
-    set_row(arena, TXN, 0, 0, 0, 0, 0);
-    session::call(arena, second::FORMAT, 0, 2);
+pub(crate) fn format(session: &mut Session) {
+    format_with(session, SMALL, MAX_LAG);
 }
 
-// That, and the six calls.
-fn play(rt: &impl Print, arena: &mut Arena) -> Result<()> {
-    format(arena);
-    for i in 0..6 {
-        step(rt, arena, i)?;
+// A new store, and the six calls.
+fn play(rt: &impl Print, session: &mut Session) -> Result<()> {
+    format(session);
+    for (call, lane) in CALLS {
+        setup::put(session, 0, instruction_of(lane));
+        session.call(call, lane, 4);
+        print::edge(rt, session, ", lane ", lane)?;
     }
     Ok(())
 }
 
-pub(crate) fn write_all_back(arena: &mut Arena) {
-    for i in 0..session::length(arena) {
-        session::call(arena, second::WRITE_BACK, i, 0);
+// Kept as a range, as elsewhere in this program: words are named to a call by number, and no array has them as its index.
+pub(crate) fn write_back(session: &mut Session, first: u64, end: u64) {
+    for word in first..end {
+        session.call(Call::WriteBack, word, 0);
     }
 }
 
-// Power fails, and recovery finds what is in non-volatile memory.
-pub(crate) fn recover(arena: &mut Arena, limit: u64) {
-    put(arena, STATE, SEED, 7);
-    power::scramble(arena);
-    power::recover_within(arena, limit);
+pub(crate) fn write_all_back(session: &mut Session) {
+    let length = session.length();
+    write_back(session, 0, length);
 }
 
-pub(crate) fn run(rt: &impl Print, arena: &mut Arena) -> Result<()> {
-    play(rt, arena)?;
-    write_all_back(arena);
-    copy(arena, NVM, IMAGE, 0, edges::LENGTH);
-    recover(arena, u64::MAX);
-    print::row(rt, b"recovery", arena)?;
-    print::pair(
-        rt,
-        b"words ",
-        get(arena, STORED_NVM, 1),
-        get(arena, STORED_NVM, 2),
-    )
+// Power fails, and recovery finds what is in non-volatile memory.
+pub(crate) fn recover(session: &mut Session, limit: u64) {
+    session.random.seed = 7;
+    power::scramble(session);
+    power::recover_within(session, limit);
+}
+
+// Non-volatile memory is kept as it is before the recovery.
+pub(crate) fn run(rt: &impl Print, session: &mut Session) -> Result<()> {
+    play(rt, session)?;
+    write_all_back(session);
+    session.image = session.buffers.nvm;
+    recover(session, u64::MAX);
+    print::row(rt, "recovery", session)?;
+    let nvm = &session.stored.buffers.nvm;
+    println!(rt; "words {} {}", nvm[1], nvm[2])
 }
 
 // How many slots recovery has cleared by half after `limit` stores: the address word of one that holds something, and
@@ -93,31 +89,41 @@ fn half_cleared(limit: u64) -> u64 {
     }
 }
 
-// Recovery cut after `limit` stores, and done again: both words are 0, and a slot that was half cleared is found torn.
-// There are 140 stores: three entries, the base timestamp, and 136 log words.
-fn recover_twice(arena: &mut Arena, limit: u64) {
-    copy(arena, IMAGE, NVM, 0, edges::LENGTH);
-    recover(arena, limit);
-    recover(arena, u64::MAX);
-    session::expect(
-        arena,
-        get(arena, STORED_NVM, 1) == 0 && get(arena, STORED_NVM, 2) == 0,
-    );
-    session::expect(
-        arena,
-        get(arena, STORED, second::TORN) == half_cleared(limit),
-    );
+// The torn slots that the last recovery found.
+fn torn(session: &Session) -> u64 {
+    match session.stored.outcome {
+        Ok(Answer::Recovered { torn, .. }) => torn,
+        _ => 0,
+    }
 }
 
+// Recovery cut after `limit` stores, and done again: both words are 0, and a slot that was half cleared is found torn.
+fn recover_twice(session: &mut Session, limit: u64) {
+    session.buffers.nvm = session.image;
+    recover(session, limit);
+    recover(session, u64::MAX);
+    let nvm = &session.stored.buffers.nvm;
+    let are_clear = nvm[1] == 0 && nvm[2] == 0;
+    session.expect(are_clear);
+    session.expect(torn(session) == half_cleared(limit));
+}
+
+// There are 140 stores: three entries, the base timestamp, and 136 log words.
+const LIMITS: u64 = 142;
+
 // The trailer stands as Format wrote it.
-pub(crate) fn run_cut(arena: &mut Arena, limit: u64) {
-    session::fit(arena);
-    recover_twice(arena, limit);
-    session::expect(arena, trailers::stands(arena, STORED_NVM));
+pub(crate) fn run_cut(session: &mut Session) {
+    for limit in 0..LIMITS {
+        session.fit();
+        recover_twice(session, limit);
+        trailers::expect_small(session);
+    }
 }
 
 // The image without its trailer is one of the former length.
-pub(crate) fn run_former(arena: &mut Arena, limit: u64) {
-    session::fit_former(arena);
-    recover_twice(arena, limit);
+pub(crate) fn run_former(session: &mut Session) {
+    for limit in 0..LIMITS {
+        session.fit_former();
+        recover_twice(session, limit);
+    }
 }

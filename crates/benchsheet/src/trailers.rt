@@ -1,313 +1,332 @@
 // Trailers: recovery without sizes, which reads them there, on trailers that agree with their image and on those that
 // do not; and what happens to the trailer in the cache.
-use crate::edges;
-use bench::regions::{ROOM, SEED, STORED_CACHE, STORED_NVM};
-use bench::{power, print, session};
-use second::words::{
-    Arena, CACHE, FLAGS, NVM, STATE, TRAILER, TXN, copy, get, minus, plus, put, set_row,
-};
+use crate::setup::{self, FORMER};
+use bench::buffers::Image;
+use bench::session::Session;
+use bench::{power, print};
+use second::image::Sizes;
+use second::words::{TRAILER, set_word};
+use second::{Call, Refusal};
 use std::io::Result;
 
-// The place of the small store's trailer.
-const AT: u64 = edges::FORMER;
+// The small store's trailer, and its place.
+const SMALL: [u64; 4] = [2, 2, 34, FORMER];
 
-// Is it the small store's in this region?
-pub(crate) fn stands(arena: &Arena, region: u64) -> bool {
-    is(arena, region, 2, 2, 34, 139)
+const AT: usize = FORMER as usize;
+
+// Does an image end so?
+fn has(image: &Image, trailer: [u64; 4]) -> bool {
+    image[AT..AT + 4] == trailer[..]
 }
 
-fn is(arena: &Arena, region: u64, a: u64, b: u64, c: u64, d: u64) -> bool {
-    get(arena, region, AT) == a
-        && get(arena, region, AT + 1) == b
-        && get(arena, region, AT + 2) == c
-        && get(arena, region, AT + 3) == d
+// Counts a difference unless non-volatile memory ends so.
+fn expect(session: &mut Session, trailer: [u64; 4]) {
+    let holds = has(&session.stored.buffers.nvm, trailer);
+    session.expect(holds);
 }
 
-// Four words from word `at` of a region on.
-fn put_four(arena: &mut Arena, region: u64, at: u64, a: u64, b: u64, c: u64, d: u64) {
-    put(arena, region, at, a);
-    put(arena, region, plus(at, 1), b);
-    put(arena, region, plus(at, 2), c);
-    put(arena, region, plus(at, 3), d);
+pub(crate) fn expect_small(session: &mut Session) {
+    expect(session, SMALL);
+}
+
+// The same of the cache, where it stands there just where it is expected to.
+fn expect_cached(session: &mut Session, expected: bool) {
+    let stands = has(&session.stored.buffers.cache, SMALL);
+    session.expect(stands == expected);
+}
+
+// Puts four words into non-volatile memory, from a word on.
+fn put_four(session: &mut Session, at: u64, words: [u64; 4]) {
+    for (place, word) in (at..).zip(words) {
+        set_word(&mut session.buffers.nvm, place, word);
+    }
 }
 
 // Non-volatile memory of the small store. Lane 0's log has one sequence: an entry of word 0 with old value 0, and
 // timestamp 2. Word 0 is 9, so that its undoing shows.
-fn start(arena: &mut Arena) {
-    edges::start(arena);
-    edges::prepare(arena, 0, false);
-    put(arena, CACHE, 1, 9);
-    copy(arena, CACHE, NVM, 0, ROOM);
+fn start(session: &mut Session) {
+    setup::start(session);
+    setup::prepare(session, 0, false);
+    session.buffers.cache[1] = 9;
+    session.buffers.nvm = session.buffers.cache;
 }
 
-// Recovery without sizes, after a power failure: cache and flags hold anything, and no sizes are set.
-fn recover(arena: &mut Arena, limit: u64) {
-    put(arena, STATE, SEED, 7);
-    power::scramble(arena);
-    session::set_sizes(arena, 0, 0, 0);
-    session::call(arena, second::RECOVER_READ, limit, 0);
+// After a power failure cache and flags hold anything.
+fn scramble(session: &mut Session) {
+    session.random.seed = 7;
+    power::scramble(session);
 }
 
-fn set_all(arena: &mut Arena, length: u64) {
-    session::set_lengths(arena, length, length, length);
+// Recovery without sizes, after a power failure, where none are set.
+fn recover(session: &mut Session, limit: u64) {
+    scramble(session);
+    session.sizes = Sizes {
+        words: 0,
+        lanes: 0,
+        slots: 0,
+    };
+    session.call(Call::RecoverRead, limit, 0);
 }
 
-// An image so long that ends in these four words, and its refusal, or 0.
+// An image so long that ends in these four words.
 fn ends_in(
     rt: &impl Print,
-    arena: &mut Arena,
-    a: u64,
-    b: u64,
-    c: u64,
-    d: u64,
+    session: &mut Session,
+    trailer: [u64; 4],
     length: u64,
-    number: u64,
+    refusal: Option<Refusal>,
 ) -> Result<()> {
-    start(arena);
-    set_all(arena, length);
-    put_four(arena, NVM, minus(length, TRAILER), a, b, c, d);
-    recover(arena, u64::MAX);
-    edges::expect(arena, number);
-    print::trailer(rt, arena)
+    start(session);
+    setup::set_length(session, length);
+    put_four(session, length.wrapping_sub(TRAILER), trailer);
+    recover(session, u64::MAX);
+    setup::expect(session, refusal);
+    print::trailer(rt, session)
+}
+
+// Trailers, and how long the image is.
+type Trailer = ([u64; 4], u64);
+
+fn bad(rt: &impl Print, session: &mut Session, trailers: &[Trailer]) -> Result<()> {
+    for (trailer, length) in trailers {
+        ends_in(rt, session, *trailer, *length, Some(Refusal::NoTrailer))?;
+    }
+    Ok(())
 }
 
 // ---- trailers that agree
 // What Format writes, over anything: to cache and non-volatile memory.
-fn format(rt: &impl Print, arena: &mut Arena) -> Result<()> {
-    edges::start(arena);
-    put(arena, STATE, SEED, 7);
-    power::scramble(arena);
-    copy(arena, CACHE, NVM, 0, ROOM);
-    session::call(arena, second::FORMAT, 0, 2);
-    print::row(rt, b"Format", arena)?;
-    session::expect(arena, stands(arena, STORED_CACHE));
-    session::expect(arena, stands(arena, STORED_NVM));
-    recover(arena, u64::MAX);
-    print::trailer(rt, arena)
+fn format(rt: &impl Print, session: &mut Session) -> Result<()> {
+    setup::start(session);
+    scramble(session);
+    session.buffers.nvm = session.buffers.cache;
+    session.call(Call::Format, 0, 2);
+    print::row(rt, "Format", session)?;
+    expect_cached(session, true);
+    expect_small(session);
+    recover(session, u64::MAX);
+    print::trailer(rt, session)
 }
 
 // The words tell where the log is. With 70, 1, 34 it is where lane 1's was; with 2, 1, 68 it is both; with 1, 1, 34 it
 // starts a word earlier, and the slots do not decode.
-pub(crate) fn agreeing(rt: &impl Print, arena: &mut Arena, i: u64) -> Result<()> {
-    match i {
-        0 => format(rt, arena),
-        1 => ends_in(rt, arena, 2, 2, 34, 139, 143, 0),
-        2 => ends_in(rt, arena, 70, 1, 34, 139, 143, 0),
-        3 => ends_in(rt, arena, 2, 1, 68, 139, 143, 0),
-        4 => ends_in(rt, arena, 1, 1, 34, 70, 74, 0),
-        _ => ends_in(rt, arena, 1024, 8, 256, 5121, 5125, 0),
+const AGREEING: [Trailer; 5] = [
+    (SMALL, 143),
+    ([70, 1, 34, 139], 143),
+    ([2, 1, 68, 139], 143),
+    ([1, 1, 34, 70], 74),
+    ([1024, 8, 256, 5121], 5125),
+];
+
+pub(crate) fn agreeing(rt: &impl Print, session: &mut Session) -> Result<()> {
+    format(rt, session)?;
+    for (trailer, length) in AGREEING {
+        ends_in(rt, session, trailer, length, None)?;
     }
+    Ok(())
 }
 
 // ---- a word off by one; then W with a last word that agrees with it, and a last word that counts the trailer too
-pub(crate) fn off_by_one(rt: &impl Print, arena: &mut Arena, i: u64) -> Result<()> {
-    match i {
-        0 => ends_in(rt, arena, 1, 2, 34, 139, 143, 14),
-        1 => ends_in(rt, arena, 3, 2, 34, 139, 143, 14),
-        2 => ends_in(rt, arena, 2, 1, 34, 139, 143, 14),
-        3 => ends_in(rt, arena, 2, 3, 34, 139, 143, 14),
-        4 => ends_in(rt, arena, 2, 2, 33, 139, 143, 14),
-        5 => ends_in(rt, arena, 2, 2, 35, 139, 143, 14),
-        6 => ends_in(rt, arena, 2, 2, 34, 138, 143, 14),
-        7 => ends_in(rt, arena, 2, 2, 34, 140, 143, 14),
-        8 => ends_in(rt, arena, 1, 2, 34, 138, 143, 14),
-        9 => ends_in(rt, arena, 3, 2, 34, 140, 143, 14),
-        _ => ends_in(rt, arena, 2, 2, 34, 143, 143, 14),
-    }
+const OFF_BY_ONE: [Trailer; 11] = [
+    ([1, 2, 34, 139], 143),
+    ([3, 2, 34, 139], 143),
+    ([2, 1, 34, 139], 143),
+    ([2, 3, 34, 139], 143),
+    ([2, 2, 33, 139], 143),
+    ([2, 2, 35, 139], 143),
+    ([2, 2, 34, 138], 143),
+    ([2, 2, 34, 140], 143),
+    ([1, 2, 34, 138], 143),
+    ([3, 2, 34, 140], 143),
+    ([2, 2, 34, 143], 143),
+];
+
+pub(crate) fn off_by_one(rt: &impl Print, session: &mut Session) -> Result<()> {
+    bad(rt, session, &OFF_BY_ONE)
 }
 
 // ---- one size just out of its range, while last word and length agree
-pub(crate) fn out_of_range(rt: &impl Print, arena: &mut Arena, i: u64) -> Result<()> {
-    match i {
-        0 => ends_in(rt, arena, 0, 1, 69, 139, 143, 14),
-        1 => ends_in(rt, arena, 138, 0, 34, 139, 143, 14),
-        2 => ends_in(rt, arena, 6, 2, 33, 139, 143, 14),
-        3 => ends_in(rt, arena, 1025, 1, 34, 1094, 1098, 14),
-        4 => ends_in(rt, arena, 1, 9, 34, 614, 618, 14),
-        _ => ends_in(rt, arena, 1, 1, 257, 516, 520, 14),
-    }
+const OUT_OF_RANGE: [Trailer; 6] = [
+    ([0, 1, 69, 139], 143),
+    ([138, 0, 34, 139], 143),
+    ([6, 2, 33, 139], 143),
+    ([1025, 1, 34, 1094], 1098),
+    ([1, 9, 34, 614], 618),
+    ([1, 1, 257, 516], 520),
+];
+
+pub(crate) fn out_of_range(rt: &impl Print, session: &mut Session) -> Result<()> {
+    bad(rt, session, &OUT_OF_RANGE)
 }
 
 // ---- last word and length agree with sums that wrap at 64 bits, or with words cut to 32
-const TWO_32: u64 = 4294967296;
+const TWO_32: u64 = 1 << 32;
 
-const TWO_62: u64 = TWO_32 << 30;
+const TWO_62: u64 = 1 << 62;
 
-const TWO_63: u64 = TWO_32 << 31;
+const TWO_63: u64 = 1 << 63;
 
-pub(crate) fn wrapping(rt: &impl Print, arena: &mut Arena, i: u64) -> Result<()> {
-    match i {
-        0 => ends_in(rt, arena, u64::MAX, 1, 34, 68, 72, 14),
-        1 => ends_in(rt, arena, u64::MAX - 65, 3, 34, 139, 143, 14),
-        2 => ends_in(rt, arena, 1, TWO_63 + 1, 34, 70, 74, 14),
-        3 => ends_in(rt, arena, 1, 1, TWO_63 + 34, 70, 74, 14),
-        4 => ends_in(rt, arena, 2, 2, TWO_62 + 34, 139, 143, 14),
-        5 => ends_in(rt, arena, 138, TWO_32, TWO_32 / 2, 139, 143, 14),
-        6 => ends_in(rt, arena, u64::MAX - 68, 1, 34, 0, 4, 14),
-        7 => ends_in(rt, arena, 0, 0, 0, 1, 5, 14),
-        8 => ends_in(rt, arena, TWO_32 + 2, 2, 34, 139, 143, 14),
-        9 => ends_in(rt, arena, 2, TWO_32 + 2, 34, 139, 143, 14),
-        10 => ends_in(rt, arena, 2, 2, TWO_32 + 34, 139, 143, 14),
-        _ => ends_in(rt, arena, 2, 2, 34, TWO_32 + 139, 143, 14),
-    }
+const WRAPPING: [Trailer; 12] = [
+    ([u64::MAX, 1, 34, 68], 72),
+    ([u64::MAX - 65, 3, 34, 139], 143),
+    ([1, TWO_63 + 1, 34, 70], 74),
+    ([1, 1, TWO_63 + 34, 70], 74),
+    ([2, 2, TWO_62 + 34, 139], 143),
+    ([138, TWO_32, TWO_32 / 2, 139], 143),
+    ([u64::MAX - 68, 1, 34, 0], 4),
+    ([0, 0, 0, 1], 5),
+    ([TWO_32 + 2, 2, 34, 139], 143),
+    ([2, TWO_32 + 2, 34, 139], 143),
+    ([2, 2, TWO_32 + 34, 139], 143),
+    ([2, 2, 34, TWO_32 + 139], 143),
+];
+
+pub(crate) fn wrapping(rt: &impl Print, session: &mut Session) -> Result<()> {
+    bad(rt, session, &WRAPPING)
 }
 
 // ---- images of other lengths
+const OTHER_LENGTHS: [Trailer; 3] = [(SMALL, 142), (SMALL, 144), (SMALL, 4)];
+
 // Without four words at the end that are meant as a trailer.
-fn bare(rt: &impl Print, arena: &mut Arena, length: u64) -> Result<()> {
-    start(arena);
-    set_all(arena, length);
-    recover(arena, u64::MAX);
-    edges::expect(arena, 14);
-    print::edge(rt, arena, b", image of ", length)
+fn bare(rt: &impl Print, session: &mut Session, length: u64) -> Result<()> {
+    start(session);
+    setup::set_length(session, length);
+    recover(session, u64::MAX);
+    setup::expect(session, Some(Refusal::NoTrailer));
+    print::edge(rt, session, ", image of ", length)
 }
 
 // An image of the former length whose last two slots are 66, 1 and 34, 135: both are torn, and look like a trailer.
 // Recovery without sizes cannot know better.
-fn look_alike(rt: &impl Print, arena: &mut Arena) -> Result<()> {
-    ends_in(rt, arena, 66, 1, 34, 135, 139, 0)?;
-    start(arena);
-    session::fit_former(arena);
-    put_four(arena, NVM, 135, 66, 1, 34, 135);
-    session::call(arena, second::RECOVER, u64::MAX, 0);
-    edges::expect(arena, 0);
-    print::edge(rt, arena, b", image of ", edges::FORMER)
+const LOOK_ALIKE: [u64; 4] = [66, 1, 34, 135];
+
+fn look_alike(rt: &impl Print, session: &mut Session) -> Result<()> {
+    ends_in(rt, session, LOOK_ALIKE, FORMER, None)?;
+    start(session);
+    session.fit_former();
+    put_four(session, FORMER - TRAILER, LOOK_ALIKE);
+    session.call(Call::Recover, u64::MAX, 0);
+    setup::expect(session, None);
+    print::edge(rt, session, ", image of ", FORMER)
 }
 
-pub(crate) fn other_lengths(rt: &impl Print, arena: &mut Arena, i: u64) -> Result<()> {
-    match i {
-        0 => ends_in(rt, arena, 2, 2, 34, 139, 142, 14),
-        1 => ends_in(rt, arena, 2, 2, 34, 139, 144, 14),
-        2 => ends_in(rt, arena, 2, 2, 34, 139, 4, 14),
-        3 => bare(rt, arena, 0),
-        4 => bare(rt, arena, 3),
-        5 => bare(rt, arena, edges::FORMER),
-        _ => look_alike(rt, arena),
+pub(crate) fn other_lengths(rt: &impl Print, session: &mut Session) -> Result<()> {
+    bad(rt, session, &OTHER_LENGTHS)?;
+    for length in [0, 3, FORMER] {
+        bare(rt, session, length)?;
     }
+    look_alike(rt, session)
 }
 
 // ---- the order of the refusals: of lengths, a bad trailer, an odd base timestamp
-fn refused(rt: &impl Print, arena: &mut Arena, number: u64, what: &[u8]) -> Result<()> {
-    recover(arena, u64::MAX);
-    edges::expect(arena, number);
-    print::row(rt, what, arena)
-}
+// The last word of the trailer, how long cache, non-volatile memory and flags are, and the refusal.
+const ORDER: [(u64, [u64; 3], Refusal, &str); 5] = [
+    (
+        138,
+        [142, 143, 143],
+        Refusal::Lengths,
+        "cache of 142, bad trailer, odd base",
+    ),
+    (
+        138,
+        [143, 143, 144],
+        Refusal::Lengths,
+        "flags of 144, bad trailer, odd base",
+    ),
+    (
+        FORMER,
+        [4, 3, 3],
+        Refusal::Lengths,
+        "cache of 4, memory of 3",
+    ),
+    (
+        138,
+        [143, 143, 143],
+        Refusal::NoTrailer,
+        "bad trailer, odd base",
+    ),
+    (FORMER, [143, 143, 143], Refusal::OddBase, "odd base"),
+];
 
-fn start_odd(arena: &mut Arena, before: u64) {
-    start(arena);
-    put(arena, NVM, 0, 1);
-    put(arena, NVM, AT + 3, before);
-}
-
-fn short_cache(rt: &impl Print, arena: &mut Arena) -> Result<()> {
-    start_odd(arena, 138);
-    session::set_lengths(arena, 142, 143, 143);
-    refused(rt, arena, 1, b"cache of 142, bad trailer, odd base")
-}
-
-fn long_flags(rt: &impl Print, arena: &mut Arena) -> Result<()> {
-    start_odd(arena, 138);
-    session::set_lengths(arena, 143, 143, 144);
-    refused(rt, arena, 1, b"flags of 144, bad trailer, odd base")
-}
-
-fn short_memory(rt: &impl Print, arena: &mut Arena) -> Result<()> {
-    start_odd(arena, 139);
-    session::set_lengths(arena, 4, 3, 3);
-    refused(rt, arena, 1, b"cache of 4, memory of 3")
-}
-
-fn bad_trailer(rt: &impl Print, arena: &mut Arena) -> Result<()> {
-    start_odd(arena, 138);
-    refused(rt, arena, 14, b"bad trailer, odd base")
-}
-
-fn odd_base(rt: &impl Print, arena: &mut Arena) -> Result<()> {
-    start_odd(arena, 139);
-    refused(rt, arena, 10, b"odd base")
-}
-
-pub(crate) fn order(rt: &impl Print, arena: &mut Arena, i: u64) -> Result<()> {
-    match i {
-        0 => short_cache(rt, arena),
-        1 => long_flags(rt, arena),
-        2 => short_memory(rt, arena),
-        3 => bad_trailer(rt, arena),
-        _ => odd_base(rt, arena),
+pub(crate) fn order(rt: &impl Print, session: &mut Session) -> Result<()> {
+    for (before, [cache, nvm, flags], refusal, what) in ORDER {
+        start(session);
+        session.buffers.nvm[0] = 1;
+        session.buffers.nvm[AT + 3] = before;
+        session.set_lengths(cache, nvm, flags);
+        recover(session, u64::MAX);
+        setup::expect(session, Some(refusal));
+        print::row(rt, what, session)?;
     }
+    Ok(())
 }
 
 // ---- the trailer in the cache
+const CACHED: [u64; 4] = [100, 101, 102, 103];
+
 // Other words there, flushed by lane 0, lane 1, both, and all.
-fn start_cached(arena: &mut Arena, code: u64) {
-    edges::start_for(arena, code, 0);
-    copy(arena, CACHE, NVM, 0, ROOM);
-    put_four(arena, CACHE, AT, 100, 101, 102, 103);
-    put_four(arena, FLAGS, AT, 1, 2, 3, 255);
+fn start_cached(session: &mut Session, call: Call) {
+    setup::start_for(session, call, 0);
+    session.buffers.nvm = session.buffers.cache;
+    session.buffers.cache[AT..AT + 4].copy_from_slice(&CACHED);
+    session.buffers.flags[AT..AT + 4].copy_from_slice(&[1, 2, 3, 255]);
 }
 
-// Is just word k of it written back?
-fn is_written(arena: &Arena, k: u64) -> bool {
-    match k {
-        0 => is(arena, STORED_NVM, 100, 2, 34, 139),
-        1 => is(arena, STORED_NVM, 2, 101, 34, 139),
-        2 => is(arena, STORED_NVM, 2, 2, 102, 139),
-        _ => is(arena, STORED_NVM, 2, 2, 34, 103),
+// A word of it, and what non-volatile memory has then.
+const WRITTEN: [(u64, [u64; 4]); 4] = [
+    (FORMER, [100, 2, 34, 139]),
+    (FORMER + 1, [2, 101, 34, 139]),
+    (FORMER + 2, [2, 2, 102, 139]),
+    (FORMER + 3, [2, 2, 34, 103]),
+];
+
+// Each of its words is written back alone.
+fn written(rt: &impl Print, session: &mut Session) -> Result<()> {
+    for (word, trailer) in WRITTEN {
+        start_cached(session, Call::WriteBack);
+        session.call(Call::WriteBack, word, 0);
+        print::edge(rt, session, ", word ", word)?;
+        expect(session, trailer);
     }
-}
-
-fn write_back(rt: &impl Print, arena: &mut Arena, k: u64) -> Result<()> {
-    start_cached(arena, second::WRITE_BACK);
-    let word = plus(AT, k);
-    session::call(arena, second::WRITE_BACK, word, 0);
-    print::edge(rt, arena, b", word ", word)?;
-    session::expect(arena, is_written(arena, k));
     Ok(())
 }
 
 // A drain of lane 0, by each call that makes one, takes what lane 0 has flushed.
-fn drained(rt: &impl Print, arena: &mut Arena, code: u64) -> Result<()> {
-    start_cached(arena, code);
-    session::call(arena, code, 0, 4);
-    edges::expect(arena, 0);
-    session::expect(arena, is(arena, STORED_NVM, 100, 2, 102, 103));
-    print::edge(rt, arena, b", lane ", 0)
-}
-
-fn recovered(rt: &impl Print, arena: &mut Arena) -> Result<()> {
-    recover(arena, u64::MAX);
-    edges::expect(arena, 14);
-    print::trailer(rt, arena)
-}
-
-// Each of its words, each call that drains, and recovery after the last of them.
-pub(crate) fn cached(rt: &impl Print, arena: &mut Arena, i: u64) -> Result<()> {
-    if i < 4 {
-        write_back(rt, arena, i)?;
-    } else if i < 9 {
-        drained(rt, arena, i - 3)?;
-    } else {
-        recovered(rt, arena)?;
+fn drained(rt: &impl Print, session: &mut Session) -> Result<()> {
+    for call in [
+        Call::Log,
+        Call::Redo,
+        Call::Validate,
+        Call::Mark,
+        Call::Drain,
+    ] {
+        start_cached(session, call);
+        session.call(call, 0, 4);
+        setup::expect(session, None);
+        expect(session, [100, 2, 102, 103]);
+        print::edge(rt, session, ", lane ", 0)?;
     }
     Ok(())
 }
 
-// ---- recovery cut: there are 138 stores, an entry, the base timestamp and 136 log words, and none to the trailer
-fn limit_case(i: u64) -> u64 {
-    match i {
-        3 => 137,
-        4 => 138,
-        5 => 139,
-        6 => u64::MAX,
-        _ => i,
-    }
+// Each of its words, each call that drains, and recovery after the last of them.
+pub(crate) fn cached(rt: &impl Print, session: &mut Session) -> Result<()> {
+    written(rt, session)?;
+    drained(rt, session)?;
+    recover(session, u64::MAX);
+    setup::expect(session, Some(Refusal::NoTrailer));
+    print::trailer(rt, session)
 }
 
-pub(crate) fn cut(rt: &impl Print, arena: &mut Arena, i: u64) -> Result<()> {
-    start(arena);
-    recover(arena, limit_case(i));
-    print::edge(rt, arena, b", limit ", limit_case(i))?;
-    session::expect(arena, stands(arena, STORED_NVM));
-    session::expect(arena, stands(arena, STORED_CACHE) == (4 <= i));
+// ---- recovery cut: there are 138 stores, an entry, the base timestamp and 136 log words, and none to the trailer
+pub(crate) fn cut(rt: &impl Print, session: &mut Session) -> Result<()> {
+    for limit in [0, 1, 2, 137, 138, 139, u64::MAX] {
+        start(session);
+        recover(session, limit);
+        print::edge(rt, session, ", limit ", limit)?;
+        expect_small(session);
+        expect_cached(session, 138 <= limit);
+    }
     Ok(())
 }

@@ -1,108 +1,121 @@
 // POKE is withdrawn: a new transaction with one is refused with 5, and one that a lane still holds is committed by Redo
 // or dropped by a Mark.
-use crate::edges;
-use bench::regions::{STORED, STORED_CACHE};
-use bench::{print, session};
-use second::words::{Arena, CACHE, TXN, get, put, set_row};
+use crate::setup::{self, Instruction, SET};
+use bench::print;
+use bench::session::Session;
+use second::{Answer, Call, Refusal};
 use std::io::Result;
 
 // The word whose number is word 1 modulo W becomes 3: word 1 is 4, so it is word 0.
-fn put_poke(arena: &mut Arena, at: u64) {
-    put(arena, CACHE, 2, 4);
-    set_row(arena, TXN, at, 4, 0, 1, 3);
-}
+const POKE: Instruction = Instruction::Poke { by: 1, value: 3 };
 
 // Lane 0 as a Log of that POKE left it under the former rule, or idle; and the POKE as instruction `at`.
-fn start(arena: &mut Arena, held: bool, at: u64) {
-    edges::start(arena);
-    edges::prepare(arena, 0, held);
-    put_poke(arena, at);
+fn start(session: &mut Session, is_held: bool, at: u64) {
+    setup::start(session);
+    setup::prepare(session, 0, is_held);
+    session.buffers.cache[2] = 4;
+    setup::put(session, at, POKE);
 }
 
-// A call on lane 0, its refusal or 0, and the line about it.
+// A call on lane 0, and the line about it.
 fn probe(
     rt: &impl Print,
-    arena: &mut Arena,
-    code: u64,
+    session: &mut Session,
+    call: Call,
     used: u64,
-    number: u64,
-    what: &[u8],
+    refusal: Option<Refusal>,
+    what: &str,
 ) -> Result<()> {
-    edges::probe(arena, code, 0, used);
-    edges::expect(arena, number);
-    print::row(rt, what, arena)
+    setup::probe(session, call, 0, used);
+    setup::expect(session, refusal);
+    print::row(rt, what, session)
 }
 
-fn log_case(rt: &impl Print, arena: &mut Arena) -> Result<()> {
-    start(arena, false, 0);
-    probe(rt, arena, second::LOG, 4, 5, b"Log, POKE")
+// One is refused: 5.
+fn refused(
+    rt: &impl Print,
+    session: &mut Session,
+    call: Call,
+    used: u64,
+    what: &str,
+) -> Result<()> {
+    probe(rt, session, call, used, Some(Refusal::BadTransaction), what)
 }
 
-// Behind the SET that a start leaves in the transaction.
-fn second_case(rt: &impl Print, arena: &mut Arena) -> Result<()> {
-    start(arena, false, 1);
-    probe(rt, arena, second::LOG, 8, 5, b"Log, SET and POKE")
+// Alone, and behind the SET that a start leaves in the transaction.
+fn log(rt: &impl Print, session: &mut Session) -> Result<()> {
+    start(session, false, 0);
+    refused(rt, session, Call::Log, 4, "Log, POKE")?;
+    start(session, false, 1);
+    refused(rt, session, Call::Log, 8, "Log, SET and POKE")
 }
 
 // Word 0 is 0, so the run would pass over it.
-fn passed_case(rt: &impl Print, arena: &mut Arena, code: u64, what: &[u8]) -> Result<()> {
-    start(arena, code == second::VALIDATE, 1);
-    set_row(arena, TXN, 0, 5, 0, 0, 1);
-    set_row(arena, TXN, 2, 1, 0, 0, 3);
-    probe(rt, arena, code, 12, 5, what)
+fn passed_over(rt: &impl Print, session: &mut Session, call: Call, what: &str) -> Result<()> {
+    start(session, call == Call::Validate, 1);
+    setup::put(
+        session,
+        0,
+        Instruction::Skip {
+            unless: 0,
+            distance: 1,
+        },
+    );
+    setup::put(session, 2, SET);
+    refused(rt, session, call, 12, what)
 }
 
-fn validate_case(rt: &impl Print, arena: &mut Arena) -> Result<()> {
-    start(arena, true, 0);
-    probe(
+fn validate(rt: &impl Print, session: &mut Session) -> Result<()> {
+    start(session, true, 0);
+    refused(
         rt,
-        arena,
-        second::VALIDATE,
+        session,
+        Call::Validate,
         4,
-        5,
-        b"Validate, POKE that the lane holds",
+        "Validate, POKE that the lane holds",
     )
 }
 
-fn redo_case(rt: &impl Print, arena: &mut Arena) -> Result<()> {
-    start(arena, true, 0);
+fn redo(rt: &impl Print, session: &mut Session) -> Result<()> {
+    start(session, true, 0);
     probe(
         rt,
-        arena,
-        second::REDO,
+        session,
+        Call::Redo,
         0,
-        0,
-        b"Redo, POKE that the lane holds",
+        None,
+        "Redo, POKE that the lane holds",
     )?;
-    session::expect(arena, get(arena, STORED_CACHE, 1) == 3);
+    session.expect(session.stored.buffers.cache[1] == 3);
     Ok(())
 }
 
-fn mark_case(rt: &impl Print, arena: &mut Arena) -> Result<()> {
-    start(arena, true, 0);
+// It says that it dropped one.
+fn mark(rt: &impl Print, session: &mut Session) -> Result<()> {
+    start(session, true, 0);
     probe(
         rt,
-        arena,
-        second::MARK,
+        session,
+        Call::Mark,
         0,
-        0,
-        b"Mark, POKE that the lane holds",
+        None,
+        "Mark, POKE that the lane holds",
     )?;
-    // it says that it dropped one
-    session::expect(arena, get(arena, STORED, second::ANSWER) == 1);
-    session::call(arena, second::REDO, 0, 0);
-    edges::expect(arena, 7);
-    print::row(rt, b"Redo after that Mark", arena)
+    let is_dropped = matches!(
+        session.stored.outcome,
+        Ok(Answer::Marked { dropped: true, .. })
+    );
+    session.expect(is_dropped);
+    session.call(Call::Redo, 0, 0);
+    setup::expect(session, Some(Refusal::HoldsNone));
+    print::row(rt, "Redo after that Mark", session)
 }
 
-pub(crate) fn cases(rt: &impl Print, arena: &mut Arena, i: u64) -> Result<()> {
-    match i {
-        0 => log_case(rt, arena),
-        1 => second_case(rt, arena),
-        2 => passed_case(rt, arena, second::LOG, b"Log, SKIP over POKE"),
-        3 => passed_case(rt, arena, second::VALIDATE, b"Validate, SKIP over POKE"),
-        4 => validate_case(rt, arena),
-        5 => redo_case(rt, arena),
-        _ => mark_case(rt, arena),
-    }
+pub(crate) fn cases(rt: &impl Print, session: &mut Session) -> Result<()> {
+    log(rt, session)?;
+    passed_over(rt, session, Call::Log, "Log, SKIP over POKE")?;
+    passed_over(rt, session, Call::Validate, "Validate, SKIP over POKE")?;
+    validate(rt, session)?;
+    redo(rt, session)?;
+    mark(rt, session)
 }

@@ -1,6 +1,6 @@
 -- Inner: how the code goes, need not be believed. Reading and writing the record's words are each other's inverse: for every record, and for words in
 -- normal form. Assumes nothing.
-use Rattle.std.specs.Prelude.{ℕ, zero, suc, ◌+◌, ◌*◌, ◌≤◌, ◌≡◌, Bool, true, false, cond, ◌&&◌, eqb, length, get_or, take, drop}
+use Rattle.std.specs.Prelude.{ℕ, zero, suc, ◌+◌, ◌*◌, ◌≤◌, ◌≡◌, Bool, true, false, cond, ◌&&◌, eqb, length, get_or, take, drop, Option, Some, None}
 use Rattle.std.proofs.Math.Path.{refl}
 use Rattle.std.proofs.Common.{sym, ◌∙◌, ap, arith, mul-suc, add-one, length-append, length-drop, drop-drop, take-add, eq-eqb, eqb-true}
 use mathlib.Core.List.{List, [], ◌∷◌, ◌++◌, append_assoc}
@@ -10,21 +10,17 @@ use Rattle.laws.specs.inner.Tests.{clash, and_left, and_right, and_both}
 use Rattle.laws.specs.inner.Lists.{All, none, more, All-map}
 use Rattle.txn.specs.Txn.{max_writes}
 use Rattle.image.specs.Image.{max_lanes}
-use Rattle.lane_log.specs.declared.Timestamp.{Timestamp}
-use Rattle.lane_log.specs.declared.Timestamp.TheVariants.{None, At}
 use Rattle.record.specs.Record.{is_logged, logged_in, is_held, locked_in}
 use Rattle.record.specs.declared.Pair.{Pair}
-use Rattle.record.specs.declared.Phase.{Phase}
-use Rattle.record.specs.declared.Phase.TheVariants.{Idle, Holds}
 use Rattle.record.specs.declared.Lane.{Lane}
-use Rattle.record.specs.declared.Lock.{Lock}
-use Rattle.record.specs.declared.Lock.TheVariants.{Free, Held}
 use Rattle.record.specs.declared.Record.{Record}
 use Rattle.codec.specs.Fields.{lane_length, holder_length, record_length}
 use Rattle.codec.specs.Fields.{row_of, phase_of, floor_of, pair_of, lane_of, lock_of, record_of}
 use Rattle.codec.specs.Fields.{row_words, bit_for, is_set, stamp_of, head_words, pair_words, lane_words, lock_words, words_of}
 use Rattle.codec.specs.inner.FieldsLaws.{holder-six}
 use Rattle.codec.specs.inner.Normal.{phase_normal, floor_normal, lanes_normal, lock_normal, normal}
+use Rattle.record.specs.Record.{Lock}
+use Rattle.record.specs.Record.{Phase}
 
 -- ---- lengths
 row-length : {A : Type 0} (size : ℕ) (to : A → List ℕ) (xs : List A) → All (λ x. length (to x) ≡ size) xs → length (row_words to xs) ≡ size * length xs
@@ -54,15 +50,15 @@ module _ {A : Type 0} (size : ℕ) (of : List ℕ → A) (to : A → List ℕ) w
 
 pub phase-back : (p : Phase) (rest : List ℕ) → phase_of (bit_for (is_logged p) ∷ (logged_in p).first ∷ (logged_in p).count ∷ (logged_in p).stamp ∷ rest) ≡ p
 unfolding phase_of bit_for is_logged logged_in
-phase-back Idle rest = refl
-phase-back (Holds g) rest = refl
+phase-back None rest = refl
+phase-back (Some g) rest = refl
 
-pub floor-back : (f : Timestamp) (rest : List ℕ) → floor_of (bit_for (is_set f) ∷ stamp_of f ∷ rest) ≡ f
+pub floor-back : (f : Option ℕ) (rest : List ℕ) → floor_of (bit_for (is_set f) ∷ stamp_of f ∷ rest) ≡ f
 unfolding floor_of bit_for is_set stamp_of
 floor-back None rest = refl
-floor-back (At s) rest = refl
+floor-back (Some s) rest = refl
 
-pub lane-same : (next wrap : ℕ) {p q : Phase} {f g : Timestamp} {ps qs : List Pair} → p ≡ q → f ≡ g → ps ≡ qs
+pub lane-same : (next wrap : ℕ) {p q : Phase} {f g : Option ℕ} {ps qs : List Pair} → p ≡ q → f ≡ g → ps ≡ qs
     → ◌≡◌ {A = Lane} (record { phase = p; next = next; wrap = wrap; floor = f; redo = ps })
     (record { phase = q; next = next; wrap = wrap; floor = g; redo = qs })
 lane-same next wrap a b c = rw (a, b, c)
@@ -78,8 +74,8 @@ lane-back l rest e =
 
 lock-back : (k : Lock) → lock_of (lock_words k) ≡ k
 unfolding lock_of lock_words bit_for is_held locked_in
-lock-back Free = refl
-lock-back (Held k) = refl
+lock-back None = refl
+lock-back (Some k) = refl
 
 -- what stands behind n words and one more
 after_one : (ws : List ℕ) (a : ℕ) (rest : List ℕ) (n : ℕ) → length ws ≡ n → drop (suc n) (ws ++ (a ∷ rest)) ≡ rest
@@ -112,7 +108,7 @@ pairs-forth (suc n) (a ∷ b ∷ ws) h =
 
 -- the fields of a phase and of a floor are the words that they were read from
 phase-pick : (t : Bool) (a b c d : ℕ) → eqb a 0 ≡ t → cond t (eqb b 0 && (eqb c 0 && eqb d 0)) (eqb a 1) ≡ true
-    → let p = cond t Idle (Holds (record { first = b; count = c; stamp = d })) in
+    → let p : Phase = cond t None (Some (record { first = b; count = c; stamp = d })) in
     (bit_for (is_logged p) ≡ a) × (((logged_in p).first ≡ b) × (((logged_in p).count ≡ c) × ((logged_in p).stamp ≡ d)))
 unfolding bit_for is_logged logged_in
 phase-pick true a b c d e h =
@@ -132,7 +128,7 @@ unfolding phase_normal phase_of
 phase-forth ws h = phase-pick (eqb (get_or ws 0 0) 0) (get_or ws 0 0) (get_or ws 1 0) (get_or ws 2 0) (get_or ws 3 0) refl h
 
 floor-pick : (t : Bool) (a b : ℕ) → eqb a 0 ≡ t → cond t (eqb b 0) (eqb a 1) ≡ true
-    → (bit_for (is_set (cond t None (At b))) ≡ a) × (stamp_of (cond t None (At b)) ≡ b)
+    → (bit_for (is_set (cond t None (Some b))) ≡ a) × (stamp_of (cond t None (Some b)) ≡ b)
 unfolding bit_for is_set stamp_of
 floor-pick true a b e h = (sym (eqb-true a 0 e), sym (eqb-true b 0 h))
 floor-pick false a b e h = (sym (eqb-true a 1 h), refl)
@@ -179,7 +175,7 @@ lanes-forth (suc n) ws h t =
 -- the fields of a lock are the words that it was read from
 lock-pick : (t : Bool) (a b c d e f : ℕ) → eqb a 0 ≡ t
     → cond t (eqb b 0 && (eqb c 0 && (eqb d 0 && (eqb e 0 && eqb f 0)))) (eqb a 1) ≡ true
-    → lock_words (cond t Free (Held (record { lane = b; stamp = c; count = d; logged = e; written = f }))) ≡ a ∷ b ∷ c ∷ d ∷ e ∷ f ∷ []
+    → lock_words (cond t None (Some (record { lane = b; stamp = c; count = d; logged = e; written = f }))) ≡ a ∷ b ∷ c ∷ d ∷ e ∷ f ∷ []
 unfolding lock_words bit_for is_held locked_in
 lock-pick true a b c d e f g h =
     let i = and_right (eqb b 0) (eqb c 0 && (eqb d 0 && (eqb e 0 && eqb f 0))) h in
@@ -226,13 +222,13 @@ record-forth (a ∷ b ∷ ws) t =
 -- ---- a record's words are in normal form
 phase-normal : (p : Phase) (rest : List ℕ) → phase_normal (bit_for (is_logged p) ∷ (logged_in p).first ∷ (logged_in p).count ∷ (logged_in p).stamp ∷ rest) ≡ true
 unfolding phase_normal bit_for is_logged logged_in
-phase-normal Idle rest = refl
-phase-normal (Holds g) rest = refl
+phase-normal None rest = refl
+phase-normal (Some g) rest = refl
 
-floor-normal : (f : Timestamp) (rest : List ℕ) → floor_normal (bit_for (is_set f) ∷ stamp_of f ∷ rest) ≡ true
+floor-normal : (f : Option ℕ) (rest : List ℕ) → floor_normal (bit_for (is_set f) ∷ stamp_of f ∷ rest) ≡ true
 unfolding floor_normal bit_for is_set stamp_of
 floor-normal None rest = refl
-floor-normal (At s) rest = refl
+floor-normal (Some s) rest = refl
 
 lane-normal : (l : Lane) (rest : List ℕ) → (phase_normal (lane_words l ++ rest) ≡ true) × (floor_normal (drop 6 (lane_words l ++ rest)) ≡ true)
 unfolding lane_words head_words
@@ -249,8 +245,8 @@ lanes-normal (l ∷ ls) rest (more e es) =
 
 lock-normal : (k : Lock) → lock_normal (lock_words k) ≡ true
 unfolding lock_normal lock_words bit_for is_held locked_in
-lock-normal Free = refl
-lock-normal (Held k) = refl
+lock-normal None = refl
+lock-normal (Some k) = refl
 
 pub words-normal : (r : Record) → length r.lanes ≡ max_lanes → All (λ l. length l.redo ≡ max_writes) r.lanes → normal (words_of r) ≡ true
 unfolding normal words_of

@@ -1,6 +1,6 @@
 -- Inner: how the code goes, need not be believed. Laws of fields stored where they stand, and of words brought to normal form. Assumes nothing.
 use Prim.Native.Nat.{ℕ, zero, suc, ◌+◌, ◌-◌, ◌*◌, ◌≤◌, ◌<◌}
-use Rattle.std.specs.Prelude.{◌≡◌, ◌≢◌, Bool, true, false, cond, eqb, length, get_or}
+use Rattle.std.specs.Prelude.{◌≡◌, ◌≢◌, Bool, true, false, cond, eqb, length, get_or, Option, Some, None}
 use Rattle.std.proofs.Math.Path.{refl, sym, ap}
 use Rattle.std.proofs.Common.{◌∙◌, length-set, length-drop, take_all, take-take, drop_at, get_or-take, get_or-drop, length-take-le, eqb-true, eq-eqb, ne_eqb}
 use mathlib.Core.List.{List, [], ◌∷◌, ◌++◌}
@@ -12,16 +12,10 @@ use Rattle.std.proofs.lemmas.List.{drop-append-le, set-get_or}
 use borrow.Rule.Slice.PartMut.{put_mid, post_of, take_put, drop_put}
 use Rattle.txn.specs.Txn.{max_writes}
 use Rattle.image.specs.Image.{max_lanes}
-use Rattle.lane_log.specs.declared.Timestamp.{Timestamp}
-use Rattle.lane_log.specs.declared.Timestamp.TheVariants.{None, At}
 use Rattle.lane_log.specs.declared.Cursor.{Cursor}
 use Rattle.record.specs.Record.{cursor_of, is_logged, logged_in, is_held, locked_in, no_lane, lane_at, with_lane, with_clock, with_last, with_lock}
 use Rattle.record.specs.declared.Pair.{Pair}
-use Rattle.record.specs.declared.Phase.{Phase}
-use Rattle.record.specs.declared.Phase.TheVariants.{Idle, Holds}
 use Rattle.record.specs.declared.Lane.{Lane}
-use Rattle.record.specs.declared.Lock.{Lock}
-use Rattle.record.specs.declared.Lock.TheVariants.{Free, Held}
 use Rattle.record.specs.declared.Record.{Record}
 use Rattle.codec.specs.Fields.{head_length, pairs_length, lane_length, lanes_end, holder_length, record_length}
 use Rattle.codec.specs.Fields.{row_of, phase_of, floor_of, pair_of, lane_of, lock_of, record_of}
@@ -29,7 +23,13 @@ use Rattle.codec.specs.Fields.{row_words, bit_for, is_set, stamp_of, head_words,
 use Rattle.codec.specs.inner.FieldsLaws.{Begun, up_to, lanes_on, record-put, tail-is, head-eight}
 use Rattle.codec.specs.inner.InPlace.{headed, redone}
 use Rattle.codec.specs.inner.ReadLaws.{row_at, lanes-read}
+use Rattle.std.specs.Option.{unwrap_or, UnwrapsOrElse}
+use Rattle.record.specs.declared.Logged.{Logged}
+use Rattle.record.specs.declared.Locked.{Locked}
+use mir.Val.{bool_byte}
 use Rattle.codec.proofs.RoundTrip.{phase-back, floor-back, redo-back, lane-same, pairs-forth, eight-same}
+use Rattle.record.specs.Record.{Lock}
+use Rattle.record.specs.Record.{Phase}
 
 -- ---- clock and last commit
 pub clock-set : (ws : List ℕ) (v : ℕ) → length ws ≡ record_length → record_of (set ws 0 v) ≡ with_clock (record_of ws) v
@@ -116,7 +116,7 @@ pair-own [] = refl
 pair-own (a ∷ []) = refl
 pair-own (a ∷ b ∷ ws) = refl
 
-lane-own : (ws : List ℕ) → lane_of ws ≡ lane_of (take lane_length ws)
+pub lane-own : (ws : List ℕ) → lane_of ws ≡ lane_of (take lane_length ws)
 unfolding lane_of phase_of floor_of
 lane-own [] = refl
 lane-own (a ∷ []) = refl
@@ -164,12 +164,12 @@ unfolding headed cursor_of
 headed-own l c e = rw e
 
 -- a head before the pairs that stand there
-head_read : (p : Phase) (c : Cursor) (f : Timestamp) (l : Lane) (ws : List ℕ)
+head_read : (p : Phase) (c : Cursor) (f : Option ℕ) (l : Lane) (ws : List ℕ)
     → lane_of (head_words (headed p c f l) ++ drop head_length ws) ≡ headed p c f (lane_of ws)
 unfolding lane_of head_words headed
 head_read p c f l ws = lane-same c.slot c.wrap (phase-back p _) (floor-back f _) refl
 
-pub head-put : (ws hs : List ℕ) (L : ℕ) (p : Phase) (c : Cursor) (f : Timestamp) → L < max_lanes → length ws ≡ record_length
+pub head-put : (ws hs : List ℕ) (L : ℕ) (p : Phase) (c : Cursor) (f : Option ℕ) → L < max_lanes → length ws ≡ record_length
     → hs ≡ head_words (headed p c f no_lane)
     → let at = 2 + lane_length * L in record_of (put_mid at (at + head_length - at) ws hs)
     ≡ with_lane (record_of ws) L (headed p c f (lane_at (record_of ws) L))
@@ -227,8 +227,8 @@ redo-put ws ps L redo h n r m e =
 -- ---- the lock
 lock-read : (k : Lock) (rest : List ℕ) → lock_of (lock_words k ++ rest) ≡ k
 unfolding lock_of lock_words bit_for is_held locked_in
-lock-read Free rest = refl
-lock-read (Held k) rest = refl
+lock-read None rest = refl
+lock-read (Some k) rest = refl
 
 pub lock-put : (ws ks : List ℕ) (k : Lock) → length ws ≡ record_length → ks ≡ lock_words k
     → record_of (put_mid (lanes_end + 1) (length ws - (lanes_end + 1)) ws ks) ≡ with_lock (record_of ws) k
@@ -279,8 +279,8 @@ phased-length ws = by (eqb (get_or ws 0 0) 0)
     by false = length-set ws 0 1
 
 lane_pick : (t u : Bool) (a b c d e f g h : ℕ) {ws ys : List ℕ} → eqb a 0 ≡ t → eqb g 0 ≡ u → ws ≡ ys
-    → let p = cond t Idle (Holds (record { first = b; count = c; stamp = d })) in
-    let q = cond u None (At h) in
+    → let p : Phase = cond t None (Some (record { first = b; count = c; stamp = d })) in
+    let q : Option ℕ = cond u None (Some h) in
     floored (cond t (a ∷ 0 ∷ 0 ∷ 0 ∷ e ∷ f ∷ g ∷ h ∷ ws) (1 ∷ b ∷ c ∷ d ∷ e ∷ f ∷ g ∷ h ∷ ws))
     ≡ bit_for (is_logged p) ∷ (logged_in p).first ∷ (logged_in p).count ∷ (logged_in p).stamp ∷ e ∷ f ∷ bit_for (is_set q) ∷ stamp_of q ∷ ys
 unfolding floored bit_for is_logged logged_in is_set stamp_of
@@ -377,3 +377,25 @@ lock-set (a ∷ b ∷ c ∷ d ∷ []) n h = absurd (omega (arith, n))
 lock-set (a ∷ b ∷ c ∷ d ∷ e ∷ []) n h = absurd (omega (arith, n))
 lock-set (a ∷ b ∷ c ∷ d ∷ e ∷ f ∷ []) n h = rw (ne_eqb a 0 h)
 lock-set (a ∷ b ∷ c ∷ d ∷ e ∷ f ∷ g ∷ ws) n h = absurd (omega (arith, n))
+
+-- ---- what stands where a field has no value
+pub bit-byte : (b : Bool) → bool_byte b ≡ bit_for b
+unfolding bit_for
+bit-byte true = refl
+bit-byte false = refl
+
+pub logged-default : (p : Phase) (g : Logged) → UnwrapsOrElse p (λ r. (r.first ≡ 0) × ((r.count ≡ 0) × (r.stamp ≡ 0))) g → g ≡ logged_in p
+unfolding logged_in
+logged-default None g h = rw (h.0, h.1.0, h.1.1)
+logged-default (Some g) k h = h
+
+pub locked-default : (l : Lock) (k : Locked)
+    → UnwrapsOrElse l (λ r. (r.lane ≡ 0) × ((r.stamp ≡ 0) × ((r.count ≡ 0) × ((r.logged ≡ 0) × (r.written ≡ 0))))) k → k ≡ locked_in l
+unfolding locked_in
+locked-default None k h = rw (h.0, h.1.0, h.1.1.0, h.1.1.1.0, h.1.1.1.1)
+locked-default (Some k) j h = h
+
+pub stamp-default : (f : Option ℕ) → unwrap_or f 0 ≡ stamp_of f
+unfolding stamp_of
+stamp-default None = refl
+stamp-default (Some s) = refl

@@ -1,18 +1,14 @@
 -- The record as words: clock, last commit, for each of 8 lanes a head and 16 pairs, the lag limit, the lock; behind them stand the lock's pairs, which are
 -- words already. SPECIFICATION, "The record as words". Assumes nothing.
-use Rattle.std.specs.Prelude.{ℕ, zero, suc, ◌+◌, ◌*◌, Bool, true, false, cond, List, [], ◌∷◌, ◌++◌, eqb, get_or, take, drop}
+use Rattle.std.specs.Prelude.{ℕ, zero, suc, ◌+◌, ◌*◌, Bool, true, false, cond, List, [], ◌∷◌, ◌++◌, eqb, get_or, take, drop, Option, Some, None}
 use Rattle.txn.specs.Txn.{max_writes}
 use Rattle.image.specs.Image.{max_lanes}
-use Rattle.lane_log.specs.declared.Timestamp.{Timestamp}
-use Rattle.lane_log.specs.declared.Timestamp.TheVariants.{None, At}
 use Rattle.record.specs.Record.{is_logged, logged_in, lock_length, is_held, locked_in}
 use Rattle.record.specs.declared.Pair.{Pair}
-use Rattle.record.specs.declared.Phase.{Phase}
-use Rattle.record.specs.declared.Phase.TheVariants.{Idle, Holds}
 use Rattle.record.specs.declared.Lane.{Lane}
-use Rattle.record.specs.declared.Lock.{Lock}
-use Rattle.record.specs.declared.Lock.TheVariants.{Free, Held}
 use Rattle.record.specs.declared.Record.{Record}
+use Rattle.record.specs.Record.{Lock}
+use Rattle.record.specs.Record.{Phase}
 
 -- ---- how many words: of a lane before its pairs, of its pairs, of a lane
 abbrev pub head_length : ℕ
@@ -44,10 +40,10 @@ row_of size of zero ws = []
 row_of size of (suc n) ws = of ws ∷ row_of size of n (drop size ws)
 
 unfoldable pub phase_of : List ℕ → Phase
-phase_of ws = cond (eqb (get_or ws 0 0) 0) Idle (Holds (record { first = get_or ws 1 0; count = get_or ws 2 0; stamp = get_or ws 3 0 }))
+phase_of ws = cond (eqb (get_or ws 0 0) 0) None (Some (record { first = get_or ws 1 0; count = get_or ws 2 0; stamp = get_or ws 3 0 }))
 
-unfoldable pub floor_of : List ℕ → Timestamp
-floor_of ws = cond (eqb (get_or ws 0 0) 0) None (At (get_or ws 1 0))
+unfoldable pub floor_of : List ℕ → Option ℕ
+floor_of ws = cond (eqb (get_or ws 0 0) 0) None (Some (get_or ws 1 0))
 
 unfoldable pub pair_of : List ℕ → Pair
 pair_of ws = record { word = get_or ws 0 0; value = get_or ws 1 0 }
@@ -65,8 +61,8 @@ lane_of ws =
 
 unfoldable pub lock_of : List ℕ → Lock
 lock_of ws =
-    cond (eqb (get_or ws 0 0) 0) Free
-    (Held (record { lane = get_or ws 1 0; stamp = get_or ws 2 0; count = get_or ws 3 0; logged = get_or ws 4 0; written = get_or ws 5 0 }))
+    cond (eqb (get_or ws 0 0) 0) None
+    (Some (record { lane = get_or ws 1 0; stamp = get_or ws 2 0; count = get_or ws 3 0; logged = get_or ws 4 0; written = get_or ws 5 0 }))
 
 unfoldable pub record_of : List ℕ → Record
 record_of ws =
@@ -88,14 +84,14 @@ unfoldable pub bit_for : Bool → ℕ
 bit_for true = 1
 bit_for false = 0
 
-unfoldable pub is_set : Timestamp → Bool
+unfoldable pub is_set : Option ℕ → Bool
 is_set None = false
-is_set (At s) = true
+is_set (Some s) = true
 
 -- the timestamp of a floor, 0 where there is none
-unfoldable pub stamp_of : Timestamp → ℕ
+unfoldable pub stamp_of : Option ℕ → ℕ
 stamp_of None = 0
-stamp_of (At s) = s
+stamp_of (Some s) = s
 
 -- a lane's words before its pairs: 0 for what an idle lane or one without floor does not have
 unfoldable pub head_words : Lane → List ℕ

@@ -9,18 +9,21 @@ pub mod check;
 pub mod read;
 pub mod write;
 
-ghost use Rattle.std.specs.Prelude.{◌≡◌, ◌≤◌, length};
+ghost use Rattle.std.specs.Prelude.{◌≡◌, drop, length};
 ghost use Rattle.txn.specs.Txn.{max_writes};
 ghost use Rattle.record.specs.declared.Lane.{Lane};
-ghost use Rattle.codec.specs.Fields.{pairs_length, lane_length, holder_length, record_length};
+ghost use Rattle.std.specs.List.{flat_map};
+ghost use Rattle.record.specs.Record.{cursor_of};
+ghost use Rattle.codec.specs.Fields.{head_length, lane_length};
 ghost use Rattle.codec.specs.Fields.{phase_of, floor_of, pair_of, row_of, lane_of, lock_of, record_of};
-ghost use Rattle.codec.specs.Fields.{bit_for, is_set, stamp_of, head_words, pair_words, row_words, lane_words};
+ghost use Rattle.codec.specs.Fields.{head_words, pair_words, row_words, lane_words};
 ghost use Rattle.codec.specs.Fields.{lock_words, words_of};
 ghost use Rattle.codec.specs.inner.InPlace.{headed};
 
 use image::MAX_LANES;
-use lane_log::{Cursor, Timestamp};
-use record::{LOCK_WORDS, Lane, Lock, Locked, Logged, Pair, Phase, Record};
+use lane_log::Cursor;
+use record::{LOCK_WORDS, Lane, Locked, Logged, Pair, Record};
+use std::array;
 use txn::MAX_WRITES;
 
 // How many words a lane has before its pairs.
@@ -40,193 +43,153 @@ pub const RECORD_WORDS: usize = LANES_END + 1 + HOLDER_WORDS;
 
 pub const STATE_WORDS: usize = RECORD_WORDS + LOCK_WORDS;
 
-fn phase_from(words: &[u64]) -> Phase
-    requires { lane_length ≤ length words.now }
-    ensures { result ≡ phase_of words.now }
+// The conversions are functions of this crate and no `From`: neither the record's types nor arrays are its own, and
+// `record` knows nothing of words.
+#[tactic(auto, unfolding(crate::specs::Fields::phase_of))]
+fn phase_from(lane: &[u64; LANE_WORDS]) -> Option<Logged>
+    ensures { result ≡ phase_of lane.now }
 {
-    if words[0] == 0 {
-        return Phase::Idle;
-    }
-    Phase::Holds(Logged {
-        first: words[1] as usize,
-        count: words[2] as usize,
-        stamp: words[3],
+    (lane[0] != 0).then_some(Logged {
+        first: lane[1] as usize,
+        count: lane[2] as usize,
+        stamp: lane[3],
     })
 }
 
-fn floor_from(words: &[u64]) -> Timestamp
-    requires { 2 ≤ length words.now }
-    ensures { result ≡ floor_of words.now }
+#[tactic(auto, unfolding(crate::specs::Fields::lane_of, record::specs::Record::cursor_of))]
+fn cursor_from(lane: &[u64; LANE_WORDS]) -> Cursor
+    ensures { result ≡ cursor_of (lane_of lane.now) }
 {
-    if words[0] == 0 {
-        return Timestamp::None;
-    }
-    Timestamp::At(words[1])
-}
-
-fn pairs_from(words: &[u64]) -> [Pair; MAX_WRITES]
-    requires { pairs_length ≤ length words.now }
-    ensures { result ≡ row_of 2 pair_of max_writes words.now }
-{
-    let mut pairs = [Pair { word: 0, value: 0 }; MAX_WRITES];
-    for i in 0..MAX_WRITES {
-        pairs[i] = Pair {
-            word: words[2 * i] as usize,
-            value: words[2 * i + 1],
-        };
-    }
-    pairs
-}
-
-fn put_pairs(redo: [Pair; MAX_WRITES], words: &mut [u64])
-    requires { length words.old ≡ pairs_length }
-    ensures { words.new ≡ row_words pair_words redo }
-{
-    for i in 0..MAX_WRITES {
-        let pair = redo[i];
-        words[2 * i] = pair.word as u64;
-        words[2 * i + 1] = pair.value;
+    Cursor {
+        slot: lane[4] as usize,
+        wrap: lane[5],
     }
 }
 
-// 1 where it is so, else 0.
-pub fn bit_for(is: bool) -> u64
-    ensures { result ≡ bit_for is }
+#[tactic(auto, unfolding(crate::specs::Fields::floor_of))]
+fn floor_from(lane: &[u64; LANE_WORDS]) -> Option<u64>
+    ensures { result ≡ floor_of (drop 6 lane.now) }
 {
-    if is {
-        return 1;
-    }
-    0
+    (lane[6] != 0).then_some(lane[7])
 }
 
-fn is_set(floor: Timestamp) -> bool
-    ensures { result ≡ is_set floor }
+fn redo_from(lane: &[u64; LANE_WORDS]) -> [Pair; MAX_WRITES]
+    ensures { result ≡ row_of 2 pair_of max_writes (drop head_length lane.now) }
 {
-    match floor {
-        Timestamp::None => false,
-        Timestamp::At(_) => true,
-    }
+    array::from_fn(|i| Pair {
+        word: lane[HEAD_WORDS + 2 * i] as usize,
+        value: lane[HEAD_WORDS + 2 * i + 1],
+    })
 }
 
-// The timestamp of a floor, 0 where there is none.
-fn stamp_of(floor: Timestamp) -> u64
-    ensures { result ≡ stamp_of floor }
+// A lane from its words.
+#[tactic(auto, unfolding(crate::specs::Fields::lane_of, record::specs::Record::cursor_of))]
+fn lane_from(lane: &[u64; LANE_WORDS]) -> Lane
+    ensures { result ≡ lane_of lane.now }
 {
-    match floor {
-        Timestamp::None => 0,
-        Timestamp::At(stamp) => stamp,
-    }
-}
-
-// A lane from its words, whatever words follow them.
-fn lane_from(words: &[u64]) -> Lane
-    requires { lane_length ≤ length words.now }
-    ensures { result ≡ lane_of words.now }
-{
+    let cursor = cursor_from(lane);
     Lane {
-        phase: phase_from(words),
-        next: words[4] as usize,
-        wrap: words[5],
-        floor: floor_from(&words[6..]),
-        redo: pairs_from(&words[HEAD_WORDS..]),
+        phase: phase_from(lane),
+        next: cursor.slot,
+        wrap: cursor.wrap,
+        floor: floor_from(lane),
+        redo: redo_from(lane),
     }
 }
 
 // The words of a lane before its pairs, which do not matter to them.
-fn head(phase: Phase, cursor: Cursor, floor: Timestamp) -> [u64; HEAD_WORDS]
+fn head(phase: Option<Logged>, cursor: Cursor, floor: Option<u64>) -> [u64; HEAD_WORDS]
     ensures { (l : Lane) → result ≡ head_words (headed phase cursor floor l) }
 {
-    let held = record::logged_in(phase);
+    let logged = phase.unwrap_or_default();
     [
-        bit_for(record::is_logged(phase)),
-        held.first as u64,
-        held.count as u64,
-        held.stamp,
+        u64::from(phase.is_some()),
+        logged.first as u64,
+        logged.count as u64,
+        logged.stamp,
         cursor.slot as u64,
         cursor.wrap,
-        bit_for(is_set(floor)),
-        stamp_of(floor),
+        u64::from(floor.is_some()),
+        floor.unwrap_or(0),
     ]
 }
 
+#[tactic(auto, unfolding(crate::specs::Fields::pair_words))]
+fn pair_to(pair: Pair) -> [u64; 2]
+    ensures { result ≡ pair_words pair }
+{
+    [pair.word as u64, pair.value]
+}
+
+// The words of a redo log.
+fn pairs_to(redo: [Pair; MAX_WRITES]) -> [[u64; 2]; MAX_WRITES]
+    ensures { flat_map (λ pair. pair) result ≡ row_words pair_words redo }
+{
+    redo.map(pair_to)
+}
+
+// Its words are lent as a slice, as those of `normalise_lane` and `normalise_lock` are: of an array of which a part is
+// lent as an array it is not known what it ends as.
 fn put_lane(lane: Lane, words: &mut [u64])
     requires { length words.old ≡ lane_length }
     ensures { words.new ≡ lane_words lane }
 {
-    let phase = lane.phase;
-    let floor = lane.floor;
-    let redo = lane.redo;
-    let first = head(phase, record::cursor_of(lane), floor);
-    image::bulk::copy_words(&first, &mut words[..HEAD_WORDS]);
-    put_pairs(redo, &mut words[HEAD_WORDS..]);
+    words[..HEAD_WORDS].copy_from_slice(&head(lane.phase, record::cursor_of(lane), lane.floor));
+    words[HEAD_WORDS..].copy_from_slice(pairs_to(lane.redo).as_flattened());
 }
 
-fn lock_from(words: &[u64]) -> Lock
-    requires { holder_length ≤ length words.now }
-    ensures { result ≡ lock_of words.now }
+#[tactic(auto, unfolding(crate::specs::Fields::lock_of))]
+fn lock_from(holder: &[u64; HOLDER_WORDS]) -> Option<Locked>
+    ensures { result ≡ lock_of holder.now }
 {
-    if words[0] == 0 {
-        return Lock::Free;
-    }
-    Lock::Held(Locked {
-        lane: words[1] as usize,
-        stamp: words[2],
-        count: words[3] as usize,
-        logged: words[4] as usize,
-        written: words[5] as usize,
+    (holder[0] != 0).then_some(Locked {
+        lane: holder[1] as usize,
+        stamp: holder[2],
+        count: holder[3] as usize,
+        logged: holder[4] as usize,
+        written: holder[5] as usize,
     })
 }
 
 // The words of the lock before its pairs.
-fn holder(lock: Lock) -> [u64; HOLDER_WORDS]
+fn holder(lock: Option<Locked>) -> [u64; HOLDER_WORDS]
     ensures { result ≡ lock_words lock }
 {
-    match lock {
-        Lock::Free => [0, 0, 0, 0, 0, 0],
-        Lock::Held(held) => [
-            1,
-            held.lane as u64,
-            held.stamp,
-            held.count as u64,
-            held.logged as u64,
-            held.written as u64,
-        ],
-    }
+    let held = lock.unwrap_or_default();
+    [
+        u64::from(lock.is_some()),
+        held.lane as u64,
+        held.stamp,
+        held.count as u64,
+        held.logged as u64,
+        held.written as u64,
+    ]
 }
 
 // The record of these words. What stands behind a phase, a floor or a lock of 0 is dropped: an idle lane's first slot,
 // count and timestamp, the floor of a lane that has none, the lane, timestamp and counts of a free lock.
-pub fn record_from(words: &[u64]) -> Record
-    requires { length words.now ≡ record_length }
+pub fn record_from(words: &[u64; RECORD_WORDS]) -> Record
     ensures { result ≡ record_of words.now }
 {
-    let mut lanes = [record::start_lane(); MAX_LANES];
-    for l in 0..MAX_LANES {
-        lanes[l] = lane_from(&words[2 + LANE_WORDS * l..]);
-    }
     Record {
-        clock: words[0],
-        last: words[1],
-        lanes,
-        lag: words[LANES_END],
-        lock: lock_from(&words[LANES_END + 1..]),
+        clock: read::clock(words),
+        last: read::last(words),
+        lanes: array::from_fn(|l| lane_from(read::lane_words(words, l))),
+        lag: read::lag(words),
+        lock: read::lock(words),
     }
 }
 
 // Stores the words of a record: 0 where a lane is idle or has no floor, and where the lock is free.
-pub fn record_to(state: Record, words: &mut [u64])
-    requires { length words.old ≡ record_length }
+pub fn record_to(state: Record, words: &mut [u64; RECORD_WORDS])
     ensures { words.new ≡ words_of state }
 {
     words[0] = state.clock;
     words[1] = state.last;
-    for l in 0..MAX_LANES {
-        let lane = state.lanes[l];
+    for (l, lane) in state.lanes.iter().enumerate() {
         let at = 2 + LANE_WORDS * l;
-        put_lane(lane, &mut words[at..at + LANE_WORDS]);
+        put_lane(*lane, &mut words[at..at + LANE_WORDS]);
     }
     words[LANES_END] = state.lag;
-    let lock = state.lock;
-    let last = holder(lock);
-    image::bulk::copy_words(&last, &mut words[LANES_END + 1..]);
+    words[LANES_END + 1..].copy_from_slice(&holder(state.lock));
 }

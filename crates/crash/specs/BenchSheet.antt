@@ -1,10 +1,9 @@
 -- The bench sheet's rows that are to be proved, and two of marked lanes, as one table. SPECIFICATION, "Bench sheet". Assumes nothing.
-use Rattle.std.specs.Prelude.{ℕ, ◌-◌, ◌^◌, ◌≡◌, List, [], ◌∷◌, ◌++◌, replicate}
+use Rattle.std.specs.Prelude.{ℕ, ◌-◌, ◌^◌, ◌≡◌, List, [], ◌∷◌, ◌++◌, replicate, Some, None}
 use Rattle.slot.specs.Slot.{entry_of, stamp_of, read_of}
 use Rattle.slot.specs.declared.Content.TheVariants.{Empty, Torn}
 use Rattle.txn.specs.Txn.{after}
 use Rattle.image.specs.declared.Sizes.{Sizes}
-use Rattle.lane_log.specs.declared.Timestamp.TheVariants.{None, At}
 use Rattle.recovery.specs.Recovery.{boundary}
 
 -- one data word and two lanes of 34 slots
@@ -33,7 +32,7 @@ pub record BenchSheet : Type 0 where
   pub empty-0-0 : read_of 1024 0 0 ≡ Empty
   -- ADD of 1 to the greatest word
   pub add_wraps : after 1 (3 ∷ 0 ∷ 0 ∷ 1 ∷ []) ((2 ^ 64 - 1) ∷ []) ≡ 0 ∷ []
-  pub newest-6-and-10 : boundary two_lanes (two_logs (closed 6) (closed 10)) ≡ At 6
+  pub newest-6-and-10 : boundary two_lanes (two_logs (closed 6) (closed 10)) ≡ Some 6
   -- a marked lane gives none
-  pub mark-6-and-10 : boundary two_lanes (two_logs (marked 6) (closed 10)) ≡ At 10
+  pub mark-6-and-10 : boundary two_lanes (two_logs (marked 6) (closed 10)) ≡ Some 10
   pub marks-6-and-10 : boundary two_lanes (two_logs (marked 6) (marked 10)) ≡ None

@@ -1,18 +1,15 @@
 -- What users are promised beside the crash theorem; it follows from that: when a commit can no longer be lost, that a lane which is marked and drained
 -- and then stays idle delays nobody, how much work a power cut can take at most, and what a lane that is settled keeps. SPECIFICATION, "Corollaries".
 -- Assumes nothing.
-use Rattle.std.specs.Prelude.{ℕ, ◌+◌, ◌-◌, ◌<◌, Bool, true, false, not, ◌&&◌, ◌||◌, List, [], ◌∷◌, ◌≡◌, eqb, set}
-use Rattle.std.proofs.Math.Option.{Option, none, some}
+use Rattle.std.specs.Prelude.{ℕ, ◌+◌, ◌-◌, ◌<◌, Bool, true, false, not, ◌&&◌, ◌||◌, List, [], ◌∷◌, ◌≡◌, eqb, set, Some, Option, None}
 use Rattle.image.specs.Image.{data_of}
 use Rattle.image.specs.declared.Sizes.{Sizes}
-use Rattle.lane_log.specs.declared.Timestamp.{Timestamp}
-use Rattle.lane_log.specs.declared.Timestamp.TheVariants.{At}
 use Rattle.record.specs.Record.{lag_passed}
 use Rattle.store.specs.Machine.{Machine, said}
 use Rattle.store.specs.Calls.{format_refusal}
 use Rattle.recovery.specs.Recovery.{boundary, told}
-use Rattle.recovery.specs.declared.Recovered.{Recovered}
-use Rattle.recovery.specs.declared.Recovered.TheVariants.{Refused, Cut, Finished}
+use Rattle.recovery.specs.Answers.{Recovered}
+use Rattle.recovery.specs.Answers.{Refused, Cut, Finished}
 use Rattle.crash.specs.Events.{Call, log_by, redo, validate_by, mark, drain, lock, proceed, lane_of, Junk, System, live, down, Design, found_or, happens}
 use Rattle.crash.specs.Events.{Event, format, write_back, call, recover, fails, fails_in_drain, fails_after_drain, fails_in_recovery}
 use Rattle.crash.specs.Events.{Reply, answered, recovered, failed, ignored}
@@ -47,20 +44,20 @@ has_drained (failed d) = d
 has_drained ignored = false
 
 -- ---- a recovery that has finished leaves the words with the commits below some timestamp, and every commit below `kept` is below that one
-pub record Keeps (z : Sizes) (h : History) (kept : Timestamp) (m : Machine) : Type 0 where
-  pub boundary : Timestamp
+pub record Keeps (z : Sizes) (h : History) (kept : Option ℕ) (m : Machine) : Type 0 where
+  pub boundary : Option ℕ
   pub nvm : data_of z m.nvm ≡ words_below z boundary h
   pub cache : data_of z m.cache ≡ words_below z boundary h
   pub keeps : (s : ℕ) → is_below kept s ≡ true → is_below boundary s ≡ true
 
 -- only a store with a record has finished
-abbrev pub KeptBy : Sizes → History → (kept : Timestamp) → System → Recovered → Type 0
+abbrev pub KeptBy : Sizes → History → (kept : Option ℕ) → System → Recovered → Type 0
 KeptBy z h kept y (Refused n) = Unit {0}
 KeptBy z h kept y Cut = Unit {0}
 KeptBy z h kept (live m) (Finished a) = Keeps z h kept m
 KeptBy z h kept (down nvm j found) (Finished a) = ⊥
 
-abbrev pub Kept : Sizes → History → (kept : Timestamp) → System → Reply → Type 0
+abbrev pub Kept : Sizes → History → (kept : Option ℕ) → System → Reply → Type 0
 Kept z h kept y (answered a) = Unit {0}
 Kept z h kept y (recovered r) = KeptBy z h kept y r
 Kept z h kept y (failed d) = Unit {0}
@@ -91,8 +88,8 @@ goes_on d z w (e ∷ es) = not (starts_anew e (happens d z w.system e).reply) &&
 
 -- the least timestamp that a commit to come can have: the lock's while it is held, else the next one
 unfoldable pub next_commit : Option Holder → (clock : ℕ) → ℕ
-next_commit none clock = clock + 2
-next_commit (some k) clock = k.stamp
+next_commit None clock = clock + 2
+next_commit (Some k) clock = k.stamp
 
 -- once the least floor is above s, or no lane has a floor, and every commit to come is above s: s is not above the clock, and below the timestamp of a
 -- transaction that holds the lock. Whatever happens until the next start, a recovery that then finishes keeps every commit up to s
@@ -104,7 +101,7 @@ SafeTheorem d =
     let b = world_after d z a fs in
     s < next_commit a.history.lock a.history.clock → is_below (least_floor_of a.history.pages) s ≡ true → goes_on d z a fs ≡ true
     → (lag₁ limit : ℕ) (j : Junk) → let r = happens d z b.system (recover lag₁ limit j) in
-    Kept z b.history (At (s + 1)) r.system r.reply
+    Kept z b.history (Some (s + 1)) r.system r.reply
 
 -- ---- a lane that stays idle: no step of it is called; it may be drained, and anything may happen to the rest of the store
 unfoldable pub is_drain : Call → Bool
@@ -131,7 +128,7 @@ stays_idle L [] = true
 stays_idle L (e ∷ es) = is_idle L e && stays_idle L es
 
 -- the least floor of the lanes but L
-unfoldable pub others_floor : ℕ → History → Timestamp
+unfoldable pub others_floor : ℕ → History → Option ℕ
 others_floor L h = least_floor_of (set h.pages L blank_page)
 
 -- does a call append a mark: Mark, or a Log of no words
@@ -196,11 +193,11 @@ LagTheorem d =
     is_bound x ≡ true → stamps_in (happens d z a.system (call x)).reply ≡ s ∷ [] → goes_on d z b fs ≡ true
     → (lag_passed a.history.lag s (boundary z (cut_cells c.system)) ≡ false)
     × ((lag₁ limit : ℕ) (j : Junk) → let r = happens d z c.system (recover lag₁ limit j) in
-    Kept z c.history (At (s - a.history.lag)) r.system r.reply)
+    Kept z c.history (Some (s - a.history.lag)) r.system r.reply)
 
 -- ---- a lane that is settled
 -- are all these commits below a timestamp
-unfoldable pub are_below : Timestamp → List Commit → Bool
+unfoldable pub are_below : Option ℕ → List Commit → Bool
 are_below b [] = true
 are_below b (c ∷ cs) = is_below b c.stamp && are_below b cs
 
@@ -242,9 +239,9 @@ SettledTheorem d =
     let b = next_world d z a (call x) in
     let c = world_after d z b fs in
     stamps_in (happens d z a.system (call x)).reply ≡ s ∷ []
-    → (are_below (At s) a.history.commits ≡ true)
+    → (are_below (Some s) a.history.commits ≡ true)
     × (is_lock x ≡ false → goes_on d z b fs ≡ true → gets_drained d z (lane_of x) b fs ≡ true
     → (k : ℕ) → k < s → is_below (others_floor (lane_of x) c.history) k ≡ true
     → (is_below (boundary z (cut_cells c.system)) k ≡ true)
     × ((lag₁ limit : ℕ) (j : Junk) → let r = happens d z c.system (recover lag₁ limit j) in
-    Kept z c.history (At (k + 1)) r.system r.reply))
+    Kept z c.history (Some (k + 1)) r.system r.reply))

@@ -1,7 +1,6 @@
 -- What can happen to a store, ours or any other: calls, write-backs, recoveries, and power failing at every place; and the store after it.
 -- SPECIFICATION, "Events". Assumes nothing.
-use Rattle.std.specs.Prelude.{ℕ, Bool, false, cond, not, List, [], ◌∷◌, ◌++◌, eqb, length, get_or, take, replicate}
-use Rattle.std.proofs.Math.Option.{Option, none, some}
+use Rattle.std.specs.Prelude.{ℕ, Bool, false, cond, not, List, [], ◌∷◌, ◌++◌, eqb, length, get_or, take, replicate, Option, Some, None}
 use Rattle.txn.specs.Txn.{Rule, current}
 use Rattle.image.specs.Image.{former_length, sizes_at_end}
 use Rattle.image.specs.Flush.{flushed, written_back, drained_nvm}
@@ -10,10 +9,10 @@ use Rattle.record.specs.Record.{no_pairs, blank_record}
 use Rattle.store.specs.Machine.{Machine, Step, said}
 use Rattle.store.specs.Calls.{format_step, write_back_step, drain_step, log_step_by, redo_step, validate_step_by, mark_step}
 use Rattle.store.specs.Locks.{lock_step, proceed_step}
-use Rattle.store.specs.declared.Answer.{Answer}
+use Rattle.store.specs.Answers.{Answer}
 use Rattle.recovery.specs.Recovery.{Restarted, recover_step, recover_read_step, recovered_nvm}
-use Rattle.recovery.specs.declared.Recovered.{Recovered}
-use Rattle.recovery.specs.declared.Recovered.TheVariants.{Refused, Cut, Finished}
+use Rattle.recovery.specs.Answers.{Recovered}
+use Rattle.recovery.specs.Answers.{Refused, Cut, Finished}
 
 -- the calls that take a record: the six steps, and Drain. No function offers a Log or a Validate by the former rule: they are here so that a store which
 -- carries over what it logged and committed under that rule is covered too
@@ -154,8 +153,8 @@ unfoldable pub bare : (nvm : List ℕ) → Junk → Machine
 bare nvm j = record { state = blank_record; pairs = no_pairs; cache = j.cache; nvm = nvm; flags = j.flags }
 
 unfoldable pub found_or : List ℕ → Option (List ℕ) → List ℕ
-found_or nvm none = nvm
-found_or nvm (some cells) = cells
+found_or nvm None = nvm
+found_or nvm (Some cells) = cells
 
 -- ---- the store after an event
 unfoldable pub after_step : Step → Happened
@@ -167,7 +166,7 @@ after_format y s = record { reply = answered s.answer; system = cond (said s.ans
 
 unfoldable pub recovered_system : System → Junk → List ℕ → Restarted → Recovered → System
 recovered_system y j found r (Refused n) = y
-recovered_system y j found r Cut = down r.machine.nvm j (some found)
+recovered_system y j found r Cut = down r.machine.nvm j (Some found)
 recovered_system y j found r (Finished a) = live r.machine
 
 unfoldable pub after_recovery : System → Junk → List ℕ → Restarted → Happened
@@ -184,12 +183,12 @@ happens d z (live m) (format lag start) = after_format (live m) (d.format z lag 
 happens d z (live m) (write_back i) = after_step (d.write_back z i m)
 happens d z (live m) (call c) = after_step (d.call z c m)
 happens d z (live m) (recover lag limit j) = after_recovery (live m) (fit m.nvm j) m.nvm (recovery_of d z lag limit m)
-happens d z (live m) (fails j) = after_failure false m.nvm (fit m.nvm j) none
+happens d z (live m) (fails j) = after_failure false m.nvm (fit m.nvm j) None
 happens d z (live m) (fails_in_drain c is j) =
-    after_failure false (cond (is_taken d z c m) (partly_drained (lane_of c) is m.flags m.cache m.nvm) m.nvm) (fit m.nvm j) none
+    after_failure false (cond (is_taken d z c m) (partly_drained (lane_of c) is m.flags m.cache m.nvm) m.nvm) (fit m.nvm j) None
 happens d z (live m) (fails_after_drain c j) =
-    after_failure (is_taken d z c m) (cond (is_taken d z c m) (drained_nvm (lane_of c) m.flags m.cache m.nvm) m.nvm) (fit m.nvm j) none
-happens d z (live m) (fails_in_recovery n j) = after_failure false (cut_short_of d z n m.nvm) (fit m.nvm j) (some m.nvm)
+    after_failure (is_taken d z c m) (cond (is_taken d z c m) (drained_nvm (lane_of c) m.flags m.cache m.nvm) m.nvm) (fit m.nvm j) None
+happens d z (live m) (fails_in_recovery n j) = after_failure false (cut_short_of d z n m.nvm) (fit m.nvm j) (Some m.nvm)
 happens d z (down nvm j found) (format lag start) = after_format (down nvm j found) (d.format z lag start (bare nvm j))
 happens d z (down nvm j found) (write_back i) = not_offered (down nvm j found)
 happens d z (down nvm j found) (call c) = not_offered (down nvm j found)
@@ -198,4 +197,4 @@ happens d z (down nvm j found) (recover lag limit k) =
 happens d z (down nvm j found) (fails k) = after_failure false nvm (fit nvm k) found
 happens d z (down nvm j found) (fails_in_drain c is k) = not_offered (down nvm j found)
 happens d z (down nvm j found) (fails_after_drain c k) = not_offered (down nvm j found)
-happens d z (down nvm j found) (fails_in_recovery n k) = after_failure false (cut_short_of d z n nvm) (fit nvm k) (some (found_or nvm found))
+happens d z (down nvm j found) (fails_in_recovery n k) = after_failure false (cut_short_of d z n nvm) (fit nvm k) (Some (found_or nvm found))

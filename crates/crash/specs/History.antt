@@ -1,20 +1,17 @@
 -- The history, the sequential reference: it is fed arguments, replies and the cut cells, and never reads the machine. SPECIFICATION, "History". Assumes
 -- nothing.
-use Rattle.std.specs.Prelude.{ℕ, ◌+◌, ◌-◌, ◌^◌, min, Bool, true, false, cond, not, ◌&&◌, ◌||◌, List, [], ◌∷◌, ◌++◌, map, leb, ltb, eqb, length, get_or, set, take, replicate}
-use Rattle.std.proofs.Math.Option.{Option, none, some}
+use Rattle.std.specs.Prelude.{ℕ, ◌+◌, ◌-◌, ◌^◌, min, Bool, true, false, cond, not, ◌&&◌, ◌||◌, List, [], ◌∷◌, ◌++◌, map, leb, ltb, eqb, length, get_or, set, take, replicate, Some, None, Option}
 use Rattle.txn.specs.Txn.{max_writes, max_long, current, run, applied, after}
 use Rattle.txn.specs.declared.Write.{Write}
 use Rattle.image.specs.declared.Sizes.{Sizes}
-use Rattle.lane_log.specs.declared.Timestamp.{Timestamp}
-use Rattle.lane_log.specs.declared.Timestamp.TheVariants.{None, At}
 use Rattle.record.specs.Record.{lesser, lag_passed}
 use Rattle.store.specs.Machine.{Cause, Said, said}
 use Rattle.store.specs.Calls.{bad_lane, bad_txn}
 use Rattle.store.specs.Locks.{slots_counted}
-use Rattle.store.specs.declared.Answer.{Answer}
-use Rattle.store.specs.declared.Answer.TheVariants as answer
+use Rattle.store.specs.Answers.{Answer}
+use Rattle.store.specs.Answers as answer
 use Rattle.recovery.specs.Recovery.{boundary, new_base, told}
-use Rattle.recovery.specs.declared.Recovered.{Recovered}
+use Rattle.recovery.specs.Answers.{Recovered}
 use Rattle.crash.specs.Events.{Call, log_by, redo, validate_by, mark, drain, lock, proceed, lane_of}
 use Rattle.crash.specs.Events.{Event, format, write_back, call, recover, fails, fails_in_drain, fails_after_drain, fails_in_recovery}
 use Rattle.crash.specs.Events.{Reply, answered, recovered, failed, ignored}
@@ -29,7 +26,7 @@ pub data Newest : Type 0 where
 pub record Page : Type 0 where
   pub held : Option (List ℕ)
   pub newest : Newest
-  pub floor : Timestamp
+  pub floor : Option ℕ
 
 -- a commit: its timestamp and its transaction
 pub record Commit : Type 0 where
@@ -57,37 +54,37 @@ pub record History : Type 0 where
   pub lock : Option Holder
 
 abbrev pub blank_page : Page
-blank_page = record { held = none; newest = unset; floor = None }
+blank_page = record { held = None; newest = unset; floor = None }
 
 unfoldable pub page_at : History → ℕ → Page
 page_at h L = get_or h.pages L blank_page
 
 -- a start with this lag limit, these words and this clock
 unfoldable pub opened : Sizes → (lag : ℕ) → List ℕ → ℕ → History
-opened z lag start clock = record { start = start; clock = clock; commits = []; pages = replicate z.lanes blank_page; lag = lag; lock = none }
+opened z lag start clock = record { start = start; clock = clock; commits = []; pages = replicate z.lanes blank_page; lag = lag; lock = None }
 
 -- ---- the words
-unfoldable pub is_below : Timestamp → ℕ → Bool
+unfoldable pub is_below : Option ℕ → ℕ → Bool
 is_below None s = true
-is_below (At b) s = ltb s b
+is_below (Some b) s = ltb s b
 
 -- the words with the commits below a timestamp run in order, all of them where it is none
-unfoldable pub replay : (W : ℕ) → Timestamp → List Commit → List ℕ → List ℕ
+unfoldable pub replay : (W : ℕ) → Option ℕ → List Commit → List ℕ → List ℕ
 replay W b [] ws = ws
 replay W b (c ∷ cs) ws = replay W b cs (cond (is_below b c.stamp) (after W c.txn ws) ws)
 
-unfoldable pub words_below : Sizes → Timestamp → History → List ℕ
+unfoldable pub words_below : Sizes → Option ℕ → History → List ℕ
 words_below z b h = replay z.words b h.commits h.start
 
 -- ---- what the history does with an event
-unfoldable pub floor_or : Timestamp → Timestamp → Timestamp
+unfoldable pub floor_or : Option ℕ → Option ℕ → Option ℕ
 floor_or None b = b
-floor_or (At a) b = At a
+floor_or (Some a) b = Some a
 
 -- a lane's floor after a drain
-unfoldable pub floor_on_drain : Newest → Timestamp → Timestamp
+unfoldable pub floor_on_drain : Newest → Option ℕ → Option ℕ
 floor_on_drain unset floor = floor
-floor_on_drain (closing_at s) floor = At s
+floor_on_drain (closing_at s) floor = Some s
 floor_on_drain (mark_at s) floor = None
 
 -- a drain of lane L: its newest timestamp, if any, becomes its floor; a mark's ends it
@@ -111,7 +108,7 @@ stamped L kind held txns h =
       start = h.start;
       clock = s;
       commits = h.commits ++ map (λ f. record { stamp = s; txn = f }) txns;
-      pages = set h.pages L (record { held = held; newest = kind s; floor = floor_or (page_at h L).floor (At s) });
+      pages = set h.pages L (record { held = held; newest = kind s; floor = floor_or (page_at h L).floor (Some s) });
       lag = h.lag;
       lock = h.lock;
     }
@@ -124,7 +121,7 @@ released L h =
       start = h.start;
       clock = h.clock;
       commits = h.commits;
-      pages = set h.pages L (record { held = none; newest = p.newest; floor = p.floor });
+      pages = set h.pages L (record { held = None; newest = p.newest; floor = p.floor });
       lag = h.lag;
       lock = h.lock;
     }
@@ -140,7 +137,7 @@ lock_taken L f n h =
       commits = h.commits;
       pages = h.pages;
       lag = h.lag;
-      lock = some (record { lane = L; txn = f; stamp = s; left = n; ready = false });
+      lock = Some (record { lane = L; txn = f; stamp = s; left = n; ready = false });
     }
 
 -- its next part is logged: the lane's newest timestamp is the lock's from its first part on
@@ -151,9 +148,9 @@ part_logged k h =
       start = h.start;
       clock = h.clock;
       commits = h.commits;
-      pages = set h.pages k.lane (record { held = p.held; newest = closing_at k.stamp; floor = floor_or p.floor (At k.stamp) });
+      pages = set h.pages k.lane (record { held = p.held; newest = closing_at k.stamp; floor = floor_or p.floor (Some k.stamp) });
       lag = h.lag;
-      lock = some (record { lane = k.lane; txn = k.txn; stamp = k.stamp; left = k.left; ready = true });
+      lock = Some (record { lane = k.lane; txn = k.txn; stamp = k.stamp; left = k.left; ready = true });
     }
 
 -- how many writes are not yet made once the part that is logged is written
@@ -170,20 +167,20 @@ part_written k h =
       commits = cond (eqb n 0) (h.commits ++ (record { stamp = k.stamp; txn = k.txn } ∷ [])) h.commits;
       pages = h.pages;
       lag = h.lag;
-      lock = cond (eqb n 0) none (some (record { lane = k.lane; txn = k.txn; stamp = k.stamp; left = n; ready = false }));
+      lock = cond (eqb n 0) None (Some (record { lane = k.lane; txn = k.txn; stamp = k.stamp; left = n; ready = false }));
     }
 
 unfoldable pub next_part : Option Holder → History → History
-next_part none h = h
-next_part (some k) h = cond k.ready (part_written k h) (part_logged k h)
+next_part None h = h
+next_part (Some k) h = cond k.ready (part_written k h) (part_logged k h)
 
 unfoldable pub is_some : {A : Type 0} → Option A → Bool
-is_some none = false
-is_some (some f) = true
+is_some None = false
+is_some (Some f) = true
 
 unfoldable pub held_by : Option (List ℕ) → List (List ℕ)
-held_by none = []
-held_by (some f) = f ∷ []
+held_by None = []
+held_by (Some f) = f ∷ []
 
 -- is a count answered, and above 0
 unfoldable pub is_counted : List ℕ → Bool
@@ -192,11 +189,11 @@ is_counted (n ∷ ns) = leb 1 n
 
 -- a call that was taken, by what it answered; a Log of no words is a Mark of a lane that holds nothing
 unfoldable pub taken : Call → Said → History → History
-taken (log_by r L []) t h = stamped L mark_at none [] (after_drain L h)
-taken (log_by r L (w ∷ f)) t h = cond (is_counted t.count) (stamped L closing_at (some (w ∷ f)) [] (after_drain L h)) (after_drain L h)
-taken (redo L) t h = cond t.stale (after_drain L h) (stamped L closing_at none (held_by (page_at h L).held) (after_drain L h))
-taken (validate_by r L f) t h = cond t.changed (released L (after_drain L h)) (stamped L closing_at none (f ∷ []) (after_drain L h))
-taken (mark L) t h = stamped L mark_at none [] (after_drain L h)
+taken (log_by r L []) t h = stamped L mark_at None [] (after_drain L h)
+taken (log_by r L (w ∷ f)) t h = cond (is_counted t.count) (stamped L closing_at (Some (w ∷ f)) [] (after_drain L h)) (after_drain L h)
+taken (redo L) t h = cond t.stale (after_drain L h) (stamped L closing_at None (held_by (page_at h L).held) (after_drain L h))
+taken (validate_by r L f) t h = cond t.changed (released L (after_drain L h)) (stamped L closing_at None (f ∷ []) (after_drain L h))
+taken (mark L) t h = stamped L mark_at None [] (after_drain L h)
 taken (drain L) t h = after_drain L h
 taken (lock L f) t h = cond (is_counted t.left) (lock_taken L f (get_or t.left 0 0) (after_drain L h)) (after_drain L h)
 taken (proceed L) t h = next_part (h.lock) (after_drain L h)
@@ -251,7 +248,7 @@ fed z e (failed d) found h = fed_failure e d h
 fed z e ignored found h = h
 
 -- ---- what the history can tell of an answer
-unfoldable pub least_floor_of : List Page → Timestamp
+unfoldable pub least_floor_of : List Page → Option ℕ
 least_floor_of [] = None
 least_floor_of (p ∷ ps) = lesser p.floor (least_floor_of ps)
 
@@ -261,8 +258,8 @@ present z h = words_below z None h
 
 -- words with the writes that are made of a transaction that holds the lock
 unfoldable pub written : Sizes → Option Holder → List ℕ → List ℕ
-written z none ws = ws
-written z (some k) ws = let xs = run z.words k.txn ws in applied (take (length xs - k.left) xs) ws
+written z None ws = ws
+written z (Some k) ws = let xs = run z.words k.txn ws in applied (take (length xs - k.left) xs) ws
 
 -- the data words now: those with all commits, and then the parts written so far of a transaction that holds the lock
 unfoldable pub visible : Sizes → History → List ℕ
@@ -272,14 +269,14 @@ visible z h = written z h.lock (present z h)
 unfoldable pub writes_now : Sizes → List ℕ → History → List Write
 writes_now z f h = run z.words f (visible z h)
 
-unfoldable pub newest_stamp : Newest → Timestamp
+unfoldable pub newest_stamp : Newest → Option ℕ
 newest_stamp unset = None
-newest_stamp (closing_at s) = At s
-newest_stamp (mark_at s) = At s
+newest_stamp (closing_at s) = Some s
+newest_stamp (mark_at s) = Some s
 
 -- the writes that lane L has logged: those of the transaction that it holds, on the words before its timestamp
 unfoldable pub writes_logged : Sizes → ℕ → History → List Write
-writes_logged z L h = elim (page_at h L).held [ none ↦ [] | some f ↦ run z.words f (words_below z (newest_stamp (page_at h L).newest) h) ]
+writes_logged z L h = elim (page_at h L).held [ None ↦ [] | Some f ↦ run z.words f (words_below z (newest_stamp (page_at h L).newest) h) ]
 
 -- the same words and old values, in the same order
 unfoldable pub same_olds : List Write → List Write → Bool
@@ -289,11 +286,11 @@ same_olds (v ∷ vs) [] = false
 same_olds (v ∷ vs) (w ∷ ws) = (eqb v.word w.word && eqb v.old w.old) && same_olds vs ws
 
 -- is some commit above a timestamp
-unfoldable pub is_above : Timestamp → ℕ → Bool
+unfoldable pub is_above : Option ℕ → ℕ → Bool
 is_above None s = false
-is_above (At b) s = ltb b s
+is_above (Some b) s = ltb b s
 
-unfoldable pub commit_above : Timestamp → List Commit → Bool
+unfoldable pub commit_above : Option ℕ → List Commit → Bool
 commit_above b [] = false
 commit_above b (c ∷ cs) = is_above b c.stamp || commit_above b cs
 
@@ -309,8 +306,8 @@ lock_held h = record { number = 11; holds = is_some h.lock }
 
 -- does another lane than L hold the lock
 unfoldable pub held_elsewhere : ℕ → Option Holder → Bool
-held_elsewhere L none = false
-held_elsewhere L (some k) = not (eqb k.lane L)
+held_elsewhere L None = false
+held_elsewhere L (Some k) = not (eqb k.lane L)
 
 unfoldable pub clock_spent : History → Bool
 clock_spent h = leb (2 ^ 64 - 2) h.clock
@@ -368,8 +365,8 @@ slots_by z (proceed L) h = 0
 
 -- what Continue answers, of the transaction that holds the lock
 unfoldable pub progress : Option Holder → Answer
-progress none = answer.Done
-progress (some k) = answer.Locked (record { left = cond k.ready (left_after k) k.left; stamp = k.stamp })
+progress None = answer.Done
+progress (Some k) = answer.Locked (record { left = cond k.ready (left_after k) k.left; stamp = k.stamp })
 
 -- the answer of a call that is not refused
 unfoldable pub taken_answer : Sizes → Call → History → Answer

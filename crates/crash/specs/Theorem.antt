@@ -1,27 +1,23 @@
 -- The crash theorem: what holds after every event of every list of events from a Format on, or from a recovery of an image of the former length on.
 -- SPECIFICATION, "Crash theorem". Assumes nothing.
-use Rattle.std.specs.Prelude.{ℕ, ◌+◌, ◌-◌, ◌≤◌, ◌<◌, Bool, true, false, cond, ◌&&◌, List, [], ◌∷◌, ◌++◌, ◌≡◌, leb, ltb, eqb, length, drop, replicate}
-use Rattle.std.proofs.Math.Option.{Option, none, some}
+use Rattle.std.specs.Prelude.{ℕ, ◌+◌, ◌-◌, ◌≤◌, ◌<◌, Bool, true, false, cond, ◌&&◌, List, [], ◌∷◌, ◌++◌, ◌≡◌, leb, ltb, eqb, length, drop, replicate, Some, None, Option}
 use Rattle.image.specs.Image.{former_length, trailer, data_of}
 use Rattle.image.specs.declared.Sizes.{Sizes}
 use Rattle.lane_log.specs.Log.{complete_in, hits}
-use Rattle.lane_log.specs.declared.Timestamp.{Timestamp}
-use Rattle.lane_log.specs.declared.Timestamp.TheVariants.{None, At}
 use Rattle.record.specs.Record.{lane_at, is_logged, lag_ok}
-use Rattle.record.specs.declared.Lock.{Lock}
-use Rattle.record.specs.declared.Lock.TheVariants.{Free, Held}
 use Rattle.store.specs.Machine.{Machine, first_cause}
 use Rattle.store.specs.Calls.{format_refusal}
-use Rattle.store.specs.declared.Answer.{Answer}
-use Rattle.store.specs.declared.Answer.TheVariants as answer
+use Rattle.store.specs.Answers.{Answer}
+use Rattle.store.specs.Answers as answer
 use Rattle.recovery.specs.Recovery.{boundary, undo_stores, new_base, torn_in, all_made, recover_refusal}
-use Rattle.recovery.specs.declared.Recovered.{Recovered}
-use Rattle.recovery.specs.declared.Recovered.TheVariants.{Refused, Cut, Finished}
+use Rattle.recovery.specs.Answers.{Recovered}
+use Rattle.recovery.specs.Answers.{Refused, Cut, Finished}
 use Rattle.crash.specs.Events.{Call, lane_of, System, live, down, nvm_of, Design, happens}
 use Rattle.crash.specs.Events.{Event, format, write_back, call, recover, fails, fails_in_drain, fails_after_drain, fails_in_recovery}
 use Rattle.crash.specs.Events.{Reply, answered, recovered, failed, ignored}
 use Rattle.crash.specs.History.{Holder, History, unset, opened, fed, page_at, visible, words_below, least_floor_of, after_drain, is_some}
 use Rattle.crash.specs.History.{causes_by, slots_by, taken_answer}
+use Rattle.record.specs.Record.{Lock}
 
 -- ---- the lock: its lane, timestamp, how many writes are not yet made, and whether the next part is logged
 pub record Progress : Type 0 where
@@ -32,12 +28,12 @@ pub record Progress : Type 0 where
 
 -- of the record, and of the history
 unfoldable pub lock_state : Lock → Option Progress
-lock_state Free = none
-lock_state (Held k) = some (record { lane = k.lane; stamp = k.stamp; left = k.count - k.written; ready = ltb k.written k.logged })
+lock_state None = None
+lock_state (Some k) = Some (record { lane = k.lane; stamp = k.stamp; left = k.count - k.written; ready = ltb k.written k.logged })
 
 unfoldable pub holder_state : Option Holder → Option Progress
-holder_state none = none
-holder_state (some k) = some (record { lane = k.lane; stamp = k.stamp; left = k.left; ready = k.ready })
+holder_state None = None
+holder_state (Some k) = Some (record { lane = k.lane; stamp = k.stamp; left = k.left; ready = k.ready })
 
 -- ---- a running store
 pub record Live (z : Sizes) (h : History) (m : Machine) : Type 0 where
@@ -119,9 +115,9 @@ recovery_answer z lag limit cells =
     (Refused 16)
 
 -- a boundary is at least the least floor, and there is one only if some lane has a floor
-pub data NotBelow : (floor boundary : Timestamp) → Type 0 where
-  no_boundary : {f : Timestamp} → NotBelow f None
-  at_least : {f b : ℕ} → f ≤ b → NotBelow (At f) (At b)
+pub data NotBelow : (floor boundary : Option ℕ) → Type 0 where
+  no_boundary : {f : Option ℕ} → NotBelow f None
+  at_least : {f b : ℕ} → f ≤ b → NotBelow (Some f) (Some b)
 
 -- a finished recovery, of the history before it and the cut cells
 pub record Recovers (z : Sizes) (h : History) (found : List ℕ) (m : Machine) : Type 0 where

@@ -1,44 +1,28 @@
-// Whole stretches of words and of flag bytes: copied, set to 0. One plain loop each, so that it compiles to vector
-// moves or to memset, but for the one that stores words whole.
+// Whole stretches of words: copied, or set to 0 word by word.
 ghost use Rattle.std.specs.Prelude.{◌≡◌, length, replicate};
 
-// The words of one stretch stored to another.
+// The words of one stretch stored to another. `copy_from_slice` serves where the length is known to the compiler, which
+// then writes moves; for any other it calls `memmove`, and include/vandzulge.h says that the library calls only
+// `memcpy` and `memset`. This loop compiles to vector moves. Kept by index: of a slice that a zip of `iter_mut` went over,
+// a proof knows only the length afterwards.
 pub fn copy_words(from: &[u64], to: &mut [u64])
     requires { length to.old ≡ length from.now }
     ensures { to.new ≡ from.now }
 {
-    for i in 0..to.len() {
-        to[i] = from[i];
-    }
-}
-
-// A stretch of words set to 0.
-pub fn clear_words(words: &mut [u64])
-    ensures { words.new ≡ replicate (length words.old) 0 }
-{
-    for i in 0..words.len() {
-        words[i] = 0;
+    for (i, word) in to.iter_mut().enumerate() {
+        *word = from[i];
     }
 }
 
 // A stretch of words set to 0 in rising order, each by a store of its own, and none where the word is 0 already: with
-// that test the compiler cannot make a memset of the loop, which may store single bytes. For non-volatile memory, where
-// power may fail in between: a word of which some bytes are 0 is neither the old one nor 0.
+// that test the compiler cannot make a `memset` of the loop, which may store single bytes, as it does of `fill`. For
+// non-volatile memory, where power may fail in between: a word of which some bytes are 0 is neither the old one nor 0.
 pub fn clear_whole_words(words: &mut [u64])
     ensures { words.new ≡ replicate (length words.old) 0 }
 {
-    for i in 0..words.len() {
-        if words[i] != 0 {
-            words[i] = 0;
+    for word in words.iter_mut() {
+        if *word != 0 {
+            *word = 0;
         }
-    }
-}
-
-// A stretch of flag bytes set to 0: no lane has flushed a word of it.
-pub fn clear_flags(flags: &mut [u8])
-    ensures { flags.new ≡ replicate (length flags.old) 0 }
-{
-    for i in 0..flags.len() {
-        flags[i] = 0;
     }
 }

@@ -1,13 +1,15 @@
 // Flush masks, a bit a lane in the flag byte of each word, and the copying of words from cache to non-volatile memory:
 // write-back and drain.
-ghost use Rattle.std.specs.Prelude.{◌≡◌, ℕ, ◌+◌, ◌^◌, ◌<◌, ◌≤◌, length, get_or, set};
+ghost use Rattle.std.specs.Prelude.{◌≡◌, ℕ, ◌+◌, ◌^◌, ◌<◌, ◌≤◌, length, get_or, set, bit_or};
+ghost use Rattle.std.specs.List.{fold};
 ghost use Rattle.image.specs.Image.{max_lanes};
 ghost use Rattle.image.specs.Flush.{flushed, flush, unflush, written_back, drained_nvm, drained_flags};
-ghost use Rattle.image.specs.inner.DrainLaws.{or_of, DrainedOn};
+ghost use Rattle.image.specs.inner.DrainLaws.{IsDrained};
 
 use crate::MAX_LANES;
 
-// The flag values of lanes 0 to 7: entry L is 2 to the power L.
+// The flag values of lanes 0 to 7: entry L is 2 to the power L. They are asked to come from a
+// table (docs/TRACEABILITY.md), whose law, `MaskLaws.power_at`, is computed of this one: so no shift stands here.
 const MASKS: [u8; MAX_LANES] = [1, 2, 4, 8, 16, 32, 64, 128];
 
 // How many flag bytes one test of a drain looks at.
@@ -18,7 +20,8 @@ const RUN: usize = 16;
 
 // A lane's flag value: its bit alone. Nothing else reads the table. A lookup writes the table to the stack first, so it
 // is made once, before a loop over flag bytes. The functions below take its result as `mask`, and promise what they do
-// for the lane that has this mask.
+// for the lane that has this mask. `set_flush` may be called with any byte, so the mask is a byte and no type of its own. Nor is a
+// lane, for the reason in `codec::read`.
 pub fn lane_mask(lane: usize) -> u8
     requires { lane < max_lanes }
     ensures { result ≡ 2 ^ lane }
@@ -57,6 +60,7 @@ pub fn set_flush(flags: &mut [u8], at: usize, mask: u8)
 }
 
 // The copy of one word to non-volatile memory.
+#[tactic(auto, unfolding(crate::specs::Flush::written_back))]
 pub fn write_back(cache: &[u64], nvm: &mut [u64], word: usize)
     requires word_in_bounds { word < length cache.now }
     requires word_in_bounds_2 { word < length nvm.old }
@@ -65,54 +69,70 @@ pub fn write_back(cache: &[u64], nvm: &mut [u64], word: usize)
     nvm[word] = cache[word];
 }
 
-// The flag bytes of `len` words from `from` on, or-ed together: a lane's bit is clear in the result only where the lane
-// has flushed none of these words. At a call with a constant `len` it is inlined, and compiles to vector code.
-fn any_of(flags: &[u8], from: usize, len: usize) -> u8
-    requires { from + len ≤ length flags.now }
-    ensures { result ≡ or_of flags.now from len }
+// The flag bytes of some words, or-ed together: a lane's bit is clear in the result only where the lane has flushed none
+// of these words. At a call with a constant number of them it is inlined, and compiles to vector code.
+fn any_of(flags: &[u8]) -> u8
+    ensures { result ≡ fold bit_or 0 flags.now }
 {
-    let mut any = 0;
-    for i in 0..len {
-        any = any | flags[from + i];
-    }
-    any
+    flags.iter().fold(0, |any, flag| any | *flag)
 }
 
-// A drain that is done below `from` goes on to `to`, a flag byte at a time.
-fn drain_each(mask: u8, cache: &[u64], nvm: &mut [u64], flags: &mut [u8], from: usize, to: usize)
-    requires from_le_to { from ≤ to }
-    requires to_in_bounds { to ≤ length cache.now }
-    requires nvm_len { length nvm.old ≡ length cache.now }
-    requires flags_len { length flags.old ≡ length cache.now }
-    ensures { DrainedOn mask cache.now from nvm.old flags.old
-        to nvm.new flags.new }
-{
-    for i in from..to {
-        let flag = flags[i];
-        if is_flushed(flag, mask) {
-            write_back(cache, nvm, i);
-            flags[i] = without_flush(flag, mask);
+// A way to drain some words by the lane of a mask. Kept as three slices and two clauses on their lengths, as C lends them
+// (the C interface).
+trait Way {
+    fn drain(mask: u8, cache: &[u64], nvm: &mut [u64], flags: &mut [u8])
+        requires nvm_len { length nvm.old ≡ length cache.now }
+        requires flags_len { length flags.old ≡ length cache.now }
+        ensures { IsDrained mask cache.now nvm.old flags.old nvm.new flags.new };
+}
+
+// A flag byte at a time.
+struct Each;
+
+impl Way for Each {
+    fn drain(mask: u8, cache: &[u64], nvm: &mut [u64], flags: &mut [u8]) {
+        for (i, flag) in flags.iter_mut().enumerate() {
+            if is_flushed(*flag, mask) {
+                write_back(cache, nvm, i);
+                *flag = without_flush(*flag, mask);
+            }
         }
     }
 }
 
-// The same, with one test for a run of words: of those that the lane has not flushed, most are passed over in runs.
-fn drain_runs(mask: u8, cache: &[u64], nvm: &mut [u64], flags: &mut [u8], from: usize, to: usize)
-    requires from_le_to { from ≤ to }
-    requires to_in_bounds { to ≤ length cache.now }
+// With one test for a run of words: of those that the lane has not flushed, most are passed over in runs.
+struct Runs;
+
+impl Way for Runs {
+    fn drain(mask: u8, cache: &[u64], nvm: &mut [u64], flags: &mut [u8]) {
+        drain_by::<RUN, Each>(mask, cache, nvm, flags);
+    }
+}
+
+// With one test for N words, which are drained in this way only where the lane has flushed one of them. So are the last
+// ones, fewer than N. The parts are taken by index: of slices that `chunks_mut` or a zip of `iter_mut` went over, a proof
+// knows only their lengths afterwards.
+fn drain_by<const N: usize, W: Way>(mask: u8, cache: &[u64], nvm: &mut [u64], flags: &mut [u8])
+    requires some { 0 < N }
     requires nvm_len { length nvm.old ≡ length cache.now }
     requires flags_len { length flags.old ≡ length cache.now }
-    ensures { DrainedOn mask cache.now from nvm.old flags.old
-        to nvm.new flags.new }
+    ensures { IsDrained mask cache.now nvm.old flags.old nvm.new flags.new }
 {
-    let mut at = from;
-    while to - at >= RUN {
-        if is_flushed(any_of(flags, at, RUN), mask) {
-            drain_each(mask, cache, nvm, flags, at, at + RUN);
+    let blocks = cache.len() / N;
+    for block in 0..blocks {
+        let at = N * block;
+        let end = at + N;
+        if is_flushed(any_of(&flags[at..end]), mask) {
+            W::drain(
+                mask,
+                &cache[at..end],
+                &mut nvm[at..end],
+                &mut flags[at..end],
+            );
         }
-        at = at + RUN;
     }
-    drain_each(mask, cache, nvm, flags, at, to);
+    let at = N * blocks;
+    W::drain(mask, &cache[at..], &mut nvm[at..], &mut flags[at..]);
 }
 
 // Copies each word that the lane has flushed to non-volatile memory and clears the lane's bit there; writes no other
@@ -126,14 +146,5 @@ pub fn drain(lane: usize, cache: &[u64], nvm: &mut [u64], flags: &mut [u8])
         ≡ drained_nvm lane flags.old cache.now nvm.old }
     ensures cleared { flags.new ≡ drained_flags lane flags.old }
 {
-    let mask = lane_mask(lane);
-    let words = cache.len();
-    let mut at = 0;
-    while words - at >= BLOCK {
-        if is_flushed(any_of(flags, at, BLOCK), mask) {
-            drain_runs(mask, cache, nvm, flags, at, at + BLOCK);
-        }
-        at = at + BLOCK;
-    }
-    drain_runs(mask, cache, nvm, flags, at, words);
+    drain_by::<BLOCK, Runs>(lane_mask(lane), cache, nvm, flags);
 }

@@ -1,17 +1,16 @@
 -- What programs `inspect` and `inspect_read` print: the listing of an image, which says what stands in it and what recovery would undo, and then the report
 -- of its recovery. SPECIFICATION, "Programs `inspect` and `inspect_read`". Assumes nothing.
-use Rattle.std.specs.Prelude.{ℕ, zero, suc, ◌+◌, ◌*◌, ◌≤◌, cond, List, [], ◌∷◌, ◌++◌, ◌≡◌, leb, eqb, length, get_or}
+use Rattle.std.specs.Prelude.{ℕ, zero, suc, ◌+◌, ◌*◌, ◌≤◌, cond, List, [], ◌∷◌, ◌++◌, ◌≡◌, leb, eqb, length, get_or, Option, Some, None}
 use Rattle.slot.specs.declared.Content.{Content}
 use Rattle.slot.specs.declared.Content.TheVariants.{Empty, Torn, Entry, Stamp}
 use Rattle.image.specs.Image.{max_lanes, max_slots, base_of, log_of}
 use Rattle.image.specs.declared.Sizes.{Sizes}
 use Rattle.lane_log.specs.Log.{Complete, slot_at, complete_in, latest_in}
-use Rattle.lane_log.specs.declared.Latest.{Latest}
-use Rattle.lane_log.specs.declared.Latest.TheVariants.{Nothing, Is}
 use Rattle.recovery.specs.Recovery.{undone, told}
 use Rattle.report.specs.Report.{sizes_in, image_in, longest, input_refusal, recovered_from, report_of}
 use Rattle.report.specs.Report.{max_digits, decimal, space, newline, none_text, room}
 use Rattle.report.specs.declared.SizesAt.{SizesAt}
+use Rattle.lane_log.specs.declared.Sequence.{Sequence}
 
 -- ---- texts, in ASCII
 -- `base`
@@ -89,9 +88,9 @@ sequence_lines name [] = []
 sequence_lines name (q ∷ qs) = sequence_line name q ++ sequence_lines name qs
 
 -- the newest one of lane L, with the same numbers, or `none`
-unfoldable pub newest_line : (L : ℕ) → Latest → List ℕ
-newest_line L Nothing = named newest_text (L ∷ []) ++ (space ++ none_text ++ newline)
-newest_line L (Is q) = line_of newest_text (L ∷ q.slot ∷ q.count ∷ q.stamp ∷ [])
+unfoldable pub newest_line : (L : ℕ) → Option Sequence → List ℕ
+newest_line L None = named newest_text (L ∷ []) ++ (space ++ none_text ++ newline)
+newest_line L (Some q) = line_of newest_text (L ∷ q.slot ∷ q.count ∷ q.stamp ∷ [])
 
 -- all of lane L: its slots, its complete sequences by rising slot, its newest one
 unfoldable pub lane_text : Sizes → (image : List ℕ) → (L : ℕ) → List ℕ

@@ -2,17 +2,16 @@
 // listing.rt, and then the report of its recovery. At the end, the same from a reader to a writer.
 #![tactic(auto)]
 
-ghost use Rattle.std.specs.Prelude.{◌≡◌, ◌≤◌, length, take, drop, IfOk, IfSome, OnOk, OnErr};
+ghost use Rattle.std.specs.Prelude.{◌≡◌, ◌+◌, ◌≤◌, [], length, take, drop, IfOk, IfSome, OnOk, OnErr};
 ghost use Rattle.std.specs.Io.KnownBytes.{Appends};
 ghost use Rattle.io.specs.Counts.{IsPrefixLen};
 ghost use Rattle.streams.specs.Streams.{AppendsPart};
-ghost use Rattle.image.specs.inner.Facts.{IsImage};
 ghost use Rattle.report.specs.Report.{input_refusal};
 ghost use Rattle.report.specs.inner.ReportFacts.{image_words, Blanks, Put};
-ghost use Rattle.inspection.specs.Inspection.{listing as listing_of, listed, listing_room, inspection_room};
+ghost use Rattle.inspection.specs.Inspection.{listed, listing_room, inspection_room};
 ghost use Rattle.inspection.specs.Inspection.{inspection_of, inspected_of, Inspected};
 
-use image::Sizes;
+use report::page::Page;
 use report::{SizesAt, reading};
 use std::io::{Read, Result, Write};
 
@@ -21,98 +20,98 @@ mod listing;
 // No inspection is longer.
 const ROOM: usize = listing::LISTING_ROOM + report::ROOM;
 
-// The listing of an image, whatever it holds.
-fn list_image(sizes: Sizes, nvm: &[u64], output: &mut [u8]) -> usize
-    requires image { IsImage sizes nvm.now }
-    requires listing_room_in_bounds { listing_room ≤ length output.old }
-    ensures few { result ≤ listing_room }
-    ensures printed { Put 0 (listing_of sizes nvm.now) output.old result output.new }
-{
-    let mut order = [0u64; listing::ORDER];
-    listing::put_listing(output, sizes, nvm, &mut order)
-}
-
-// Lists the image after W, T and N, unless recovery of it is refused.
-fn list_given(
-    input: &[u8],
-    cache: &[u64],
-    nvm: &mut [u64],
-    flags: &[u8],
-    output: &mut [u8],
-) -> usize
+// Lists the image after W, T and N, unless recovery of it is refused. Kept beside `list_told`, as in `report::SizesAt`.
+// Kept as clauses, here and below: that the input is not refused at its place, and that the page has room. A struct of
+// place and input with the fact would be made once and taken apart in each of them: no plainer.
+fn list_given(page: &mut Page<ROOM>, input: &[u8], cache: &[u64], nvm: &mut [u64], flags: &[u8])
     requires input_value { input_refusal SizesAt.Start input.now ≡ 0 }
     requires blanks { Blanks (image_words SizesAt.Start input.now) cache.now nvm.old flags.now }
-    requires listing_room_in_bounds { listing_room ≤ length output.old }
-    ensures few { result ≤ listing_room }
-    ensures printed { Put 0 (listed SizesAt.Start input.now) output.old result
-        output.new }
+    requires listing_room_in_bounds { length page.old + listing_room ≤ inspection_room }
+    ensures few { length page.new ≤ length page.old + listing_room }
+    ensures printed { Put page.old (listed SizesAt.Start input.now) page.new }
 {
     let sizes = reading::sizes_in(input);
     reading::decode(input, 3, nvm);
-    if restart::recover_refusal(sizes, record::MAX_LAG, cache, nvm, flags) != 0 {
-        return 0;
+    if let Ok(()) = restart::recover_refusal(sizes, record::MAX_LAG, cache, nvm, flags) {
+        listing::put_image(page, sizes, nvm);
     }
-    list_image(sizes, nvm, output)
 }
 
 // The same of an image alone.
-fn list_told(input: &[u8], cache: &[u64], nvm: &mut [u64], flags: &[u8], output: &mut [u8]) -> usize
+fn list_told(page: &mut Page<ROOM>, input: &[u8], cache: &[u64], nvm: &mut [u64], flags: &[u8])
     requires input_value { input_refusal SizesAt.End input.now ≡ 0 }
     requires blanks { Blanks (image_words SizesAt.End input.now) cache.now nvm.old flags.now }
-    requires listing_room_in_bounds { listing_room ≤ length output.old }
-    ensures few { result ≤ listing_room }
-    ensures printed { Put 0 (listed SizesAt.End input.now) output.old result
-        output.new }
+    requires listing_room_in_bounds { length page.old + listing_room ≤ inspection_room }
+    ensures few { length page.new ≤ length page.old + listing_room }
+    ensures printed { Put page.old (listed SizesAt.End input.now) page.new }
 {
     reading::decode(input, 0, nvm);
-    if restart::recover_read_refusal(record::MAX_LAG, cache, nvm, flags) != 0 {
-        return 0;
+    if let Ok(()) = restart::recover_read_refusal(record::MAX_LAG, cache, nvm, flags) {
+        listing::put_image(page, image::sizes_at_end(nvm), nvm);
     }
-    list_image(image::sizes_at_end(nvm), nvm, output)
 }
 
-// Either.
+// That of the two that the place asks for.
 fn list_in(
+    page: &mut Page<ROOM>,
     place: SizesAt,
     input: &[u8],
     cache: &[u64],
     nvm: &mut [u64],
     flags: &[u8],
-    output: &mut [u8],
-) -> usize
+)
     requires input_value { input_refusal place input.now ≡ 0 }
     requires blanks { Blanks (image_words place input.now) cache.now nvm.old flags.now }
-    requires listing_room_in_bounds { listing_room ≤ length output.old }
-    ensures few { result ≤ listing_room }
-    ensures printed { Put 0 (listed place input.now) output.old result output.new }
+    requires listing_room_in_bounds { length page.old + listing_room ≤ inspection_room }
+    ensures few { length page.new ≤ length page.old + listing_room }
+    ensures printed { Put page.old (listed place input.now) page.new }
 {
     match place {
-        SizesAt::Start => list_given(input, cache, nvm, flags, output),
-        SizesAt::End => list_told(input, cache, nvm, flags, output),
+        SizesAt::Start => list_given(page, input, cache, nvm, flags),
+        SizesAt::End => list_told(page, input, cache, nvm, flags),
     }
 }
 
-// Lists the image of an input, unless the input or recovery is refused.
-fn list(place: SizesAt, input: &[u8], output: &mut [u8]) -> usize
-    requires { listing_room ≤ length output.old }
-    ensures few { result ≤ listing_room }
-    ensures printed { Put 0 (listed place input.now) output.old result output.new }
+// Lists the image of an input that is not refused, unless recovery is.
+fn list_taken(page: &mut Page<ROOM>, place: SizesAt, input: &[u8])
+    requires input_value { input_refusal place input.now ≡ 0 }
+    requires listing_room_in_bounds { length page.old + listing_room ≤ inspection_room }
+    ensures few { length page.new ≤ length page.old + listing_room }
+    ensures printed { Put page.old (listed place input.now) page.new }
 {
-    if reading::refusal(place, input) != 0 {
-        return 0;
-    }
     let length = reading::image_words(place, input);
     let cache = report::blank_words();
     let mut nvm = report::blank_words();
     let flags = report::blank_flags();
     list_in(
+        page,
         place,
         input,
         &cache[..length],
         &mut nvm[..length],
         &flags[..length],
-        output,
-    )
+    );
+}
+
+// Lists the image of an input, unless the input or recovery is refused.
+fn list(page: &mut Page<ROOM>, place: SizesAt, input: &[u8])
+    requires { length page.old + listing_room ≤ inspection_room }
+    ensures few { length page.new ≤ length page.old + listing_room }
+    ensures printed { Put page.old (listed place input.now) page.new }
+{
+    if let Ok(()) = reading::refusal(place, input) {
+        list_taken(page, place, input);
+    }
+}
+
+// The listing of an input and then its report, on a new page.
+fn put_inspection(page: &mut Page<ROOM>, place: SizesAt, input: &[u8])
+    requires { page.old ≡ [] }
+    ensures { page.new ≡ inspection_of place input.now }
+{
+    list(page, place, input);
+    let report = report::printed(place, input);
+    page.put(report.as_bytes());
 }
 
 // Prints the inspection of an input at the start of `output`, and answers how many bytes it has. The bytes after it
@@ -126,14 +125,9 @@ pub fn inspect(place: SizesAt, input: &[u8], output: &mut [u8]) -> usize
     if output.len() < ROOM {
         return 0;
     }
-    let at = list(place, input, output);
-    at + report::report(place, input, &mut output[at..])
-}
-
-fn output_buffer() -> [u8; ROOM]
-    ensures { inspection_room ≡ length result }
-{
-    [0; ROOM]
+    let mut page = Page::new();
+    put_inspection(&mut page, place, input);
+    page.copy_to(output)
 }
 
 // Reads an input to its end, but no more than tells whether it is too long, and writes its inspection; answers how many
@@ -156,8 +150,9 @@ pub fn inspect_input<R: Read, W: Write>(
     let mut input = report::input_buffer();
     let most = report::taken(place);
     let count = streams::read_full(reader, &mut input[..most])?;
-    let mut output = output_buffer();
-    let length = inspect(place, &input[..count], &mut output);
-    streams::write_all(writer, &output[..length])?;
-    Ok(length)
+    let mut page = Page::new();
+    put_inspection(&mut page, place, &input[..count]);
+    let text = page.as_bytes();
+    streams::write_all(writer, text)?;
+    Ok(text.len())
 }

@@ -1,2 +1,3 @@
 pub mod HigherLaws
+pub mod Ranges
 pub mod SearchLaws

@@ -2,7 +2,8 @@
 -- greatest timestamp and by every slot, and hits. Assumes nothing.
 use Prim.Native.Nat.{ℕ, zero, suc, ◌+◌, ◌-◌, ◌*◌, ◌/◌, ◌%◌, ◌≤◌, ◌<◌}
 use Rattle.std.proofs.Math.Path.{◌≡◌, refl, sym, ap, ap₂}
-use Rattle.std.proofs.Common.{subst, ◌∙◌, eq-or-lt_of_le, add-one}
+use Rattle.std.proofs.Common.{subst, ◌∙◌, eq-or-lt_of_le, add-one, Option, Some, None}
+use Rattle.std.specs.List.{fold, list_all, list_any, range_with_len}
 use Rattle.std.specs.Prelude.{Bool, cond, not, ◌&&◌, List, [], ◌∷◌, ◌⊎◌, ◌≢◌, ltb}
 use Rattle.std.proofs.Math.Bool.{true, false, ◌||◌, and-true, and-false, or-true, or-false}
 use Rattle.std.proofs.Math.Logic.{⊎_elim, inl, inr}
@@ -17,21 +18,18 @@ use Rattle.laws.specs.inner.Members.{In, here, in-cases, In-left, In-right, In-a
 use Rattle.slot.specs.Slot.{tag, max_entries, stamp_of}
 use Rattle.slot.specs.declared.Content.{Content}
 use Rattle.slot.specs.declared.Content.TheVariants.{Empty, Torn, Entry, Stamp}
-use Rattle.lane_log.specs.declared.Timestamp.{Timestamp}
-use Rattle.lane_log.specs.declared.Timestamp.TheVariants.{None, At}
 use Rattle.lane_log.specs.declared.Sequence.{Sequence}
-use Rattle.lane_log.specs.declared.Latest.{Latest}
-use Rattle.lane_log.specs.declared.Latest.TheVariants.{Nothing, Is}
 use Rattle.lane_log.specs.declared.search.Candidate.{Candidate}
 use Rattle.lane_log.specs.Log.{slot_at, Complete, entries_back, closes, complete_below, top_wrap, after_wrap, ordered}
 use Rattle.lane_log.specs.Log.{sequence_of, first_of, latest, ahead, overlaps, hits_from, hits}
-use Rattle.lane_log.specs.inner.LogLaws.{stamp-in, back-bad, closes-low, closes-short, closes-all, hits-append, overlaps-ahead, back-le}
+use Rattle.lane_log.proofs.Ranges.{all-pass, all-fails, any-not, any-which, fold-below, fold-on}
+use Rattle.lane_log.specs.inner.LogLaws.{stamp-in, back_none, back_more, back_whole, back-bad, closes-low, closes-short, closes-all, hits-append, overlaps-ahead, back-le}
 use Rattle.lane_log.specs.inner.OrderLaws.{Before, stamp, wrap, slot, Rising, rising-one, below-rising, Top, absent, is, top, side_before}
 use Rattle.lane_log.specs.inner.OrderLaws.{side_after}
 use Rattle.lane_log.specs.inner.LatestLaws.{is_one, latest-first}
 use Rattle.lane_log.specs.Append.{circular}
-use Rattle.lane_log.specs.inner.Search.{entry_back, whole_back, closed_at, hit_at, stamp_from, stamp_high, half_at, higher, candidate_over, group, any_high}
-use Rattle.lane_log.specs.inner.Search.{candidate_below, candidate_closed, rival, rival_over, greater, greatest_below, lap_over, lapped_below}
+use Rattle.lane_log.specs.inner.Search.{entry_back, whole_back, closed_at, hit_at, stamp_from, stamp_high, half_at, higher, group, any_high, SkipsLow}
+use Rattle.lane_log.specs.inner.Search.{candidate_below, candidate_closed, rival, rival_below, greater, greatest_below, lap_over, lapped_below, Laps, NoLap}
 
 -- ---- the sequence that a slot closes
 -- does a slot hold a whole timestamp
@@ -60,15 +58,6 @@ not-high W log j h = by (slot_at W log j) refl
     by (Entry i v p) e = refl
     by (Stamp n s p) e = let f = (stamp-in W log j n s p e).address in absurd (omega (arith, leb-false (8 * tag) (get_or log (2 * j) 0) h))
 
--- as the tests of a word after it tell
-pub not-from : (log : List ℕ) (j b : ℕ) → stamp_high log j ≡ false → false ≡ stamp_from log j b
-unfolding stamp_from
-not-from log j b h = rw h
-
-pub from-value : (log : List ℕ) (j b : ℕ) → stamp_high log j ≡ true → leb b (get_or log (2 * j + 1) 0) ≡ stamp_from log j b
-unfolding stamp_from
-from-value log j b h = rw h
-
 -- the entries before it, by the first bad one
 module _ (W N : ℕ) (log : List ℕ) (j p : ℕ) where
   pub whole-bad : (i n : ℕ) → i < n → entry_back W N log j p (i + 1) ≡ false → false ≡ whole_back W N log j p n
@@ -84,8 +73,27 @@ module _ (W N : ℕ) (log : List ℕ) (j p : ℕ) where
   unfolding whole_back
   all_whole n h = eqb-true (length (entries_back W N log j p n)) n h
 
+  -- asked of each in turn
+  pub whole-range : (n : ℕ) → list_all (λ i. entry_back W N log j p (i + 1)) (range_with_len 0 n) ≡ whole_back W N log j p n
+  whole-range n = by (each n)
+    where
+      -- the first bad one, or none
+      each : (n : ℕ) → ((i : ℕ) × (i < n) × (entry_back W N log j p (i + 1) ≡ false)) ⊎ (length (entries_back W N log j p n) ≡ n)
+      each zero = inr (back_none W N log j p)
+      each (suc n) = ⊎_elim (λ d. inl (d.0, omega arith, d.2))
+          (λ e. split (entry_back W N log j p (n + 1)) (λ t. inr (let s : n + 1 ≡ suc n = omega arith in rw s at (back_more W N log j p n e t))) (λ t. inl (n, omega arith, t)))
+          (each n)
+
+      by : ((i : ℕ) × (i < n) × (entry_back W N log j p (i + 1) ≡ false)) ⊎ (length (entries_back W N log j p n) ≡ n)
+          → list_all (λ i. entry_back W N log j p (i + 1)) (range_with_len 0 n) ≡ whole_back W N log j p n
+      by (inl d) = all-fails (λ i. entry_back W N log j p (i + 1)) 0 n d.0 d.1 (ap (entry_back W N log j p) (let e : 0 + d.0 + 1 ≡ d.0 + 1 = omega arith in e) ∙ d.2)
+          ∙ whole-bad d.0 n d.1 d.2
+      by (inr e) = all-pass (λ i. entry_back W N log j p (i + 1)) 0 n
+          (λ i l. ap (entry_back W N log j p) (let f : 0 + i + 1 ≡ i + 1 = omega arith in f) ∙ back_whole W N log j p i n e l)
+          ∙ whole-all n e
+
 module _ (W N base : ℕ) (log : List ℕ) (j : ℕ) where
-  pub closed-other : (c : Content) → c ≡ slot_at W log j → is_stamp c ≡ false → Nothing ≡ closed_at W N base log j
+  pub closed-other : (c : Content) → c ≡ slot_at W log j → is_stamp c ≡ false → None ≡ closed_at W N base log j
   unfolding closed_at is_stamp closes first_of
   closed-other Empty e h = rw (sym e)
   closed-other Torn e h = rw (sym e)
@@ -93,20 +101,20 @@ module _ (W N base : ℕ) (log : List ℕ) (j : ℕ) where
   closed-other (Stamp n s p) e h = absurd (let z : ◌≡◌ {A = ℕ} 0 1 = cc in omega arith)
 
   module _ {c : Content} {n s p : ℕ} (r : c ≡ slot_at W log j) (e : c ≡ Stamp n s p) where
-    pub closed-low : s ≤ base → Nothing ≡ closed_at W N base log j
+    pub closed-low : s ≤ base → None ≡ closed_at W N base log j
     unfolding closed_at first_of
     closed-low h = rw (closes-low W N base log 0 j (sym r ∙ e) h)
 
-    pub closed-short : whole_back W N log j p n ≡ false → Nothing ≡ closed_at W N base log j
+    pub closed-short : whole_back W N log j p n ≡ false → None ≡ closed_at W N base log j
     unfolding closed_at whole_back first_of
     closed-short h =
         let less : length (entries_back W N log j p n) < n = omega (arith, back-le W N log j p n, eqb-false (length (entries_back W N log j p n)) n h) in
         rw (closes-short W N base log 0 j (sym r ∙ e) less)
 
-    pub closed-bad : (i : ℕ) → i < n → entry_back W N log j p (i + 1) ≡ false → Nothing ≡ closed_at W N base log j
+    pub closed-bad : (i : ℕ) → i < n → entry_back W N log j p (i + 1) ≡ false → None ≡ closed_at W N base log j
     closed-bad i h g = closed-short (sym (whole-bad W N log j p i n h g))
 
-    pub closed-whole : base < s → length (entries_back W N log j p n) ≡ n → Is (record { stamp = s; count = n; slot = j }) ≡ closed_at W N base log j
+    pub closed-whole : base < s → length (entries_back W N log j p n) ≡ n → Some (record { stamp = s; count = n; slot = j }) ≡ closed_at W N base log j
     unfolding closed_at first_of sequence_of
     closed-whole h g = rw (closes-all W N base log 0 j (sym r ∙ e) h g, g)
 
@@ -119,15 +127,15 @@ pub record Closed (W N base : ℕ) (log : List ℕ) (j : ℕ) (q : Sequence) : T
   pub reads : slot_at W log j ≡ Stamp q.count q.stamp wrap
   pub whole : length (entries_back W N log j wrap q.count) ≡ q.count
 
-never : {A : Type 0} {q : Sequence} → Nothing ≡ Is q → A
+never : {A T : Type 0} {q : T} → None ≡ Some q → A
 never e = absurd (let z : ◌≡◌ {A = ℕ} 0 1 = cc in omega arith)
 
-pub closed-from : (W N base : ℕ) (log : List ℕ) (j : ℕ) (q : Sequence) → closed_at W N base log j ≡ Is q → Closed W N base log j q
+pub closed-from : (W N base : ℕ) (log : List ℕ) (j : ℕ) (q : Sequence) → closed_at W N base log j ≡ Some q → Closed W N base log j q
 unfolding closed_at closes first_of sequence_of
 closed-from W N base log j q e = by (slot_at W log j) refl e
   where
     whole : (n s p : ℕ) → slot_at W log j ≡ Stamp n s p → (b : Bool) → (ltb base s && eqb (length (entries_back W N log j p n)) n) ≡ b
-        → first_of (cond b (record { stamp = s; lane = 0; slot = j; wrap = p; entries = entries_back W N log j p n } ∷ []) []) ≡ Is q → Closed W N base log j q
+        → first_of (cond b (record { stamp = s; lane = 0; slot = j; wrap = p; entries = entries_back W N log j p n } ∷ []) []) ≡ Some q → Closed W N base log j q
     whole n s p r false h g = never g
     whole n s p r true h g =
         let l : length (entries_back W N log j p n) ≡ n = eqb-true _ _ (and_right (ltb base s) _ h) in
@@ -144,18 +152,21 @@ closed-from W N base log j q e = by (slot_at W log j) refl e
           whole = rw (← m) l;
         }
 
-    by : (c : Content) → slot_at W log j ≡ c → first_of (closes W N base log 0 j c) ≡ Is q → Closed W N base log j q
+    by : (c : Content) → slot_at W log j ≡ c → first_of (closes W N base log 0 j c) ≡ Some q → Closed W N base log j q
     by Empty r g = never g
     by Torn r g = never g
     by (Entry i v p) r g = never g
     by (Stamp n s p) r g = whole n s p r (ltb base s && eqb (length (entries_back W N log j p n)) n) refl g
 
+same : {T : Type 0} {a b : T} → Some a ≡ Some b → a ≡ b
+same e = cc
+
 -- the same as a list
-pub closes-none : (W N base : ℕ) (log : List ℕ) (L j : ℕ) → closed_at W N base log j ≡ Nothing → closes W N base log L j (slot_at W log j) ≡ []
+pub closes-none : (W N base : ℕ) (log : List ℕ) (L j : ℕ) → closed_at W N base log j ≡ None → closes W N base log L j (slot_at W log j) ≡ []
 unfolding closed_at closes first_of
 closes-none W N base log L j e = by (slot_at W log j) e
   where
-    by : (c : Content) → first_of (closes W N base log 0 j c) ≡ Nothing → closes W N base log L j c ≡ []
+    by : (c : Content) → first_of (closes W N base log 0 j c) ≡ None → closes W N base log L j c ≡ []
     by Empty e = refl
     by Torn e = refl
     by (Entry i v p) e = refl
@@ -183,7 +194,7 @@ pub record FromSlot (W N base : ℕ) (log : List ℕ) (L k : ℕ) (q : Complete)
   pub at : ℕ
   pub low : at < k
   pub by : Sequence
-  pub is : closed_at W N base log at ≡ Is by
+  pub is : closed_at W N base log at ≡ Some by
   pub closed : Closed W N base log at by
   pub same : q ≡ closed_as W N base log L at by closed
 
@@ -202,9 +213,9 @@ module _ (W N base : ℕ) (log : List ℕ) (L : ℕ) where
   from_one : (j : ℕ) (q : Complete) → In q (closes W N base log L j (slot_at W log j)) → FromSlot W N base log L (suc j) q
   from_one j q i = by (closed_at W N base log j) refl
     where
-      by : (x : Latest) → closed_at W N base log j ≡ x → FromSlot W N base log L (suc j) q
-      by Nothing e = let n : In q [] = rw (closes-none W N base log L j e) at i in elim n [ ]
-      by (Is s) e =
+      by : (x : Option Sequence) → closed_at W N base log j ≡ x → FromSlot W N base log L (suc j) q
+      by None e = let n : In q [] = rw (closes-none W N base log L j e) at i in elim n [ ]
+      by (Some s) e =
           let c = closed-from W N base log j s e in
           let n : In q (closed_as W N base log L j s c ∷ []) = rw (closes-one W N base log L j s c) at i in
           ⊎_elim
@@ -223,34 +234,22 @@ module _ (W N base : ℕ) (log : List ℕ) (L : ℕ) where
       (λ (d : In q (closes W N base log L k (slot_at W log k))). from_one k q d)
       (In-append (complete_below W N base log L k) i)
 
-  pub below_none : (k : ℕ) → ((i : ℕ) → i < k → closed_at W N base log i ≡ Nothing) → complete_below W N base log L k ≡ []
+  pub below_none : (k : ℕ) → ((i : ℕ) → i < k → closed_at W N base log i ≡ None) → complete_below W N base log L k ≡ []
   unfolding complete_below
   below_none zero h = refl
   below_none (suc k) h = rw (below_none k (λ i l. h i (omega arith)), closes-none W N base log L k (h k (omega arith)))
 
-pub latest-none : (W N base : ℕ) (log : List ℕ) (k : ℕ) → ((i : ℕ) → i < k → closed_at W N base log i ≡ Nothing)
-    → latest (complete_below W N base log 0 k) ≡ Nothing
+pub latest-none : (W N base : ℕ) (log : List ℕ) (k : ℕ) → ((i : ℕ) → i < k → closed_at W N base log i ≡ None)
+    → latest (complete_below W N base log 0 k) ≡ None
 unfolding latest ordered first_of
 latest-none W N base log k h = rw (below_none W N base log 0 k h)
 
 -- ---- the lap over the wrap
--- slot i closes the complete sequence r, stamped s with another wrap bit than p
-pub record Laps (W N : ℕ) (log : List ℕ) (s p i : ℕ) (r : Sequence) : Type 0 where
-  pub stamp : r.stamp ≡ s
-  pub slot : r.slot ≡ i
-  pub wrap : ℕ
-  pub other : wrap ≢ p
-  pub reads : slot_at W log i ≡ Stamp r.count s wrap
-  pub whole : length (entries_back W N log i wrap r.count) ≡ r.count
-
 -- so it is complete, where s is above the base
-pub laps-closed : (W N base : ℕ) (log : List ℕ) (s p i : ℕ) (r : Sequence) → base < s → Laps W N log s p i r → closed_at W N base log i ≡ Is r
+pub laps-closed : (W N base : ℕ) (log : List ℕ) (s p i : ℕ) (r : Sequence) → base < s → Laps W N log s p i r → closed_at W N base log i ≡ Some r
 laps-closed W N base log s p i r h l =
     sym (closed-whole W N base log i refl l.reads h l.whole)
-    ∙ ap Is (ap₂ (λ t k. record { stamp = t; count = r.count; slot = k }) (sym l.stamp) (sym l.slot))
-
-abbrev pub NoLap : (W N : ℕ) (log : List ℕ) (s p i : ℕ) → Type 0
-NoLap W N log s p i = (r : Sequence) → Laps W N log s p i r → ⊥
+    ∙ ap Some (ap₂ (λ t k. record { stamp = t; count = r.count; slot = k }) (sym l.stamp) (sym l.slot))
 
 -- what the slots below k give
 pub data LappedIs (W N : ℕ) (log : List ℕ) (s p : ℕ) (best : Sequence) (k : ℕ) (r : Sequence) : Type 0 where
@@ -344,20 +343,17 @@ module _ (W N : ℕ) (log : List ℕ) (s p : ℕ) where
           moved j (omega arith) (rw l.0 m)
           (λ i g h. ⊎_elim (λ (d : i ≡ k). rw d l.1) (λ (d : i < k). n i g d) (eq-or-lt_of_le {n = i} {m = k} (omega arith)))
 
--- as the loop goes
-pub lapped-none : (W N : ℕ) (log : List ℕ) (s p : ℕ) (best : Sequence) → best ≡ lapped_below W N log s p best 0
+-- of each slot in turn
+pub lapped-range : (W N : ℕ) (log : List ℕ) (s p : ℕ) (found : Sequence) (n : ℕ)
+    → fold (λ b k. lap_over W N log s p k (slot_at W log k) b) found (range_with_len 0 n) ≡ lapped_below W N log s p found n
 unfolding lapped_below
-lapped-none W N log s p best = refl
-
-pub lapped-more : (W N : ℕ) (log : List ℕ) (s p : ℕ) (found : Sequence) (k : ℕ) (b r : Sequence)
-    → b ≡ lapped_below W N log s p found k → r ≡ lap_over W N log s p k (slot_at W log k) b → r ≡ lapped_below W N log s p found (k + 1)
-unfolding lapped_below
-lapped-more W N log s p found k b r e h = h ∙ rw (e, add-one k)
+lapped-range W N log s p found n =
+    fold-below (λ b k. lap_over W N log s p k (slot_at W log k) b) (lapped_below W N log s p found) (λ k. rw (add-one k) refl) n
 
 -- slot j closes the highest of the greatest timestamp
-module _ (W N base : ℕ) (log : List ℕ) (j : ℕ) (low : j < N) (s : Sequence) (e : closed_at W N base log j ≡ Is s)
-    (most : (i : ℕ) → i < N → (q : Sequence) → closed_at W N base log i ≡ Is q → q.stamp ≤ s.stamp)
-    (high : (i : ℕ) → j < i → i < N → (q : Sequence) → closed_at W N base log i ≡ Is q → q.stamp < s.stamp) where
+module _ (W N base : ℕ) (log : List ℕ) (j : ℕ) (low : j < N) (s : Sequence) (e : closed_at W N base log j ≡ Some s)
+    (most : (i : ℕ) → i < N → (q : Sequence) → closed_at W N base log i ≡ Some q → q.stamp ≤ s.stamp)
+    (high : (i : ℕ) → j < i → i < N → (q : Sequence) → closed_at W N base log i ≡ Some q → q.stamp < s.stamp) where
   qs : List Complete
   qs = complete_below W N base log 0 N
 
@@ -487,34 +483,24 @@ module _ (W N base : ℕ) (log : List ℕ) (j : ℕ) (low : j < N) (s : Sequence
         (let y : q.slot < k = omega (arith, ltb-false k q.slot u, eqb-false q.slot k x) in y))))))
 
   pub latest-lapped : (p : ℕ) → slot_at W log j ≡ Stamp s.count s.stamp p
-      → latest (complete_below W N base log 0 N) ≡ Is (lapped_below W N log s.stamp p s j)
+      → latest (complete_below W N base log 0 N) ≡ Some (lapped_below W N log s.stamp p s j)
   unfolding qs mine its
   latest-lapped p o = rw (stamp-parts (sym o ∙ here-closed.reads)).2 (by (lapped-is W N log s.stamp here-closed.wrap s j))
     where
-      by : {r : Sequence} → LappedIs W N log s.stamp here-closed.wrap s j r → latest (complete_below W N base log 0 N) ≡ Is r
-      by (kept f n) = latest-first qs mine mine-in (no-laps n) ∙ ap Is (closed-as W N base log 0 j s here-closed ∙ sym f)
+      by : {r : Sequence} → LappedIs W N log s.stamp here-closed.wrap s j r → latest (complete_below W N base log 0 N) ≡ Some r
+      by (kept f n) = latest-first qs mine mine-in (no-laps n) ∙ ap Some (closed-as W N base log 0 j s here-closed ∙ sym f)
       by {r} (moved k b a n) = latest-first qs (its k b r a n) (its-in k b r a n) (its-first k b r a n)
-          ∙ ap Is (closed-as W N base log 0 k r (lapping k b r a n))
+          ∙ ap Some (closed-as W N base log 0 k r (lapping k b r a n))
 
 -- ---- the slot of the greatest timestamp
 -- a slot that closes a sequence can hold a timestamp, and has it in its value word
-pub closed-half : (W N base : ℕ) (log : List ℕ) (j : ℕ) (q : Sequence) → closed_at W N base log j ≡ Is q
+pub closed-half : (W N base : ℕ) (log : List ℕ) (j : ℕ) (q : Sequence) → closed_at W N base log j ≡ Some q
     → (stamp_high log j ≡ true) × (q.stamp ≡ 2 * half_at log j)
 unfolding stamp_high half_at stamp_of
 closed-half W N base log j q e =
     let c = closed-from W N base log j q e in
     let f = stamp-in W log j q.count q.stamp c.wrap c.reads in
     (le-leb (8 * tag) (get_or log (2 * j) 0) (omega (arith, f.address)), omega (arith, f.even, f.wrap, f.value))
-
--- some slots
-pub over_none : (N : ℕ) (log : List ℕ) (j : ℕ) (a : Candidate) → a ≡ candidate_over N log j 0 a
-unfolding candidate_over
-over_none N log j a = refl
-
-pub over-more : (N : ℕ) (log : List ℕ) (j : ℕ) (a : Candidate) (i : ℕ) (b r : Candidate)
-    → b ≡ candidate_over N log j i a → r ≡ higher N log (j + i) b → r ≡ candidate_over N log j (i + 1) a
-unfolding candidate_over
-over-more N log j a i b r e h = h ∙ rw (e, add-one i)
 
 -- a group of which no slot can hold a timestamp
 or-high : (a b : ℕ) → leb (8 * tag) (bit_or a b) ≡ (leb (8 * tag) a || leb (8 * tag) b)
@@ -534,73 +520,80 @@ any-high log j =
     or-high (bit_or (get_or log (2 * j) 0) (get_or log (2 * (j + 1)) 0)) (bit_or (get_or log (2 * (j + 2)) 0) (get_or log (2 * (j + 3)) 0))
     ∙ ap₂ ◌||◌ (or-high (get_or log (2 * j) 0) (get_or log (2 * (j + 1)) 0)) (or-high (get_or log (2 * (j + 2)) 0) (get_or log (2 * (j + 3)) 0))
 
-pub over-low : (N : ℕ) (log : List ℕ) (j : ℕ) (a : Candidate) → any_high log j ≡ false → a ≡ candidate_over N log j group a
-unfolding any_high candidate_over higher
-over-low N log j a h =
-    let first = or_left (stamp_high log j || stamp_high log (j + 1)) _ h in
-    let last = or_right (stamp_high log j || stamp_high log (j + 1)) _ h in
-    let at : stamp_high log (j + 0) ≡ false = ap (stamp_high log) (let e : j + 0 ≡ j = omega arith in e) ∙ or_left (stamp_high log j) _ first in
-    rw (or_right (stamp_high log (j + 2)) _ last, or_left (stamp_high log (j + 2)) _ last, or_right (stamp_high log j) _ first, at)
+-- so a step that changes nothing at such slots changes nothing over it
+pub fold-low : {A : Type 0} (h : A → ℕ → A) (log : List ℕ) → SkipsLow log h → (j : ℕ) (a : A) → any_high log j ≡ false → fold h a (range_with_len j group) ≡ a
+unfolding any_high
+fold-low h log skips j a e =
+    let first = or_left (stamp_high log j || stamp_high log (j + 1)) _ e in
+    let last = or_right (stamp_high log j || stamp_high log (j + 1)) _ e in
+    ap (λ b. fold h b (range_with_len (j + 1) 3)) (skips a j (or_left (stamp_high log j) _ first))
+    ∙ ap (λ b. fold h b (range_with_len (j + 1 + 1) 2)) (skips a (j + 1) (or_right (stamp_high log j) _ first))
+    ∙ ap (λ b. fold h b (range_with_len (j + 1 + 1 + 1) 1))
+    (skips a (j + 1 + 1) (ap (stamp_high log) (let f : j + 1 + 1 ≡ j + 2 = omega arith in f) ∙ or_left (stamp_high log (j + 2)) _ last))
+    ∙ skips a (j + 1 + 1 + 1) (ap (stamp_high log) (let f : j + 1 + 1 + 1 ≡ j + 3 = omega arith in f) ∙ or_right (stamp_high log (j + 2)) _ last)
 
--- the groups, and the slots after them
-pub candidate-none : (N base : ℕ) (log : List ℕ) → record { half = base / 2; slot = N } ≡ candidate_below N base log 0
+pub fold-passed : {A : Type 0} (h : A → ℕ → A) (log : List ℕ) → SkipsLow log h → (b : A) (j n : ℕ) → j + group ≡ n → any_high log j ≡ false
+    → fold h b (range_with_len 0 j) ≡ fold h b (range_with_len 0 n)
+fold-passed h log skips b j n e low =
+    sym (fold-low h log skips j (fold h b (range_with_len 0 j)) low)
+    ∙ ap (λ i. fold h (fold h b (range_with_len 0 j)) (range_with_len i group)) (let f : j ≡ 0 + j = omega arith in f)
+    ∙ fold-on h b 0 j group
+    ∙ ap (λ k. fold h b (range_with_len 0 k)) e
+
+-- the candidate of all slots
+pub higher-skips : (log : List ℕ) → SkipsLow log (λ a j. higher log j a)
+unfolding higher
+higher-skips log a j h = rw h
+
+pub candidate-range : (base : ℕ) (log : List ℕ) (n : ℕ)
+    → fold (λ a j. higher log j a) (record { half = base / 2; slot = None }) (range_with_len 0 n) ≡ candidate_below base log n
 unfolding candidate_below
-candidate-none N base log = refl
-
-candidate-over : (N base : ℕ) (log : List ℕ) (j n : ℕ) → candidate_over N log j n (candidate_below N base log j) ≡ candidate_below N base log (j + n)
-unfolding candidate_over candidate_below
-candidate-over N base log j zero = ap (candidate_below N base log) (let e : j ≡ j + 0 = omega arith in e)
-candidate-over N base log j (suc n) =
-    ap (higher N log (j + n)) (candidate-over N base log j n) ∙ ap (candidate_below N base log) (let e : suc (j + n) ≡ j + suc n = omega arith in e)
-
-pub candidate-more : (N base : ℕ) (log : List ℕ) (j n k : ℕ) (b r : Candidate) → b ≡ candidate_below N base log j → r ≡ candidate_over N log j n b
-    → j + n ≡ k → r ≡ candidate_below N base log k
-candidate-more N base log j n k b r e h f = h ∙ rw e (candidate-over N base log j n ∙ ap (candidate_below N base log) f)
+candidate-range base log n = fold-below (λ a j. higher log j a) (candidate_below base log) (λ k. rw (add-one k) refl) n
 
 -- what a candidate is of the slots below n: none is above it, and where it has a slot, no other has its timestamp
-pub record Highest (N : ℕ) (log : List ℕ) (n : ℕ) (c : Candidate) : Type 0 where
+pub record Highest (log : List ℕ) (n : ℕ) (c : Candidate) : Type 0 where
   pub most : (i : ℕ) → i < n → stamp_high log i ≡ true → half_at log i ≤ c.half
-  pub value : c.slot < N → half_at log c.slot ≡ c.half
-  pub sole : c.slot < N → (i : ℕ) → i < n → stamp_high log i ≡ true → half_at log i ≡ c.half → i ≡ c.slot
+  pub value : (j : ℕ) → c.slot ≡ Some j → half_at log j ≡ c.half
+  pub sole : (j : ℕ) → c.slot ≡ Some j → (i : ℕ) → i < n → stamp_high log i ≡ true → half_at log i ≡ c.half → i ≡ j
 
-module _ (N : ℕ) (log : List ℕ) where
+module _ (log : List ℕ) where
   -- slot n changes nothing
-  highest-keeps : (n : ℕ) (c : Candidate) → Highest N log n c → (stamp_high log n ≡ true → half_at log n < c.half) → Highest N log (suc n) c
+  highest-keeps : (n : ℕ) (c : Candidate) → Highest log n c → (stamp_high log n ≡ true → half_at log n < c.half) → Highest log (suc n) c
   highest-keeps n c g h = record {
     most = λ i l t.
         ⊎_elim (λ (e : i ≡ n). rw e (omega (arith, h (rw e at t)))) (λ (d : i < n). g.most i d t) (eq-or-lt_of_le {n = i} {m = n} (omega arith));
     value = g.value;
-    sole = λ s i l t v.
-        ⊎_elim (λ (e : i ≡ n). absurd (omega (arith, h (rw e at t), ap (half_at log) e))) (λ (d : i < n). g.sole s i d t v)
+    sole = λ j s i l t v.
+        ⊎_elim (λ (e : i ≡ n). absurd (omega (arith, h (rw e at t), ap (half_at log) e))) (λ (d : i < n). g.sole j s i d t v)
         (eq-or-lt_of_le {n = i} {m = n} (omega arith));
   }
 
   -- slot n is as high, and the candidate has no slot
-  highest-tied : (n : ℕ) (c : Candidate) → Highest N log n c → c.half ≡ half_at log n
-      → Highest N log (suc n) (record { half = half_at log n; slot = N })
+  highest-tied : (n : ℕ) (c : Candidate) → Highest log n c → c.half ≡ half_at log n
+      → Highest log (suc n) (record { half = half_at log n; slot = None })
   highest-tied n c g h = record {
     most = λ i l t.
         ⊎_elim (λ (e : i ≡ n). omega (arith, ap (half_at log) e)) (λ (d : i < n). omega (arith, g.most i d t)) (eq-or-lt_of_le {n = i} {m = n} (omega arith));
-    value = λ s. absurd (omega arith);
-    sole = λ s i l t v. absurd (omega arith);
+    value = λ j s. never s;
+    sole = λ j s i l t v. never s;
   }
 
   -- slot n is the highest
-  highest-takes : (n : ℕ) (c : Candidate) → Highest N log n c → c.half < half_at log n
-      → Highest N log (suc n) (record { half = half_at log n; slot = n })
+  highest-takes : (n : ℕ) (c : Candidate) → Highest log n c → c.half < half_at log n
+      → Highest log (suc n) (record { half = half_at log n; slot = Some n })
   highest-takes n c g h = record {
     most = λ i l t.
         ⊎_elim (λ (e : i ≡ n). omega (arith, ap (half_at log) e)) (λ (d : i < n). omega (arith, g.most i d t)) (eq-or-lt_of_le {n = i} {m = n} (omega arith));
-    value = λ s. refl;
-    sole = λ s i l t v.
-        ⊎_elim (λ (e : i ≡ n). e) (λ (d : i < n). absurd (omega (arith, g.most i d t))) (eq-or-lt_of_le {n = i} {m = n} (omega arith));
+    value = λ j s. ap (half_at log) (sym (same s));
+    sole = λ j s i l t v.
+        ⊎_elim (λ (e : i ≡ n). e ∙ same s) (λ (d : i < n). absurd (omega (arith, g.most i d t))) (eq-or-lt_of_le {n = i} {m = n} (omega arith));
   }
 
-  pub highest-all : (base n : ℕ) → Highest N log n (candidate_below N base log n)
+  pub highest-all : (base n : ℕ) → Highest log n (candidate_below base log n)
   unfolding candidate_below higher
-  highest-all base zero = record { most = λ i l t. absurd (omega arith); value = λ s. absurd (omega arith); sole = λ s i l t v. absurd (omega arith) }
+  highest-all base zero = record { most = λ i l t. absurd (omega arith); value = λ j s. never s; sole = λ j s i l t v. never s }
   highest-all base (suc n) =
-      let c = candidate_below N base log n in
+      let c = candidate_below base log n in
       let g = highest-all base n in
       split (stamp_high log n)
       (λ t. split (leb c.half (half_at log n))
@@ -611,35 +604,32 @@ module _ (N : ℕ) (log : List ℕ) where
       (λ t. rw t (highest-keeps n c g (λ u. clash _ u t)))
 
 -- which it is
-known : (x : Latest) → (x ≡ Nothing) ⊎ ((q : Sequence) × (x ≡ Is q))
-known Nothing = inl refl
-known (Is q) = inr (q, refl)
+known : (x : Option Sequence) → (x ≡ None) ⊎ ((q : Sequence) × (x ≡ Some q))
+known None = inl refl
+known (Some q) = inr (q, refl)
 
--- the slot of a candidate, as the code's test tells
-module _ (W N base : ℕ) (log : List ℕ) (j : ℕ) where
-  pub slotless : N ≤ j → Nothing ≡ candidate_closed W N base log j
+-- the slot of a candidate
+module _ (W N base : ℕ) (log : List ℕ) where
+  from-closed : (j : ℕ) {q : Sequence} → candidate_closed W N base log (Some j) ≡ Some q → (j < N) × (closed_at W N base log j ≡ Some q)
   unfolding candidate_closed
-  slotless h = rw (le-leb N j h)
+  from-closed j e = split (leb N j) (λ t. never (rw t at e)) (λ t. (leb-false N j t, rw t at e))
 
-  pub slotted : j < N → {r : Latest} → r ≡ closed_at W N base log j → r ≡ candidate_closed W N base log j
+  with_slot : (o : Option ℕ) {q : Sequence} → candidate_closed W N base log o ≡ Some q → (j : ℕ) × (o ≡ Some j)
   unfolding candidate_closed
-  slotted h e = rw (lt-leb N j h) e
+  with_slot None e = never e
+  with_slot (Some j) e = (j, refl)
 
-  from-closed : {q : Sequence} → candidate_closed W N base log j ≡ Is q → (j < N) × (closed_at W N base log j ≡ Is q)
-  unfolding candidate_closed
-  from-closed e = split (leb N j) (λ t. never (rw t at e)) (λ t. (leb-false N j t, rw t at e))
+pub highest-is : (N base : ℕ) (log : List ℕ) {c : Candidate} → c ≡ candidate_below base log N → Highest log N c
+highest-is N base log e = rw e (highest-all log base N)
 
-pub highest-is : (N base : ℕ) (log : List ℕ) {c : Candidate} → c ≡ candidate_below N base log N → Highest N log N c
-highest-is N base log e = rw e (highest-all N log base N)
-
-module _ (W N base : ℕ) (log : List ℕ) {c : Candidate} (highest : Highest N log N c) where
+module _ (W N base : ℕ) (log : List ℕ) {c : Candidate} (highest : Highest log N c) where
   -- none is above the base
-  pub candidate-lacks : c.half ≡ base / 2 → Nothing ≡ latest (complete_below W N base log 0 N)
+  pub candidate-lacks : c.half ≡ base / 2 → None ≡ latest (complete_below W N base log 0 N)
   candidate-lacks h = sym (latest-none W N base log N each)
     where
-      each : (i : ℕ) → i < N → closed_at W N base log i ≡ Nothing
+      each : (i : ℕ) → i < N → closed_at W N base log i ≡ None
       each i l =
-          ⊎_elim (λ (n : closed_at W N base log i ≡ Nothing). n)
+          ⊎_elim (λ (n : closed_at W N base log i ≡ None). n)
           (λ n.
           let q = n.0 in
           let d = closed-half W N base log i q n.1 in
@@ -648,28 +638,29 @@ module _ (W N base : ℕ) (log : List ℕ) {c : Candidate} (highest : Highest N 
           (known (closed_at W N base log i))
 
   -- its slot closes a complete sequence
-  pub candidate-latest : {x : Latest} {q : Sequence} → x ≡ candidate_closed W N base log c.slot → x ≡ Is q → Is q ≡ latest (complete_below W N base log 0 N)
-  candidate-latest {q = q} r f = sym (latest-first qs mine mine-in first ∙ ap Is (closed-as W N base log 0 c.slot q closed))
+  candidate-latest : {j : ℕ} {x : Option Sequence} {q : Sequence} → c.slot ≡ Some j → x ≡ candidate_closed W N base log (Some j) → x ≡ Some q
+      → Some q ≡ latest (complete_below W N base log 0 N)
+  candidate-latest {j = j} {q = q} s r f = sym (latest-first qs mine mine-in first ∙ ap Some (closed-as W N base log 0 j q closed))
     where
-      at : (c.slot < N) × (closed_at W N base log c.slot ≡ Is q)
-      at = from-closed W N base log c.slot (sym r ∙ f)
+      at : (j < N) × (closed_at W N base log j ≡ Some q)
+      at = from-closed W N base log j (sym r ∙ f)
 
-      closed : Closed W N base log c.slot q
-      closed = closed-from W N base log c.slot q at.1
+      closed : Closed W N base log j q
+      closed = closed-from W N base log j q at.1
 
       qs : List Complete
       qs = complete_below W N base log 0 N
 
       mine : Complete
-      mine = closed_as W N base log 0 c.slot q closed
+      mine = closed_as W N base log 0 j q closed
 
       mine-in : In mine qs
-      mine-in = slot-in W N base log 0 c.slot N at.0 q closed
+      mine-in = slot-in W N base log 0 j N at.0 q closed
 
       first : (p : Complete) → In p qs → (p ≡ mine) ⊎ Before qs mine p
       first p i =
           let from = in-slot W N base log 0 N p i in
-          let m = closed-half W N base log c.slot q at.1 in
+          let m = closed-half W N base log j q at.1 in
           let d = closed-half W N base log from.at from.by from.is in
           let same : p.stamp ≡ from.by.stamp = ap (λ (p : Complete). p.stamp) from.same in
           split (ltb p.stamp q.stamp)
@@ -680,158 +671,88 @@ module _ (W N base : ℕ) (log : List ℕ) {c : Candidate} (highest : Highest N 
             ltb-false p.stamp q.stamp t,
             m.1,
             d.1,
-            highest.value at.0,
+            highest.value j s,
             highest.most from.at from.low d.0,
           ) in
           inl (rising-one (below-rising W N base log 0 N) i mine-in (ap (λ (p : Complete). p.lane) from.same)
-          (ap (λ (p : Complete). p.slot) from.same ∙ highest.sole at.0 from.at from.low d.0 half)))
+          (ap (λ (p : Complete). p.slot) from.same ∙ highest.sole j s from.at from.low d.0 half)))
+
+  -- as the code's tests tell
+  pub candidate-chosen : {x : Option Sequence} {q : Sequence} → x ≡ candidate_closed W N base log c.slot → x ≡ Some q
+      → Some q ≡ latest (complete_below W N base log 0 N)
+  candidate-chosen {q = q} r f =
+      let s = with_slot W N base log c.slot (sym r ∙ f) in
+      candidate-latest s.1 (r ∙ ap (candidate_closed W N base log) s.1) f
 
 -- ---- a slot looked at first
--- one slot, as the code's tests tell
-module _ (log : List ℕ) (k b j : ℕ) where
-  pub rival-less : get_or log (2 * j + 1) 0 < b → false ≡ rival log k b j
-  unfolding rival stamp_from
-  rival-less h = rw (lt-leb b (get_or log (2 * j + 1) 0) h, and-false (stamp_high log j))
-
-  pub rival-own : j ≡ k → false ≡ rival log k b j
-  unfolding rival
-  rival-own e = rw (eq-eqb j k e) (sym (and-false (stamp_from log j b)))
-
-  pub rival-high : b ≤ get_or log (2 * j + 1) 0 → j ≢ k → stamp_high log j ≡ rival log k b j
-  unfolding rival stamp_from
-  rival-high h d = rw (le-leb b (get_or log (2 * j + 1) 0) h, ne_eqb j k d, and-true (stamp_high log j)) (sym (and-true (stamp_high log j)))
-
--- some slots
+-- all slots
 module _ (log : List ℕ) (k b : ℕ) where
-  pub rivals-zero : (j : ℕ) → rival_over log k b j 0 ≡ false
-  unfolding rival_over
-  rivals-zero j = refl
+  pub rival-skips : SkipsLow log (λ found j. found || rival log k b j)
+  unfolding rival stamp_from
+  rival-skips found j h = rw h (or-false found)
 
-  pub rivals-more : (j i : ℕ) → rival_over log k b j i ≡ false → rival log k b (j + i) ≡ false → rival_over log k b j (i + 1) ≡ false
-  unfolding rival_over
-  rivals-more j i h g = rw (add-one i, h, g)
+  pub rival-range : (n : ℕ) → fold (λ found j. found || rival log k b j) false (range_with_len 0 n) ≡ rival_below log k b n
+  unfolding rival_below
+  rival-range n = fold-below (λ found j. found || rival log k b j) (rival_below log k b) (λ i. rw (add-one i) refl) n
 
-  pub rivals-found : (j i n : ℕ) → i < n → rival log k b (j + i) ≡ true → rival_over log k b j n ≡ true
-  unfolding rival_over
-  rivals-found j i zero l h = absurd (omega arith)
-  rivals-found j i (suc n) l h =
-      ⊎_elim
-      (λ (e : i ≡ n). let g : rival log k b (j + n) ≡ true = rw e at h in rw g (or-true (rival_over log k b j n)))
-      (λ (e : i < n). rw (rivals-found j i n e h))
+  rivals-none : (i n : ℕ) → i < n → rival_below log k b n ≡ false → rival log k b i ≡ false
+  unfolding rival_below
+  rivals-none i zero l h = absurd (omega arith)
+  rivals-none i (suc n) l h =
+      ⊎_elim (λ (e : i ≡ n). rw e (or_right (rival_below log k b n) _ h)) (λ (e : i < n). rivals-none i n e (or_left (rival_below log k b n) _ h))
       (eq-or-lt_of_le {n = i} {m = n} (omega arith))
 
-  rivals-none : (i n : ℕ) → i < n → rival_over log k b 0 n ≡ false → rival log k b i ≡ false
-  rivals-none i n l h =
-      let e : 0 + i ≡ i = omega arith in
-      split (rival log k b i) (λ t. clash _ (rivals-found 0 i n l (ap (rival log k b) e ∙ t)) h) (λ t. t)
-
-  -- a group of which no slot can hold a timestamp
-  pub rivals-low : (j : ℕ) → any_high log j ≡ false → false ≡ rival_over log k b j group
-  unfolding any_high rival_over rival stamp_from
-  rivals-low j h =
-      let first = or_left (stamp_high log j || stamp_high log (j + 1)) _ h in
-      let last = or_right (stamp_high log j || stamp_high log (j + 1)) _ h in
-      let at : stamp_high log (j + 0) ≡ false = ap (stamp_high log) (let e : j + 0 ≡ j = omega arith in e) ∙ or_left (stamp_high log j) _ first in
-      rw (or_right (stamp_high log (j + 2)) _ last, or_left (stamp_high log (j + 2)) _ last, or_right (stamp_high log j) _ first, at)
-
-  -- slots, and slots after them
-  pub rivals-after : (m n : ℕ) → rival_over log k b 0 m ≡ false → rival_over log k b 0 (m + n) ≡ rival_over log k b m n
-  unfolding rival_over
-  rivals-after m zero h = ap (rival_over log k b 0) (let e : m + 0 ≡ m = omega arith in e) ∙ h
-  rivals-after m (suc n) h =
-      ap (rival_over log k b 0) (let e : m + suc n ≡ suc (m + n) = omega arith in e)
-      ∙ ap₂ ◌||◌ (rivals-after m n h) (ap (rival log k b) (let e : 0 + (m + n) ≡ m + n = omega arith in e))
-
-  rivals-wide : (m n : ℕ) → m ≤ n → rival_over log k b 0 m ≡ true → rival_over log k b 0 n ≡ true
-  unfolding rival_over
-  rivals-wide m zero l h = ap (rival_over log k b 0) (let e : 0 ≡ m = omega arith in e) ∙ h
-  rivals-wide m (suc n) l h =
-      ⊎_elim (λ (e : m ≡ suc n). rw e at h) (λ (e : m < suc n). rw (rivals-wide m n (omega arith) h))
-      (eq-or-lt_of_le {n = m} {m = suc n} l)
-
-  pub rivals-next : (m n p : ℕ) → m + n ≡ p → rival_over log k b 0 m ≡ false → rival_over log k b m n ≡ false → rival_over log k b 0 p ≡ false
-  rivals-next m n p e h g = rw (← e) (rivals-after m n h ∙ g)
-
-  pub rivals-in : (m n p : ℕ) → m + n ≤ p → rival_over log k b 0 m ≡ false → rival_over log k b m n ≡ true → true ≡ rival_over log k b 0 p
-  rivals-in m n p l h g = sym (rivals-wide (m + n) p l (rivals-after m n h ∙ g))
-
-  pub rivals-last : (m n p : ℕ) → m + n ≡ p → rival_over log k b 0 m ≡ false → rival_over log k b m n ≡ rival_over log k b 0 p
-  rivals-last m n p e h = rw (← e) (sym (rivals-after m n h))
-
-rival-below : (log : List ℕ) (k b j : ℕ) → b ≡ 2 * half_at log k → stamp_high log j ≡ true → j ≢ k → rival log k b j ≡ false → half_at log j < half_at log k
+rival-lower : (log : List ℕ) (k b j : ℕ) → b ≡ 2 * half_at log k → stamp_high log j ≡ true → j ≢ k → rival log k b j ≡ false → half_at log j < half_at log k
 unfolding rival stamp_from half_at
-rival-below log k b j e t d h =
+rival-lower log k b j e t d h =
     split (leb b (get_or log (2 * j + 1) 0))
     (λ u. clash true refl (rw (t, u, ne_eqb j k d) at h))
     (λ u. let less = leb-false b (get_or log (2 * j + 1) 0) u in omega arith)
 
 -- no other slot can hold a timestamp as high as that of the sequence that slot k closes
-pub near-latest : (W N base : ℕ) (log : List ℕ) (k : ℕ) {x : Latest} {q : Sequence} → x ≡ candidate_closed W N base log k → x ≡ Is q
-    → rival_over log k q.stamp 0 N ≡ false → Is q ≡ latest (complete_below W N base log 0 N)
-near-latest W N base log k {q = q} r f h = candidate-latest W N base log {c = record { half = half_at log k; slot = k }} highest r f
+pub near-latest : (W N base : ℕ) (log : List ℕ) (k : ℕ) {x : Option Sequence} {q : Sequence} → x ≡ candidate_closed W N base log (Some k) → x ≡ Some q
+    → rival_below log k q.stamp N ≡ false → Some q ≡ latest (complete_below W N base log 0 N)
+near-latest W N base log k {q = q} r f h = candidate-latest W N base log {c = record { half = half_at log k; slot = Some k }} highest refl r f
   where
     half : q.stamp ≡ 2 * half_at log k
     half = (closed-half W N base log k q (from-closed W N base log k (sym r ∙ f)).1).1
 
     below : (i : ℕ) → i < N → stamp_high log i ≡ true → i ≢ k → half_at log i < half_at log k
-    below i l t d = rival-below log k q.stamp i half t d (rivals-none log k q.stamp i N l h)
+    below i l t d = rival-lower log k q.stamp i half t d (rivals-none log k q.stamp i N l h)
 
-    highest : Highest N log N (record { half = half_at log k; slot = k })
+    highest : Highest log N (record { half = half_at log k; slot = Some k })
     highest = record {
       most = λ i l t. split (eqb i k) (λ e. rw (eqb-true i k e) (omega arith)) (λ e. omega (arith, below i l t (eqb-false i k e)));
-      value = λ s. refl;
-      sole = λ s i l t v. split (eqb i k) (λ e. eqb-true i k e) (λ e. absurd (omega (arith, below i l t (eqb-false i k e))));
+      value = λ j s. ap (half_at log) (sym (same s));
+      sole = λ j s i l t v. split (eqb i k) (λ e. eqb-true i k e ∙ same s) (λ e. absurd (omega (arith, below i l t (eqb-false i k e))));
     }
 
 -- ---- every slot
--- the greater of two, as the code's tests tell
-module _ {a b : Latest} where
-  pub greater-none : b ≡ Nothing → a ≡ greater a b
-  unfolding greater
-  greater-none e = rw e
-
-  module _ {r : Sequence} (e : b ≡ Is r) where
-    pub greater-first : a ≡ Nothing → Is r ≡ greater a b
-    unfolding greater
-    greater-first f = rw (e, f)
-
-    module _ {q : Sequence} (f : a ≡ Is q) where
-      pub greater-less : r.stamp < q.stamp → Is q ≡ greater a b
-      unfolding greater
-      greater-less l = rw (e, f, lt-ltb r.stamp q.stamp l)
-
-      pub greater-is : q.stamp ≤ r.stamp → Is r ≡ greater a b
-      unfolding greater
-      greater-is l = rw (e, f, le-ltb r.stamp q.stamp l)
-
--- the loop over the slots
-pub greatest-none : (W N base : ℕ) (log : List ℕ) → Nothing ≡ greatest_below W N base log 0
+-- of each slot in turn
+pub greatest-range : (W N base : ℕ) (log : List ℕ) (n : ℕ)
+    → fold (λ b k. greater b (closed_at W N base log k)) None (range_with_len 0 n) ≡ greatest_below W N base log n
 unfolding greatest_below
-greatest-none W N base log = refl
-
-pub greatest-more : (W N base : ℕ) (log : List ℕ) (k : ℕ) (b x r : Latest) → b ≡ greatest_below W N base log k → x ≡ closed_at W N base log k
-    → r ≡ greater b x → r ≡ greatest_below W N base log (k + 1)
-unfolding greatest_below
-greatest-more W N base log k b x r e f h = h ∙ rw (e, f, add-one k)
+greatest-range W N base log n =
+    fold-below (λ b k. greater b (closed_at W N base log k)) (greatest_below W N base log) (λ k. rw (add-one k) refl) n
 
 -- what it is: of the sequences that the slots below k close, the highest of the greatest timestamp
 pub record Greatest (W N base : ℕ) (log : List ℕ) (k : ℕ) (q : Sequence) : Type 0 where
   pub low : q.slot < k
-  pub is : closed_at W N base log q.slot ≡ Is q
-  pub most : (i : ℕ) → i < k → (r : Sequence) → closed_at W N base log i ≡ Is r → r.stamp ≤ q.stamp
-  pub high : (i : ℕ) → q.slot < i → i < k → (r : Sequence) → closed_at W N base log i ≡ Is r → r.stamp < q.stamp
+  pub is : closed_at W N base log q.slot ≡ Some q
+  pub most : (i : ℕ) → i < k → (r : Sequence) → closed_at W N base log i ≡ Some r → r.stamp ≤ q.stamp
+  pub high : (i : ℕ) → q.slot < i → i < k → (r : Sequence) → closed_at W N base log i ≡ Some r → r.stamp < q.stamp
 
 abbrev pub NoneClosed : (W N base : ℕ) (log : List ℕ) (k : ℕ) → Type 0
-NoneClosed W N base log k = (i : ℕ) → i < k → closed_at W N base log i ≡ Nothing
+NoneClosed W N base log k = (i : ℕ) → i < k → closed_at W N base log i ≡ None
 
-pub data GreatestIs (W N base : ℕ) (log : List ℕ) (k : ℕ) (x : Latest) : Type 0 where
-  lacking : x ≡ Nothing → NoneClosed W N base log k → GreatestIs W N base log k x
-  found : (q : Sequence) → x ≡ Is q → Greatest W N base log k q → GreatestIs W N base log k x
+pub data GreatestIs (W N base : ℕ) (log : List ℕ) (k : ℕ) (x : Option Sequence) : Type 0 where
+  lacking : x ≡ None → NoneClosed W N base log k → GreatestIs W N base log k x
+  found : (q : Sequence) → x ≡ Some q → Greatest W N base log k q → GreatestIs W N base log k x
 
 module _ (W N base : ℕ) (log : List ℕ) where
   -- slot k closes a sequence that is not below the others
-  greatest-takes : (k : ℕ) (r : Sequence) → closed_at W N base log k ≡ Is r
-      → ((i : ℕ) → i < k → (q : Sequence) → closed_at W N base log i ≡ Is q → q.stamp ≤ r.stamp) → Greatest W N base log (suc k) r
+  greatest-takes : (k : ℕ) (r : Sequence) → closed_at W N base log k ≡ Some r
+      → ((i : ℕ) → i < k → (q : Sequence) → closed_at W N base log i ≡ Some q → q.stamp ≤ r.stamp) → Greatest W N base log (suc k) r
   greatest-takes k r e h =
       let s : r.slot ≡ k = (closed-from W N base log k r e).slot in
       record {
@@ -847,7 +768,7 @@ module _ (W N base : ℕ) (log : List ℕ) where
 
   -- slot k changes nothing
   greatest-keeps : (k : ℕ) (q : Sequence) → Greatest W N base log k q
-      → ((r : Sequence) → closed_at W N base log k ≡ Is r → r.stamp < q.stamp) → Greatest W N base log (suc k) q
+      → ((r : Sequence) → closed_at W N base log k ≡ Some r → r.stamp < q.stamp) → Greatest W N base log (suc k) q
   greatest-keeps k q g h = record {
     low = omega (arith, g.low);
     is = g.is;
@@ -857,14 +778,14 @@ module _ (W N base : ℕ) (log : List ℕ) where
         ⊎_elim (λ (d : i ≡ k). h r (rw d at f)) (λ (d : i < k). g.high i a d r f) (eq-or-lt_of_le {n = i} {m = k} (omega arith));
   }
 
-  greatest-step : (k : ℕ) (a x : Latest) → closed_at W N base log k ≡ x → GreatestIs W N base log k a → GreatestIs W N base log (suc k) (greater a x)
+  greatest-step : (k : ℕ) (a x : Option Sequence) → closed_at W N base log k ≡ x → GreatestIs W N base log k a → GreatestIs W N base log (suc k) (greater a x)
   unfolding greater
-  greatest-step k a Nothing e (lacking f n) =
+  greatest-step k a None e (lacking f n) =
       lacking f (λ i l. ⊎_elim (λ (d : i ≡ k). rw d e) (λ (d : i < k). n i d) (eq-or-lt_of_le {n = i} {m = k} (omega arith)))
-  greatest-step k a Nothing e (found q f g) = found q f (greatest-keeps k q g (λ r h. never (sym e ∙ h)))
-  greatest-step k a (Is r) e (lacking f n) =
+  greatest-step k a None e (found q f g) = found q f (greatest-keeps k q g (λ r h. never (sym e ∙ h)))
+  greatest-step k a (Some r) e (lacking f n) =
       found r (rw f) (greatest-takes k r e (λ i l q h. never (sym (n i l) ∙ h)))
-  greatest-step k a (Is r) e (found q f g) =
+  greatest-step k a (Some r) e (found q f g) =
       split (ltb r.stamp q.stamp)
       (λ t. found q (rw (f, t))
       (greatest-keeps k q g (λ p h. omega (arith, ltb-true r.stamp q.stamp t, ap (λ (q : Sequence). q.stamp) (is_one (sym e ∙ h))))))
@@ -875,16 +796,16 @@ module _ (W N base : ℕ) (log : List ℕ) where
   greatest-all zero = lacking refl (λ i l. absurd (omega arith))
   greatest-all (suc k) = greatest-step k _ _ refl (greatest-all k)
 
-  module _ {x : Latest} (e : x ≡ greatest_below W N base log N) where
+  module _ {x : Option Sequence} (e : x ≡ greatest_below W N base log N) where
     -- there is none
-    pub all_none : x ≡ Nothing → Nothing ≡ latest (complete_below W N base log 0 N)
+    pub all_none : x ≡ None → None ≡ latest (complete_below W N base log 0 N)
     all_none h = by (greatest-all N)
       where
-        by : GreatestIs W N base log N (greatest_below W N base log N) → Nothing ≡ latest (complete_below W N base log 0 N)
+        by : GreatestIs W N base log N (greatest_below W N base log N) → None ≡ latest (complete_below W N base log 0 N)
         by (lacking f n) = sym (latest-none W N base log N n)
         by (found q f g) = never (sym h ∙ e ∙ f)
 
-    module _ {q : Sequence} (h : x ≡ Is q) where
+    module _ {q : Sequence} (h : x ≡ Some q) where
       pub all-greatest : Greatest W N base log N q
       all-greatest = by (greatest-all N)
         where
@@ -894,14 +815,14 @@ module _ (W N base : ℕ) (log : List ℕ) where
 
       -- there is one, and others may have its timestamp
       pub all-latest : {r : Sequence} → r ≡ lapped_below W N log q.stamp (get_or log (2 * q.slot) 0 % 2) q q.slot
-          → Is r ≡ latest (complete_below W N base log 0 N)
+          → Some r ≡ latest (complete_below W N base log 0 N)
       unfolding stamp_of
       all-latest d =
           let g = all-greatest in
           let c = closed-from W N base log q.slot q g.is in
           let f = stamp-in W log q.slot q.count q.stamp c.wrap c.reads in
           let w : c.wrap ≡ get_or log (2 * q.slot) 0 % 2 = omega (arith, f.address, f.wrap) in
-          ap Is d ∙ sym (latest-lapped W N base log q.slot g.low q g.is g.most g.high _ (rw (← w) c.reads))
+          ap Some d ∙ sym (latest-lapped W N base log q.slot g.low q g.is g.most g.high _ (rw (← w) c.reads))
 
 -- ---- hits
 -- slot numbers, circularly
@@ -1022,38 +943,38 @@ module _ (W N base : ℕ) (log : List ℕ) (k m b : ℕ) where
       (λ (e : j < n). rw (hits-yes j n e h))
       (eq-or-lt_of_le {n = j} {m = n} (omega arith))
 
--- the loop over the slots from slot k on: none of the first i closes a sequence that is hit
-unfoldable pub NoneHit : (W N base : ℕ) → List ℕ → (k m b i : ℕ) → Type 0
-NoneHit W N base log k m b i = (d : ℕ) → d < i → hit_at W N base log k m b (circular N (k + d)) ≡ false
-
+-- of the slots from slot k on, each in turn
 module _ (W N base : ℕ) (log : List ℕ) (k m b : ℕ) where
-  pub hits-zero : NoneHit W N base log k m b 0
-  unfolding NoneHit
-  hits-zero d l = absurd (omega arith)
-
-  pub hits_more : (i : ℕ) → NoneHit W N base log k m b i → hit_at W N base log k m b (circular N (k + i)) ≡ false → NoneHit W N base log k m b (i + 1)
-  unfolding NoneHit
-  hits_more i h g d l = ⊎_elim (λ (e : d ≡ i). rw e g) (λ (e : d < i). h d e) (eq-or-lt_of_le {n = d} {m = i} (omega arith))
-
-  pub hits-all : k < N → 1 ≤ m → NoneHit W N base log k m b (m + max_entries) → hits_from N k m b (complete_below W N base log 0 N) ≡ false
-  unfolding NoneHit
-  hits-all h l none = hits-no W N base log k m b N each
+  pub hits-range : k < N → 1 ≤ m → m + max_entries ≤ N
+      → list_any (λ d. hit_at W N base log k m b (circular N (k + d))) (range_with_len 0 (m + max_entries))
+      ≡ hits_from N k m b (complete_below W N base log 0 N)
+  hits-range h l few =
+      split (list_any test (range_with_len 0 n))
+      (λ e. e ∙ sym (yes (any-which test 0 n e)))
+      (λ e. e ∙ sym (hits-no W N base log k m b N (no e)))
     where
-      each : (j : ℕ) → j < N → hit_at W N base log k m b j ≡ false
-      each j g =
-          split (ltb (ahead N k j) (m + max_entries))
-          (λ e. rw (circular-ahead N k j h g) at (none (ahead N k j) (ltb-true (ahead N k j) (m + max_entries) e)))
-          (λ e. hit-within W N base log k m b j h g l (ltb-false (ahead N k j) (m + max_entries) e))
+      n : ℕ
+      n = m + max_entries
 
-  pub hits-found : (d : ℕ) → k < N → d < N → hit_at W N base log k m b (circular N (k + d)) ≡ true → hits_from N k m b (complete_below W N base log 0 N) ≡ true
-  hits-found d h l e = hits-yes W N base log k m b (circular N (k + d)) N (circular-low N (k + d) (omega arith)) e
+      test : ℕ → Bool
+      test d = hit_at W N base log k m b (circular N (k + d))
+
+      yes : (i : ℕ) × (i < n) × (test (0 + i) ≡ true) → hits_from N k m b (complete_below W N base log 0 N) ≡ true
+      yes d = hits-yes W N base log k m b (circular N (k + (0 + d.0))) N (circular-low N (k + (0 + d.0)) (omega (arith, d.1))) d.2
+
+      no : list_any test (range_with_len 0 n) ≡ false → (j : ℕ) → j < N → hit_at W N base log k m b j ≡ false
+      no e j g =
+          split (ltb (ahead N k j) n)
+          (λ t. ap (hit_at W N base log k m b) (sym (circular-ahead N k j h g))
+          ∙ ap test (let f : ahead N k j ≡ 0 + ahead N k j = omega arith in f) ∙ any-not test 0 n e (ahead N k j) (ltb-true (ahead N k j) n t))
+          (λ t. hit-within W N base log k m b j h g l (ltb-false (ahead N k j) n t))
 
 -- no bound, or one
-module _ (N k m : ℕ) (qs : List Complete) {bound : Timestamp} where
+module _ (N k m : ℕ) (qs : List Complete) {bound : Option ℕ} where
   pub hits-none : bound ≡ None → false ≡ hits N k m bound qs
   unfolding hits
   hits-none e = rw e
 
-  pub hits_at : {b : ℕ} → bound ≡ At b → (r : Bool) → hits_from N k m b qs ≡ r → r ≡ hits N k m bound qs
+  pub hits_at : {b : ℕ} → bound ≡ Some b → (r : Bool) → hits_from N k m b qs ≡ r → r ≡ hits N k m bound qs
   unfolding hits
   hits_at e r h = rw e (sym h)

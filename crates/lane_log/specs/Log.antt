@@ -1,15 +1,11 @@
 -- One lane's log, two words a slot: its slots, its complete sequences, the latest of them. SPECIFICATION, "Logs". Assumes nothing.
-use Rattle.std.specs.Prelude.{ℕ, zero, suc, ◌+◌, ◌-◌, ◌*◌, Bool, false, cond, ◌&&◌, ◌||◌, List, [], ◌∷◌, ◌++◌, leb, ltb, eqb, length, get_or}
+use Rattle.std.specs.Prelude.{ℕ, zero, suc, ◌+◌, ◌-◌, ◌*◌, Bool, false, cond, ◌&&◌, ◌||◌, List, [], ◌∷◌, ◌++◌, leb, ltb, eqb, length, get_or, Option, Some, None}
 use Rattle.slot.specs.Slot.{read_of}
 use Rattle.slot.specs.declared.Content.{Content}
 use Rattle.slot.specs.declared.Content.TheVariants.{Empty, Torn, Entry, Stamp}
 use Rattle.image.specs.Image.{base_of, log_of}
 use Rattle.image.specs.declared.Sizes.{Sizes}
-use Rattle.lane_log.specs.declared.Timestamp.{Timestamp}
-use Rattle.lane_log.specs.declared.Timestamp.TheVariants.{None, At}
 use Rattle.lane_log.specs.declared.Sequence.{Sequence}
-use Rattle.lane_log.specs.declared.Latest.{Latest}
-use Rattle.lane_log.specs.declared.Latest.TheVariants.{Nothing, Is}
 
 -- what slot j of a log says, of an image of W data words
 unfoldable pub slot_at : (W : ℕ) → List ℕ → (j : ℕ) → Content
@@ -99,27 +95,27 @@ ordered qs (r ∷ rs) = insert qs r (ordered qs rs)
 unfoldable pub sequence_of : Complete → Sequence
 sequence_of q = record { stamp = q.stamp; count = length q.entries; slot = q.slot }
 
-unfoldable pub first_of : List Complete → Latest
-first_of [] = Nothing
-first_of (q ∷ qs) = Is (sequence_of q)
+unfoldable pub first_of : List Complete → Option Sequence
+first_of [] = None
+first_of (q ∷ qs) = Some (sequence_of q)
 
 -- the one undone first: of the greatest timestamp the latest
-unfoldable pub latest : List Complete → Latest
+unfoldable pub latest : List Complete → Option Sequence
 latest qs = first_of (ordered qs qs)
 
 -- lane L's latest sequence in an image
-unfoldable pub latest_in : Sizes → List ℕ → ℕ → Latest
+unfoldable pub latest_in : Sizes → List ℕ → ℕ → Option Sequence
 latest_in z image L = latest (complete_in z image L)
 
 -- what a sequence of n entries stamped s gives to the boundary, and to its lane's floor at a drain: its timestamp, but a mark, which closes no entries,
 -- gives none
-unfoldable pub given : (n s : ℕ) → Timestamp
-given n s = cond (eqb n 0) None (At s)
+unfoldable pub given : (n s : ℕ) → Option ℕ
+given n s = cond (eqb n 0) None (Some s)
 
 -- what a lane gives to the boundary: what its latest sequence gives
-unfoldable pub contribution : Latest → Timestamp
-contribution Nothing = None
-contribution (Is q) = given q.count q.stamp
+unfoldable pub contribution : Option Sequence → Option ℕ
+contribution None = None
+contribution (Some q) = given q.count q.stamp
 
 -- ---- overwriting
 -- how many slots slot j comes after slot k, circularly
@@ -137,6 +133,6 @@ hits_from N k m b [] = false
 hits_from N k m b (q ∷ qs) = (leb b q.stamp && overlaps N k m q.slot (length q.entries)) || hits_from N k m b qs
 
 -- no sequence is at or above a bound that is none
-unfoldable pub hits : (N k m : ℕ) → Timestamp → List Complete → Bool
+unfoldable pub hits : (N k m : ℕ) → Option ℕ → List Complete → Bool
 hits N k m None qs = false
-hits N k m (At b) qs = hits_from N k m b qs
+hits N k m (Some b) qs = hits_from N k m b qs

@@ -1,5 +1,5 @@
 // Appending a sequence to a log, and replacing a timestamp: stores to the cached image, each word flushed.
-ghost use Rattle.std.specs.Prelude.{◌≡◌, [], ◌∷◌, ℕ, ◌+◌, ◌*◌, ◌^◌, ◌≤◌, ◌<◌, length, take};
+ghost use Rattle.std.specs.Prelude.{◌≡◌, [], ◌∷◌, ℕ, ◌+◌, ◌*◌, ◌^◌, ◌≤◌, ◌<◌, length};
 ghost use Rattle.image.specs.Image.{max_lanes};
 ghost use Rattle.image.specs.Stores.{stored, places};
 ghost use Rattle.image.specs.Flush.{flush_all};
@@ -10,26 +10,30 @@ ghost use Rattle.lane_log.specs.inner.AppendEntries.{Loggable, Within, LogAt, en
 use crate::Cursor;
 use image::flush;
 use slot::Slot;
-use txn::Writes;
+use txn::Write;
 
-// The place after a slot: the next slot, or slot 0 with the wrap bit flipped.
-pub fn onward(slots: usize, cursor: Cursor) -> Cursor
-    requires { Within slots cursor }
-    ensures { result ≡ onward_of slots cursor }
-{
-    if cursor.slot + 1 == slots {
-        return Cursor {
-            slot: 0,
-            wrap: 1 - cursor.wrap,
-        };
-    }
-    Cursor {
-        slot: cursor.slot + 1,
-        wrap: cursor.wrap,
+impl Cursor {
+    // The place after this one: the next slot, or slot 0 with the wrap bit flipped.
+    #[tactic(auto, unfolding(crate::specs::Append::onward))]
+    pub fn onward(self, slots: usize) -> Cursor
+        requires { Within slots self }
+        ensures { result ≡ onward_of slots self }
+    {
+        if self.slot + 1 == slots {
+            return Cursor {
+                slot: 0,
+                wrap: 1 - self.wrap,
+            };
+        }
+        Cursor {
+            slot: self.slot + 1,
+            wrap: self.wrap,
+        }
     }
 }
 
 // Slot number k of a log, circularly, where k is below twice its slots.
+#[tactic(auto, unfolding(crate::specs::Append::circular))]
 pub fn circular(slots: usize, k: usize) -> usize
     ensures { result ≡ circular_of slots k }
 {
@@ -54,33 +58,32 @@ fn store_slot(cache: &mut [u64], flags: &mut [u8], start: usize, j: usize, mask:
     flush::set_flush(flags, at + 1, mask);
 }
 
-// Appends an entry for each write, with the value before it, and flushes them; the place after them.
+// Appends an entry for each write, with the value before it, and flushes them; the place after them. Kept: a type for the
+// two buffers and the log's place in them would be made for two functions alone, since `restamp` asks only that its slot
+// lies in the buffers, and would put its own fields into each of their clauses.
 fn append_entries(
     cache: &mut [u64],
     flags: &mut [u8],
     start: usize,
     slots: usize,
     lane: usize,
-    writes: Writes,
+    writes: &[Write],
     cursor: Cursor,
 ) -> Cursor
-    requires loggable { Loggable writes }
+    requires loggable { Loggable writes.now }
     requires within { Within slots cursor }
     requires log_at { LogAt start slots lane cache.old flags.old }
-    ensures last { result ≡ advance slots writes.count cursor }
-    ensures written { cache.new
-        ≡ stored (entry_stores start slots cursor (take writes.count writes.list)) cache.old }
+    ensures last { result ≡ advance slots (length writes.now) cursor }
+    ensures written { cache.new ≡ stored (entry_stores start slots cursor writes.now) cache.old }
     ensures flushed { flags.new
-        ≡ flush_all lane (places (entry_stores start slots cursor (take writes.count writes.list)))
-        flags.old }
+        ≡ flush_all lane (places (entry_stores start slots cursor writes.now)) flags.old }
 {
     let mask = flush::lane_mask(lane);
     let mut end = cursor;
-    for i in 0..writes.count {
-        let write = writes.list[i];
+    for write in writes {
         let slot = Slot::entry(write.word, write.old, end.wrap);
         store_slot(cache, flags, start, end.slot, mask, slot);
-        end = onward(slots, end);
+        end = end.onward(slots);
     }
     end
 }
@@ -92,25 +95,24 @@ pub fn append(
     start: usize,
     slots: usize,
     lane: usize,
-    writes: Writes,
+    writes: &[Write],
     stamp: u64,
     cursor: Cursor,
 ) -> Cursor
-    requires loggable { Loggable writes }
+    requires loggable { Loggable writes.now }
     requires within { Within slots cursor }
     requires log_at { LogAt start slots lane cache.old flags.old }
     requires stamp_bound { stamp + 1 < 2 ^ 64 }
-    ensures last { result ≡ advance slots (writes.count + 1) cursor }
+    ensures last { result ≡ advance slots (length writes.now + 1) cursor }
     ensures written { cache.new
-        ≡ stored (append_stores start slots stamp cursor (take writes.count writes.list)) cache.old }
+        ≡ stored (append_stores start slots stamp cursor writes.now) cache.old }
     ensures flushed { flags.new
-        ≡ flush_all lane (places (append_stores start slots stamp cursor (take writes.count writes.list)))
-        flags.old }
+        ≡ flush_all lane (places (append_stores start slots stamp cursor writes.now)) flags.old }
 {
     let end = append_entries(cache, flags, start, slots, lane, writes, cursor);
-    let slot = Slot::stamp(writes.count, stamp, end.wrap);
+    let slot = Slot::stamp(writes.len(), stamp, end.wrap);
     store_slot(cache, flags, start, end.slot, flush::lane_mask(lane), slot);
-    onward(slots, end)
+    end.onward(slots)
 }
 
 // Replaces the timestamp in slot j, of which only the value word changes, and flushes that word. Its wrap bit is that

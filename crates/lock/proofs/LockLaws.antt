@@ -1,20 +1,16 @@
 -- Inner: how the code goes, need not be believed. Laws of Lock and Continue: a law for each return of their checks, of Lock's plan and of their steps; what
 -- they know where they are not refused. Assumes nothing.
-use Rattle.std.specs.Prelude.{ℕ, ◌+◌, ◌-◌, ◌/◌, ◌^◌, ◌≤◌, ◌<◌, ◌≡◌, Bool, true, false, cond, ◌&&◌, List, [], ◌∷◌, ◌++◌, leb, eqb, take, drop}
+use Rattle.std.specs.Prelude.{ℕ, ◌+◌, ◌-◌, ◌/◌, ◌^◌, ◌≤◌, ◌<◌, ◌≡◌, Bool, true, false, cond, ◌&&◌, List, [], ◌∷◌, ◌++◌, leb, eqb, take, drop, Option, Some, None, Result, Ok, Err, IsErrAnd}
 use Rattle.std.proofs.Math.Path.{refl, sym, ap}
-use Rattle.std.proofs.Common.{◌∙◌, append-nil, arith, length-drop, drop_of_length-le, take_at, drop_at}
+use Rattle.std.proofs.Common.{length-append, ◌∙◌, append-nil, arith, length-drop, drop_of_length-le, take_at, drop_at}
 use Rattle.std.proofs.Math.Decide.{ℕ_discrete}
 use Rattle.std.proofs.Math.ListN.{length}
 use borrow.Rule.Slice.PartMut.{put_mid}
 use borrow.Author.Tests.{eq-eqb, ne_eqb, eqb-true, le-leb, lt-ltb, le-ltb, ltb-false, not-false}
 use Rattle.laws.specs.inner.Tests.{split}
-use Rattle.txn.specs.Txn.{max_writes, max_long, current, txn_ok, run}
+use Rattle.txn.specs.Txn.{max_writes, max_long, current, txn_ok}
 use Rattle.txn.specs.inner.CheckLaws.{ok-some}
-use Rattle.txn.specs.inner.Writes.{padded, writes_of, long_writes_of}
-use Rattle.txn.specs.inner.WritesLaws.{length-padded}
-use Rattle.txn.specs.declared.LongWrites.{LongWrites}
 use Rattle.txn.specs.declared.Write.{Write}
-use Rattle.txn.specs.declared.Writes.{Writes}
 use Rattle.image.specs.Image.{max_words, max_lanes, data_of, log_start}
 use Rattle.image.specs.inner.Facts.{IsImage}
 use Rattle.image.specs.inner.ImageLaws.{sizes-in}
@@ -26,38 +22,36 @@ use Rattle.lane_log.specs.Log.{latest_in}
 use Rattle.lane_log.specs.Append.{advance, append_stores}
 use Rattle.lane_log.specs.inner.AppendEntries.{Loggable}
 use Rattle.lane_log.specs.declared.Cursor.{Cursor}
-use Rattle.lane_log.specs.declared.Latest.{Latest}
-use Rattle.lane_log.specs.declared.Timestamp.{Timestamp}
 use Rattle.record.specs.Record.{lane_at, cursor_of, is_logged, lock_length, pairs_from, is_held, locked_in, part_length, pairs_ok, spent, pairs_of, words_of_pairs}
 use Rattle.record.specs.Record.{with_lane, with_clock, with_last, with_lock, floor_after_drain, floor_after_append, drained_lane, appended_lane}
 use Rattle.record.specs.inner.RecordLaws.{HeldIn, held_in, record-in, part-most, part-few, clock-next, lane-twice}
 use Rattle.record.specs.declared.Locked.{Locked}
-use Rattle.record.specs.declared.Lock.TheVariants.{Free, Held}
 use Rattle.record.specs.declared.Pair.{Pair}
-use Rattle.record.specs.declared.Phase.TheVariants.{Idle}
 use Rattle.record.specs.declared.Record.{Record}
 use Rattle.codec.specs.Fields.{record_length, state_length, record_in, pairs_in, words_of}
 use Rattle.codec.specs.inner.FieldsLaws.{tail-is}
 use Rattle.codec.specs.inner.InPlace.{headed}
 use Rattle.codec.specs.inner.ReadLaws.{lanes-read}
-use Rattle.store.specs.declared.Answer.TheVariants as answer
+use Rattle.store.specs.Answers as answer
+use Rattle.store.specs.declared.Refusal.{Refusal}
 use Rattle.store.specs.Machine.{Machine, Step, Cause, first_cause, said}
 use Rattle.store.specs.Calls.{bad_buffers, bad_record, bad_lane, bad_txn, already_logged, lock_held, clock_spent, drain_refusal, drained, changed, would_lag, would_hit}
 use Rattle.store.specs.Calls.{writes_on, pair_stores}
 use Rattle.store.specs.Locks.{slots_counted, lock_refusal, locked, lock_step, proceed_refusal, part_of, pair_writes, part_logged, part_written_state, part_written}
 use Rattle.store.specs.Locks.{next_step, proceed_step}
-use Rattle.store.specs.Interface.{machine_of, machine_in, kept_by, keeps}
+use Rattle.store.specs.Interface.{machine_of, machine_in, kept_by, keeps, refusal_of}
 use Rattle.store.specs.inner.Checked.{Checked, drained_state}
 use Rattle.store.specs.inner.StoreLaws.{first_holds, first-fails, first-none, first-end, refuses-txn, passes-txn, checked, lane-small, at-lane, after-lane}
 use Rattle.store.specs.inner.StoreLaws.{lane-passed, step-taken, drained-by, drained-lane}
 use Rattle.store.specs.inner.KeepsLaws.{keeps-taken, pairs-long, record-long}
-use Rattle.store.specs.inner.CachedWritesLaws.{data-part, count_of, full-list, writes-of}
+use Rattle.store.specs.inner.CachedWritesLaws.{data-part}
 use Rattle.append.specs.inner.Plans.{room_refusal, Searchable, Appendable}
 use Rattle.commit.specs.inner.Commit.{PairsInside}
 use Rattle.append.specs.inner.LogMarkLaws.{room_bound, first_more, some, lane-held, searchable, refuses}
 use Rattle.lock.specs.declared.Plan.{Plan}
-use Rattle.lock.specs.inner.Parts.{too_many, lock_checks, Planned, taken_state, PairsHeld, logged_held, logged_state, PartAt, logged_step, written_step}
-use Rattle.lock.specs.inner.PartsLaws.{pairs-padded, length_pairs, length-writes, writes-low, part-inside, part-ok, part-words}
+use Rattle.lock.specs.inner.Parts.{too_many, lock_checks, Found, Planned, taken_state, PairsHeld, logged_held, logged_state, PartAt, logged_step, written_step}
+use Rattle.lock.specs.inner.PartsLaws.{length_pairs, length-writes, writes-low, part-inside, part-ok, part-words}
+use Rattle.lane_log.specs.declared.Sequence.{Sequence}
 
 -- ---- Lock's refusals before it runs the transaction
 module _ (z : Sizes) (L : ℕ) (f : List ℕ) (m : Machine) where
@@ -154,57 +148,37 @@ module _ (z : Sizes) (L : ℕ) (f : List ℕ) (m : Machine) where
       ∙ first-fails _ _ u.free
       ∙ first-fails _ _ (le-ltb _ _ u.room)
 
--- ---- the writes as the code hands them on
-module _ (w : LongWrites) (ws : List Write) (e : w ≡ long_writes_of max_long ws) where
-  pub long-count : w.count ≡ length ws
-  unfolding long_writes_of
-  long-count = ap (λ (v : LongWrites). v.count) e
-
-  long-list : w.list ≡ padded max_long ws
-  unfolding long_writes_of
-  long-list = ap (λ (v : LongWrites). v.list) e
-
-  pub long-full : length w.list ≡ max_long
-  long-full = rw long-list (length-padded max_long ws)
-
-  pub long-pairs : words_of_pairs (pairs_of max_long w.list) ≡ words_of_pairs (pairs_of max_long ws)
-  long-pairs = rw long-list (ap words_of_pairs (pairs-padded max_long ws))
-
--- on a machine's data words they are what Lock's refusal and step speak of
-pub long-on : (z : Sizes) (t : List ℕ) (w : LongWrites) (state : Record) (pairs cache nvm flags : List ℕ)
-    → w ≡ long_writes_of max_long (run z.words t (data_of z cache)) → w ≡ long_writes_of max_long (writes_on z t (machine_of state pairs cache nvm flags))
-unfolding writes_on
-long-on z t w state pairs cache nvm flags e = e
-
 -- ---- Lock's plan
-module _ (z : Sizes) (L : ℕ) (f : List ℕ) (m : Machine) (u : Unrefused z L f m) (w : LongWrites) (v : w ≡ long_writes_of max_long (writes_on z f m)) where
+module _ (z : Sizes) (L : ℕ) (f : List ℕ) (m : Machine) (u : Unrefused z L f m) (w : List Write) (v : w ≡ writes_on z f m) where
   -- a transaction that writes nothing is not refused for want of room
-  pub lock-nothing : w.count ≡ 0 → 0 ≡ lock_refusal z L f m
+  pub lock-nothing : length w ≡ 0 → 0 ≡ lock_refusal z L f m
   lock-nothing e =
-      let n : length (writes_on z f m) ≡ 0 = sym (long-count w _ v) ∙ e in
+      let n : length (writes_on z f m) ≡ 0 = sym (ap length v) ∙ e in
       sym (lock-left z L f m u ∙ first-fails _ _ (rw n) ∙ first-fails _ _ (rw n) ∙ first-fails _ _ (rw n) ∙ first-end)
 
-  writes-some : (w.count ≡ 0 → ⊥) → leb 1 (length (writes_on z f m)) ≡ true
-  writes-some h = le-leb 1 (length (writes_on z f m)) (some _ (λ d. h (long-count w _ v ∙ d)))
+  writes-some : (length w ≡ 0 → ⊥) → leb 1 (length (writes_on z f m)) ≡ true
+  writes-some h = le-leb 1 (length (writes_on z f m)) (some _ (λ d. h (ap length v ∙ d)))
 
   -- one that writes has the refusals of an append of the slots counted
   pub lock-room : (number n : ℕ) (binds : Bool) → number ≡ room_refusal z m.state m.cache L n binds → n ≡ length f / 4 + (length f / 4 + 15) / 16
-      → binds ≡ true → (w.count ≡ 0 → ⊥) → number ≡ lock_refusal z L f m
+      → binds ≡ true → (length w ≡ 0 → ⊥) → number ≡ lock_refusal z L f m
   unfolding clock_spent slots_counted
   lock-room number n binds r e b h = r ∙ rw (e, b) (room_bound z L (slots_counted f) m ∙ sym (lock-left z L f m u ∙ rw (writes-some h)))
 
-  lock-unspent : lock_refusal z L f m ≡ 0 → (w.count ≡ 0 → ⊥) → spent m.state ≡ false
+  lock-unspent : lock_refusal z L f m ≡ 0 → (length w ≡ 0 → ⊥) → spent m.state ≡ false
   lock-unspent e h =
       let a = first-none _ _ (λ d. omega arith) (sym (lock-left z L f m u) ∙ e) in
       let b : (leb 1 (length (writes_on z f m)) && spent m.state) ≡ false = a.0 in
       rw (writes-some h) at b
 
-pub planned-refused : (p : Plan) (refusal : ℕ) (ws : List Write) (q : Latest) → p.number ≡ refusal → (p.number ≡ 0 → ⊥) → Planned p refusal ws q
-planned-refused p refusal ws q e h = record { number = e; writes = λ d. absurd (h d); latest = λ d. absurd (h d) }
+pub planned-err : (refusal : ℕ) (ws : List Write) (q : Option Sequence) (r : Result Plan Refusal) (e : Refusal) → IsErrAnd r (λ x. x ≡ e)
+    → refusal_of (Err e) ≡ refusal → Planned r refusal ws q
+planned-err refusal ws q (Ok p) e a h = elim a [ ]
+planned-err refusal ws q (Err x) e a h = rw a h
 
 -- the slots counted can be searched
 pub lock-searchable : (z : Sizes) (state : Record) (pairs cache nvm flags : List ℕ) (L : ℕ) (f : List ℕ)
-    → Unrefused z L f (machine_of state pairs cache nvm flags) → length state.lanes ≡ max_lanes → (q : Latest) (n : ℕ) → q ≡ latest_in z cache L
+    → Unrefused z L f (machine_of state pairs cache nvm flags) → length state.lanes ≡ max_lanes → (q : Option Sequence) (n : ℕ) → q ≡ latest_in z cache L
     → n ≡ length f / 4 + (length f / 4 + 15) / 16
     → Searchable z state q cache L n
 unfolding slots_counted
@@ -225,27 +199,26 @@ lock_taken z L f m =
 pub record Known (z : Sizes) (state : Record) (pairs cache nvm flags : List ℕ) (L : ℕ) (ws : List Write) (plan : Plan) : Type 0 where
   pub checked : Checked z state pairs cache nvm flags L
   pub small : L < max_lanes
-  pub writes : plan.writes ≡ long_writes_of max_long ws
+  pub writes : plan.writes ≡ ws
   pub latest : plan.latest ≡ latest_in z cache L
-  pub room : (plan.writes.count ≡ 0 → ⊥) → state.clock + 2 < 2 ^ 64
+  pub room : (length plan.writes ≡ 0 → ⊥) → state.clock + 2 < 2 ^ 64
 
 module _ (z : Sizes) (state : Record) (pairs cache nvm flags : List ℕ) (L : ℕ) (plan : Plan) (f : List ℕ)
-    (p : Planned plan (lock_refusal z L f (machine_of state pairs cache nvm flags)) (writes_on z f (machine_of state pairs cache nvm flags)) (latest_in z cache L))
-    (e : plan.number ≡ 0) where
+    (p : Found plan (lock_refusal z L f (machine_of state pairs cache nvm flags)) (writes_on z f (machine_of state pairs cache nvm flags)) (latest_in z cache L)) where
   abbrev machine : Machine
   machine = machine_of state pairs cache nvm flags
 
   pub lock-known : Known z state pairs cache nvm flags L (writes_on z f (machine_of state pairs cache nvm flags)) plan
   lock-known =
-      let n = sym p.number ∙ e in
+      let n = p.number in
       let u = unrefused z L f machine (lock-checked z L f machine n) in
       let k = checked z state pairs cache nvm flags L u.at-lane in
       record {
         checked = k;
         small = lane-small z L k.image.sizes-ok k.lane_below;
-        writes = p.writes e;
-        latest = p.latest e;
-        room = λ h. clock-next state (lock-unspent z L f machine u plan.writes (p.writes e) n h);
+        writes = p.writes;
+        latest = p.latest;
+        room = λ h. clock-next state (lock-unspent z L f machine u plan.writes p.writes n h);
       }
 
   -- ---- Lock's steps, from the plan and from what the drain leaves
@@ -255,33 +228,33 @@ module _ (z : Sizes) (state : Record) (pairs cache nvm flags : List ℕ) (L : �
 
     taken : (step : Step) → step ≡ lock_taken z L f machine → step ≡ lock_step z L f machine
     unfolding lock_step
-    taken step a = a ∙ step-taken _ _ _ _ p.number e
+    taken step a = a ∙ step-taken _ _ _ _ (sym p.number) refl
 
     -- a transaction that writes nothing drains its lane
-    pub lock-drains : (before ws : List ℕ) → ws ≡ words_of (with_lane state L (drained_lane plan.latest (lane_at state L))) → plan.writes.count ≡ 0
+    pub lock-drains : (before ws : List ℕ) → ws ≡ words_of (with_lane state L (drained_lane plan.latest (lane_at state L))) → length plan.writes ≡ 0
         → kept_by answer.NoWrites (ws ++ pairs) cache nvm' flags' ≡ keeps before (lock_step z L f (machine_of state pairs cache nvm flags))
     unfolding said drained_state
     lock-drains before ws d h =
         keeps-taken before answer.NoWrites (drained_state z cache L state) ws pairs cache nvm' flags' _
-        (rw now-drained (taken _ (rw (sym (long-count _ _ (p.writes e)) ∙ h)))) refl
-        (d ∙ rw (p.latest e))
+        (rw now-drained (taken _ (rw (sym (ap length p.writes) ∙ h)))) refl
+        (d ∙ rw p.latest)
 
     -- one that writes takes the lock
-    module _ (pairs' : List ℕ) (q : pairs' ≡ words_of_pairs (pairs_of max_long plan.writes.list)) (s : ℕ) (c : s ≡ state.clock + 2) where
-      locked-is : machine_of (taken_state state L plan.latest s plan.writes.count) pairs' cache nvm' flags'
+    module _ (pairs' : List ℕ) (q : pairs' ≡ words_of_pairs (pairs_of max_long plan.writes)) (s : ℕ) (c : s ≡ state.clock + 2) where
+      locked-is : machine_of (taken_state state L plan.latest s (length plan.writes)) pairs' cache nvm' flags'
           ≡ locked L (writes_on z f machine) (machine_of (drained_state z cache L state) pairs cache nvm' flags')
       unfolding locked taken_state drained_state with_lane
-      locked-is = rw (q, c, p.latest e, long-pairs _ _ (p.writes e), long-count _ _ (p.writes e))
+      locked-is = rw (q, c, p.latest, p.writes)
 
-      pub lock-takes : (before ws exit : List ℕ) → exit ≡ ws ++ pairs' → ws ≡ words_of (taken_state state L plan.latest s plan.writes.count)
-          → (plan.writes.count ≡ 0 → ⊥)
-          → kept_by (answer.Locked (record { left = plan.writes.count; stamp = s })) exit cache nvm' flags'
+      pub lock-takes : (before ws exit : List ℕ) → exit ≡ ws ++ pairs' → ws ≡ words_of (taken_state state L plan.latest s (length plan.writes))
+          → (length plan.writes ≡ 0 → ⊥)
+          → kept_by (answer.Locked (record { left = length plan.writes; stamp = s })) exit cache nvm' flags'
           ≡ keeps before (lock_step z L f (machine_of state pairs cache nvm flags))
       unfolding said
       lock-takes before ws exit x d h =
-          let n : plan.writes.count ≡ length (writes_on z f machine) = long-count _ _ (p.writes e) in
+          let n : length plan.writes ≡ length (writes_on z f machine) = ap length p.writes in
           rw x
-          (keeps-taken before _ (taken_state state L plan.latest s plan.writes.count) ws pairs' cache nvm' flags' _
+          (keeps-taken before _ (taken_state state L plan.latest s (length plan.writes)) ws pairs' cache nvm' flags' _
           (taken _ (rw (locked-is, now-drained, c, n, ne_eqb (length (writes_on z f machine)) 0 (λ b. h (n ∙ b))))) refl d)
 
 -- pairs put behind the record's words, as a part of the slice: as many as there were, and the slice is then the words and they
@@ -297,6 +270,13 @@ pairs-put ws ps new e =
     ∙ ap (λ (t : List ℕ). ws ++ (new ++ t))
     (drop_of_length-le (drop record_length xs) {i = length xs - record_length} (omega (arith, length-drop record_length xs)))
     ∙ ap (λ (t : List ℕ). ws ++ t) (append-nil new)
+
+-- the same, where the pairs are the last words as an array
+pub pairs-stored : (ws ps new : List ℕ) → length ps ≡ lock_length
+    → take (length (ws ++ ps) - lock_length) (ws ++ ps) ++ new ≡ ws ++ new
+pairs-stored ws ps new h =
+    let n : length (ws ++ ps) - lock_length ≡ length ws = omega (arith, length-append ws ps, h) in
+    ap (λ k. take k (ws ++ ps) ++ new) n ∙ ap (λ (t : List ℕ). t ++ new) (take_at ws ps (length ws) refl)
 
 -- a refused Lock
 pub lock-refuses : (z : Sizes) (L : ℕ) (f state cache nvm flags : List ℕ) (number : ℕ) → number ≡ lock_refusal z L f (machine_in state cache nvm flags)
@@ -341,7 +321,7 @@ module _ (z : Sizes) (state : Record) (pairs cache nvm flags : List ℕ) (L : �
       record { known = checked z state pairs cache nvm flags L a.0; held = not-false _ b.0; own = eqb-true _ L (not-false _ c.0) }
 
 -- and after it
-pub part_at : (z : Sizes) (state cache nvm flags : List ℕ) (L : ℕ) (q : Latest) (flags' : List ℕ) (k : Locked)
+pub part_at : (z : Sizes) (state cache nvm flags : List ℕ) (L : ℕ) (q : Option Sequence) (flags' : List ℕ) (k : Locked)
     → Accepted z (record_in state) (pairs_in state) cache nvm flags L
     → q ≡ latest_in z cache L → flags' ≡ drained_flags L flags → k ≡ locked_in (record_in state).lock → PartAt z state q cache flags' k
 unfolding cursor_of
@@ -374,35 +354,31 @@ pub part-makeable : (W : ℕ) (ps : List ℕ) (k : Locked) → PairsHeld W ps k 
     → (k.written + n ≤ max_long) × ((n ≤ max_writes) × (pairs_ok size (pairs_from ps k.written n) ≡ true))
 part-makeable W ps k h n e size g = rw (e, g) (part-inside W ps k h, (part-few k, part-ok W ps k h))
 
-pub part-made : (ps : List ℕ) (k : Locked) (n : ℕ) (ws₁ ws₂ : List ℕ) (w : Writes) → n ≡ part_length k → ws₁ ≡ ws₂
-    → w ≡ writes_of max_writes (pair_writes (pairs_from ps k.written n) ws₁) → w ≡ writes_of max_writes (pair_writes (part_of k ps) ws₂)
+pub part-made : (ps : List ℕ) (k : Locked) (n : ℕ) (ws₁ ws₂ : List ℕ) (w : List Write) → n ≡ part_length k → ws₁ ≡ ws₂
+    → w ≡ pair_writes (pairs_from ps k.written n) ws₁ → w ≡ pair_writes (part_of k ps) ws₂
 unfolding part_of
 part-made ps k n ws₁ ws₂ w e g h = h ∙ rw (e, g)
 
-pub writes-tail : (k : Locked) (ps ps₂ ws : List ℕ) (w : Writes) → ps ≡ ps₂ → w ≡ writes_of max_writes (pair_writes (part_of k ps) ws)
-    → w ≡ writes_of max_writes (pair_writes (part_of k ps₂) ws)
+pub writes-tail : (k : Locked) (ps ps₂ ws : List ℕ) (w : List Write) → ps ≡ ps₂ → w ≡ pair_writes (part_of k ps) ws
+    → w ≡ pair_writes (part_of k ps₂) ws
 writes-tail k ps ps₂ ws w t e = e ∙ rw t
 
 -- and may be appended
-module _ (z : Sizes) (ps ws : List ℕ) (k : Locked) (w : Writes) (e : w ≡ writes_of max_writes (pair_writes (part_of k ps) ws)) where
+module _ (z : Sizes) (ps ws : List ℕ) (k : Locked) (w : List Write) (e : w ≡ pair_writes (part_of k ps) ws) where
   part_count : length (pair_writes (part_of k ps) ws) ≡ part_length k
   unfolding part_of
   part_count = length-writes (pairs_from ps k.written (part_length k)) ws ∙ length_pairs ps k.written (part_length k)
 
-  part-list : take w.count w.list ≡ pair_writes (part_of k ps) ws
-  part-list = writes-of w _ e (omega (arith, part_count, part-few k))
-
   pub part-loggable : PairsHeld z.words ps k → z.words ≤ max_words → Loggable w
   unfolding part_of
   part-loggable h l = record {
-    few = omega (arith, count_of w _ e, part_count, part-few k);
-    full = full-list w _ e;
-    low = rw part-list (writes-low z.words max_words _ ws (part-ok z.words ps k h) l);
+    few = omega (arith, ap length e, part_count, part-few k);
+    low = rw e (writes-low z.words max_words _ ws (part-ok z.words ps k h) l);
   }
 
-pub part-appendable : (z : Sizes) (state : List ℕ) (q : Latest) (cache flags : List ℕ) (k : Locked) (cursor : Cursor) (w : Writes)
+pub part-appendable : (z : Sizes) (state : List ℕ) (q : Option Sequence) (cache flags : List ℕ) (k : Locked) (cursor : Cursor) (w : List Write)
     → PartAt z state q cache flags k → cursor ≡ cursor_of (lane_at (record_in state) k.lane)
-    → w ≡ writes_of max_writes (pair_writes (part_of k (pairs_in state)) (data_of z cache)) → k.stamp < 2 ^ 64
+    → w ≡ pair_writes (part_of k (pairs_in state)) (data_of z cache) → k.stamp < 2 ^ 64
     → Appendable z cursor cache flags k.lane w k.stamp
 part-appendable z state q cache flags k cursor w p l e b = record {
   image = p.image;
@@ -414,7 +390,7 @@ part-appendable z state q cache flags k cursor w p l e b = record {
       (sizes-in z p.image.sizes-ok).words-high;
 }
 
-module _ (z : Sizes) (state : List ℕ) (q : Latest) (cache flags : List ℕ) (k : Locked) (p : PartAt z state q cache flags k) where
+module _ (z : Sizes) (state : List ℕ) (q : Option Sequence) (cache flags : List ℕ) (k : Locked) (p : PartAt z state q cache flags k) where
   -- the words are as many as a record and its pairs have
   pub part-long : length state ≡ state_length
   part-long = pairs-long state p.in_pairs
@@ -444,61 +420,61 @@ module _ (z : Sizes) (state : List ℕ) (q : Latest) (cache flags : List ℕ) (k
     pub part-copyable : (length ps ≡ lock_length) × ((k.written + n ≤ max_long) × (n ≤ max_writes))
     part-copyable = (rw t p.in_pairs, (omega (arith, part_left n e, p.held.most), rw e (part-few k)))
 
-    pub part-writable : (part : List Pair) → take n part ≡ pairs_from ps k.written n
-        → (k.lane < max_lanes) × ((n ≤ max_writes) × ((length flags ≡ length cache) × PairsInside (length cache) n part))
+    pub part-writable : (part : List Pair) → part ≡ pairs_from ps k.written n
+        → (k.lane < max_lanes) × ((length flags ≡ length cache) × PairsInside (length cache) part)
     part-writable part c =
         let o : pairs_ok z.words (pairs_from ps k.written n) ≡ true =
         rw (e, t) (part-ok z.words (pairs_in state) k (pairs-held z (record_in state).clock (pairs_in state) k p.held)) in
         let i = part-words z.words ps k.written n (length cache) part c o (data-part z cache p.image).inside in
-        (part_small, (part-copyable.1.1, (p.same_flags, i)))
+        (part_small, (p.same_flags, i))
 
 -- ---- the record as it is stored
 -- a lock taken: the clock, the lock, then the lane's floor
-pub taken-words : (r r₁ r₂ : Record) (ws : List ℕ) (L : ℕ) (q : Latest) (s n : ℕ) → r₁ ≡ with_clock r s
-    → r₂ ≡ with_lock r₁ (Held (record { lane = L; stamp = s; count = n; logged = 0; written = 0 }))
+pub taken-words : (r r₁ r₂ : Record) (ws : List ℕ) (L : ℕ) (q : Option Sequence) (s n : ℕ) → r₁ ≡ with_clock r s
+    → r₂ ≡ with_lock r₁ (Some (record { lane = L; stamp = s; count = n; logged = 0; written = 0 }))
     → ws ≡ words_of (with_lane r₂ L (drained_lane q (lane_at r₂ L))) → ws ≡ words_of (taken_state r L q s n)
 unfolding taken_state with_clock with_lock with_lane lane_at
 taken-words r r₁ r₂ ws L q s n e₁ e₂ e₃ = e₃ ∙ rw (e₂, e₁)
 
 -- a part logged: the lock, then the lane without its redo log
-pub logged-words : (r r₁ r₂ : Record) (ws : List ℕ) (q : Latest) (k : Locked) (end : Cursor) (n : ℕ) (old drained floor : Timestamp) → n ≡ part_length k
+pub logged-words : (r r₁ r₂ : Record) (ws : List ℕ) (q : Option Sequence) (k : Locked) (end : Cursor) (n : ℕ) (old drained floor : Option ℕ) → n ≡ part_length k
     → old ≡ (lane_at r k.lane).floor → drained ≡ floor_after_drain q old → floor ≡ floor_after_append k.stamp drained
-    → r₁ ≡ with_lock r (Held (record { lane = k.lane; stamp = k.stamp; count = k.count; logged = k.logged + n; written = k.written }))
-    → r₂ ≡ with_lane r₁ k.lane (headed Idle end floor (lane_at r₁ k.lane)) → ws ≡ words_of r₂ → ws ≡ words_of (logged_state r q k end)
+    → r₁ ≡ with_lock r (Some (record { lane = k.lane; stamp = k.stamp; count = k.count; logged = k.logged + n; written = k.written }))
+    → r₂ ≡ with_lane r₁ k.lane (headed None end floor (lane_at r₁ k.lane)) → ws ≡ words_of r₂ → ws ≡ words_of (logged_state r q k end)
 unfolding logged_state logged_held headed appended_lane drained_lane with_lock lane_at
 logged-words r r₁ r₂ ws q k end n old drained floor e₁ e₂ e₃ e₄ e₅ e₆ e₇ = e₇ ∙ rw (e₆, e₅, e₄, e₃, e₂, e₁)
 
 -- a part written: the last one commits, and frees the lock
 module _ (k : Locked) (r r₂ : Record) (n : ℕ) (e : n ≡ part_length k) where
-  pub state-last : (r₁ : Record) → r₁ ≡ with_last r k.stamp → r₂ ≡ with_lock r₁ Free → k.written + n ≡ k.count → r₂ ≡ part_written_state k r
+  pub state-last : (r₁ : Record) → r₁ ≡ with_last r k.stamp → r₂ ≡ with_lock r₁ None → k.written + n ≡ k.count → r₂ ≡ part_written_state k r
   unfolding part_written_state
   state-last r₁ f g h = g ∙ rw (f, ← e, eq-eqb (k.written + n) k.count h)
 
-  pub state-more : r₂ ≡ with_lock r (Held (record { lane = k.lane; stamp = k.stamp; count = k.count; logged = k.logged; written = k.written + n }))
+  pub state-more : r₂ ≡ with_lock r (Some (record { lane = k.lane; stamp = k.stamp; count = k.count; logged = k.logged; written = k.written + n }))
       → (k.written + n ≡ k.count → ⊥) → r₂ ≡ part_written_state k r
   unfolding part_written_state
   state-more g h = g ∙ rw (← e, ne_eqb (k.written + n) k.count h)
 
 -- and a lane drained: in either order
-written-drained : (k : Locked) (r : Record) (L : ℕ) (q : Latest)
+written-drained : (k : Locked) (r : Record) (L : ℕ) (q : Option Sequence)
     → with_lane (part_written_state k r) L (drained_lane q (lane_at (part_written_state k r) L)) ≡ part_written_state k (with_lane r L (drained_lane q (lane_at r L)))
 unfolding part_written_state with_lock with_last with_lane lane_at
 written-drained k r L q = split (eqb (k.written + part_length k) k.count) (λ e. rw e) (λ e. rw e)
 
 -- ---- Continue's steps on a drained machine, from the record before the drain
-module _ (z : Sizes) (k : Locked) (r : Record) (pairs cache nvm flags : List ℕ) (q : Latest) (d : q ≡ latest_in z cache k.lane)
+module _ (z : Sizes) (k : Locked) (r : Record) (pairs cache nvm flags : List ℕ) (q : Option Sequence) (d : q ≡ latest_in z cache k.lane)
     (before ws cache' flags' : List ℕ) where
   -- a part logged
-  module _ (w : Writes) (cursor end : Cursor) (small : k.lane < length r.lanes) (e : w ≡ writes_of max_writes (pair_writes (part_of k pairs) (data_of z cache)))
-      (l : cursor ≡ cursor_of (lane_at r k.lane)) (a : end ≡ advance z.slots (w.count + 1) cursor) where
+  module _ (w : List Write) (cursor end : Cursor) (small : k.lane < length r.lanes) (e : w ≡ pair_writes (part_of k pairs) (data_of z cache))
+      (l : cursor ≡ cursor_of (lane_at r k.lane)) (a : end ≡ advance z.slots (length w + 1) cursor) where
     logged-once : logged_state r q k end
-        ≡ with_lane (with_lock (drained_state z cache k.lane r) (Held (logged_held k))) k.lane
-        (appended_lane k.stamp end Idle (lane_at r k.lane).redo (drained_lane (latest_in z cache k.lane) (lane_at r k.lane)))
+        ≡ with_lane (with_lock (drained_state z cache k.lane r) (Some (logged_held k))) k.lane
+        (appended_lane k.stamp end None (lane_at r k.lane).redo (drained_lane (latest_in z cache k.lane) (lane_at r k.lane)))
     unfolding logged_state drained_state with_lock with_lane
-    logged-once = rw d (sym (lane-twice (with_lock r (Held (logged_held k))) k.lane _ _))
+    logged-once = rw d (sym (lane-twice (with_lock r (Some (logged_held k))) k.lane _ _))
 
-    logged-is : cache' ≡ stored (append_stores (log_start z k.lane) z.slots k.stamp cursor (take w.count w.list)) cache
-        → flags' ≡ flush_all k.lane (places (append_stores (log_start z k.lane) z.slots k.stamp cursor (take w.count w.list))) flags
+    logged-is : cache' ≡ stored (append_stores (log_start z k.lane) z.slots k.stamp cursor w) cache
+        → flags' ≡ flush_all k.lane (places (append_stores (log_start z k.lane) z.slots k.stamp cursor w)) flags
         → machine_of (logged_state r q k end) pairs cache' nvm flags' ≡ part_logged z k (machine_of (drained_state z cache k.lane r) pairs cache nvm flags)
     unfolding part_logged changed logged_held cursor_of drained_lane
     logged-is c f =
@@ -509,14 +485,13 @@ module _ (z : Sizes) (k : Locked) (r : Record) (pairs cache nvm flags : List ℕ
           f,
           a,
           l,
-          part-list z pairs (data_of z cache) k w e,
-          count_of w _ e,
+          e,
           n,
           drained-lane z cache k.lane r small,
         )
 
-    pub part-logs : cache' ≡ stored (append_stores (log_start z k.lane) z.slots k.stamp cursor (take w.count w.list)) cache
-        → flags' ≡ flush_all k.lane (places (append_stores (log_start z k.lane) z.slots k.stamp cursor (take w.count w.list))) flags
+    pub part-logs : cache' ≡ stored (append_stores (log_start z k.lane) z.slots k.stamp cursor w) cache
+        → flags' ≡ flush_all k.lane (places (append_stores (log_start z k.lane) z.slots k.stamp cursor w)) flags
         → ws ≡ words_of (logged_state r q k end)
         → kept_by (answer.Locked (record { left = k.count - k.written; stamp = k.stamp })) (ws ++ pairs) cache' nvm flags'
         ≡ keeps before (logged_step z k (machine_of (drained_state z cache k.lane r) pairs cache nvm flags))
@@ -524,9 +499,9 @@ module _ (z : Sizes) (k : Locked) (r : Record) (pairs cache nvm flags : List ℕ
     part-logs c f g = keeps-taken before _ (logged_state r q k end) ws pairs cache' nvm flags' _ (rw (logged-is c f)) refl g
 
   -- a part written
-  pub part-writes : (part : List Pair) (n : ℕ) (ps : List ℕ) (r₁ : Record) → n ≡ part_length k → ps ≡ pairs → take n part ≡ pairs_from ps k.written n
-      → cache' ≡ stored (pair_stores (take n part)) cache
-      → flags' ≡ flush_all k.lane (places (pair_stores (take n part))) flags → r₁ ≡ part_written_state k r
+  pub part-writes : (part : List Pair) (n : ℕ) (ps : List ℕ) (r₁ : Record) → n ≡ part_length k → ps ≡ pairs → part ≡ pairs_from ps k.written n
+      → cache' ≡ stored (pair_stores part) cache
+      → flags' ≡ flush_all k.lane (places (pair_stores part)) flags → r₁ ≡ part_written_state k r
       → ws ≡ words_of (with_lane r₁ k.lane (drained_lane q (lane_at r₁ k.lane)))
       → kept_by (answer.Locked (record { left = k.count - (k.written + n); stamp = k.stamp })) (ws ++ pairs) cache' nvm flags'
       ≡ keeps before (written_step k (machine_of (drained_state z cache k.lane r) pairs cache nvm flags))

@@ -1,4 +1,5 @@
 -- Laws for loops over a list's first elements, here and over the record's words: one element more, an element that fails. Assumes nothing.
+use Rattle.std.specs.Prelude.{None}
 use mathlib.Core.Path.{◌≡◌, refl, sym, ap, ◌∙◌}
 use mathlib.Core.Bool.{true, false}
 use mathlib.Core.List.{List, [], ◌∷◌}
@@ -14,7 +15,6 @@ use Rattle.laws.specs.inner.Tests.{and_left, and_right, and_both}
 use Rattle.txn.specs.inner.Writes.{no_write}
 use Rattle.txn.specs.declared.Write.{Write}
 use Rattle.image.specs.declared.Sizes.{Sizes}
-use Rattle.lane_log.specs.declared.Timestamp.TheVariants.{None}
 use Rattle.record.specs.declared.Pair.{Pair}
 use Rattle.record.specs.declared.Lane.{Lane}
 use Rattle.record.specs.Record.{no_pair, no_lane, pair_at, pairs_from, pairs_ok, lane_ok, lanes_ok, lesser, least_floor, pairs_of}

@@ -1,24 +1,17 @@
 -- The record: its start, the lock and its pairs, the range check, floors, the lower bound, the lag limit, updates. SPECIFICATION, "Record". Assumes nothing.
-use Rattle.std.specs.Prelude.{ℕ, zero, suc, ◌+◌, ◌-◌, ◌*◌, ◌%◌, ◌^◌, min, Bool, true, false, not, ◌&&◌, ◌||◌, List, [], ◌∷◌, leb, ltb, eqb, get_or, set, take, replicate}
+use Rattle.std.specs.Prelude.{ℕ, zero, suc, ◌+◌, ◌-◌, ◌*◌, ◌%◌, ◌^◌, min, Bool, true, false, not, ◌&&◌, ◌||◌, List, [], ◌∷◌, leb, ltb, eqb, get_or, set, take, replicate, Option, Some, None, is_some}
 use Rattle.txn.specs.Txn.{max_writes, max_long}
 use Rattle.txn.specs.declared.Write.{Write}
 use Rattle.image.specs.Image.{max_lanes}
 use Rattle.image.specs.declared.Sizes.{Sizes}
 use Rattle.lane_log.specs.Log.{given}
-use Rattle.lane_log.specs.declared.Timestamp.{Timestamp}
-use Rattle.lane_log.specs.declared.Timestamp.TheVariants.{None, At}
-use Rattle.lane_log.specs.declared.Latest.{Latest}
-use Rattle.lane_log.specs.declared.Latest.TheVariants.{Nothing, Is}
 use Rattle.lane_log.specs.declared.Cursor.{Cursor}
 use Rattle.record.specs.declared.Pair.{Pair}
 use Rattle.record.specs.declared.Logged.{Logged}
-use Rattle.record.specs.declared.Phase.{Phase}
-use Rattle.record.specs.declared.Phase.TheVariants.{Idle, Holds}
 use Rattle.record.specs.declared.Lane.{Lane}
 use Rattle.record.specs.declared.Locked.{Locked}
-use Rattle.record.specs.declared.Lock.{Lock}
-use Rattle.record.specs.declared.Lock.TheVariants.{Free, Held}
 use Rattle.record.specs.declared.Record.{Record}
+use Rattle.lane_log.specs.declared.Sequence.{Sequence}
 
 -- ---- the start
 abbrev pub no_pair : Pair
@@ -26,11 +19,11 @@ no_pair = record { word = 0; value = 0 }
 
 -- a lane at a start: idle without floor, at slot 0 with wrap bit 1
 unfoldable pub start_lane : Lane
-start_lane = record { phase = Idle; next = 0; wrap = 1; floor = None; redo = replicate max_writes no_pair }
+start_lane = record { phase = None; next = 0; wrap = 1; floor = None; redo = replicate max_writes no_pair }
 
 -- the record at a start, with this lag limit: clock and last commit are the base timestamp, and the lock is free
 unfoldable pub start_record : (lag base : ℕ) → Record
-start_record lag base = record { clock = base; last = base; lanes = replicate max_lanes start_lane; lag = lag; lock = Free }
+start_record lag base = record { clock = base; last = base; lanes = replicate max_lanes start_lane; lag = lag; lock = None }
 
 -- stands where a call takes or gives no record
 abbrev pub blank_record : Record
@@ -39,7 +32,7 @@ blank_record = start_record 2 0
 -- ---- lanes
 -- what stands past the end of the lanes
 abbrev pub no_lane : Lane
-no_lane = record { phase = Idle; next = 0; wrap = 0; floor = None; redo = [] }
+no_lane = record { phase = None; next = 0; wrap = 0; floor = None; redo = [] }
 
 unfoldable pub lane_at : Record → ℕ → Lane
 lane_at r L = get_or r.lanes L no_lane
@@ -47,14 +40,17 @@ lane_at r L = get_or r.lanes L no_lane
 unfoldable pub cursor_of : Lane → Cursor
 cursor_of l = record { slot = l.next; wrap = l.wrap }
 
+-- what a lane holds: a logged transaction, or none
+abbrev pub Phase : Type 0
+Phase = Option Logged
+
 unfoldable pub is_logged : Phase → Bool
-is_logged Idle = false
-is_logged (Holds g) = true
+is_logged phase = is_some phase
 
 -- the logged transaction of a phase, 0s where there is none
 unfoldable pub logged_in : Phase → Logged
-logged_in Idle = record { first = 0; count = 0; stamp = 0 }
-logged_in (Holds g) = g
+logged_in None = record { first = 0; count = 0; stamp = 0 }
+logged_in (Some g) = g
 
 -- ---- the lock. Its redo log stands beside the record, as words: a word number and a new value for each write of the transaction that holds it
 -- how many words: 64 pairs
@@ -73,14 +69,17 @@ unfoldable pub pairs_from : List ℕ → (i n : ℕ) → List Pair
 pairs_from ps i zero = []
 pairs_from ps i (suc n) = pair_at ps i ∷ pairs_from ps (suc i) n
 
+-- the lock: free, or held by a transaction
+abbrev pub Lock : Type 0
+Lock = Option Locked
+
 unfoldable pub is_held : Lock → Bool
-is_held Free = false
-is_held (Held k) = true
+is_held lock = is_some lock
 
 -- the transaction that holds the lock, 0s where there is none
 unfoldable pub locked_in : Lock → Locked
-locked_in Free = record { lane = 0; stamp = 0; count = 0; logged = 0; written = 0 }
-locked_in (Held k) = k
+locked_in None = record { lane = 0; stamp = 0; count = 0; logged = 0; written = 0 }
+locked_in (Some k) = k
 
 -- how many writes its present part has: sixteen, the last part what is left
 unfoldable pub part_length : Locked → ℕ
@@ -91,9 +90,9 @@ part_length k = min max_writes (k.count - k.written)
 unfoldable pub stamp_ok : (clock s : ℕ) → Bool
 stamp_ok clock s = eqb (s % 2) 0 && leb s clock
 
-unfoldable pub floor_ok : (clock : ℕ) → Timestamp → Bool
+unfoldable pub floor_ok : (clock : ℕ) → Option ℕ → Bool
 floor_ok clock None = true
-floor_ok clock (At s) = stamp_ok clock s
+floor_ok clock (Some s) = stamp_ok clock s
 
 unfoldable pub pairs_ok : (W : ℕ) → List Pair → Bool
 pairs_ok W [] = true
@@ -101,8 +100,8 @@ pairs_ok W (p ∷ ps) = ltb p.word W && pairs_ok W ps
 
 -- the pairs are looked at below the count alone
 unfoldable pub phase_ok : Sizes → (clock : ℕ) → List Pair → Phase → Bool
-phase_ok z clock redo Idle = true
-phase_ok z clock redo (Holds g) =
+phase_ok z clock redo None = true
+phase_ok z clock redo (Some g) =
     ltb g.first z.slots && (leb 1 g.count && (leb g.count max_writes && (stamp_ok clock g.stamp && pairs_ok z.words (take g.count redo))))
 
 unfoldable pub lane_ok : Sizes → (clock : ℕ) → Lane → Bool
@@ -134,8 +133,8 @@ held_ok z r ps k =
 
 -- under a free lock the pairs may hold anything
 unfoldable pub lock_ok : Sizes → Record → (pairs : List ℕ) → Lock → Bool
-lock_ok z r ps Free = true
-lock_ok z r ps (Held k) = held_ok z r ps k
+lock_ok z r ps None = true
+lock_ok z r ps (Some k) = held_ok z r ps k
 
 -- the lanes that are not in use may hold anything
 unfoldable pub record_ok : Sizes → Record → (pairs : List ℕ) → Bool
@@ -147,33 +146,33 @@ unfoldable pub spent : Record → Bool
 spent r = leb (2 ^ 64 - 2) r.clock
 
 -- ---- floors
-unfoldable pub lesser : Timestamp → Timestamp → Timestamp
+unfoldable pub lesser : Option ℕ → Option ℕ → Option ℕ
 lesser None b = b
-lesser (At a) None = At a
-lesser (At a) (At b) = At (min a b)
+lesser (Some a) None = Some a
+lesser (Some a) (Some b) = Some (min a b)
 
-unfoldable pub least_floor : List Lane → Timestamp
+unfoldable pub least_floor : List Lane → Option ℕ
 least_floor [] = None
 least_floor (l ∷ ls) = lesser l.floor (least_floor ls)
 
 -- the lower bound: the least floor of the lanes in use
-unfoldable pub bound_of : Sizes → Record → Timestamp
+unfoldable pub bound_of : Sizes → Record → Option ℕ
 bound_of z r = least_floor (take z.lanes r.lanes)
 
 -- is timestamp s more than the lag limit above a bound, in whole numbers; never where there is none, nor where it is above s
-unfoldable pub lag_passed : (lag s : ℕ) → Timestamp → Bool
+unfoldable pub lag_passed : (lag s : ℕ) → Option ℕ → Bool
 lag_passed lag s None = false
-lag_passed lag s (At f) = ltb (f + lag) s
+lag_passed lag s (Some f) = ltb (f + lag) s
 
 -- a lane's floor after a drain: what its latest sequence gives, if it has one; so a drained mark ends it
-unfoldable pub floor_after_drain : Latest → Timestamp → Timestamp
-floor_after_drain Nothing floor = floor
-floor_after_drain (Is q) floor = given q.count q.stamp
+unfoldable pub floor_after_drain : Option Sequence → Option ℕ → Option ℕ
+floor_after_drain None floor = floor
+floor_after_drain (Some q) floor = given q.count q.stamp
 
 -- after an append stamped s, a mark's too: it sets a floor where there is none
-unfoldable pub floor_after_append : ℕ → Timestamp → Timestamp
-floor_after_append s None = At s
-floor_after_append s (At f) = At f
+unfoldable pub floor_after_append : ℕ → Option ℕ → Option ℕ
+floor_after_append s None = Some s
+floor_after_append s (Some f) = Some f
 
 -- ---- updates
 unfoldable pub with_lane : Record → ℕ → Lane → Record
@@ -189,7 +188,7 @@ unfoldable pub with_lock : Record → Lock → Record
 with_lock r lock = record { clock = r.clock; last = r.last; lanes = r.lanes; lag = r.lag; lock = lock }
 
 -- a lane after a drain that found this latest sequence
-unfoldable pub drained_lane : Latest → Lane → Lane
+unfoldable pub drained_lane : Option Sequence → Lane → Lane
 drained_lane q l = record { phase = l.phase; next = l.next; wrap = l.wrap; floor = floor_after_drain q l.floor; redo = l.redo }
 
 -- a lane after an append stamped s that ended at a cursor
@@ -197,7 +196,7 @@ unfoldable pub appended_lane : ℕ → Cursor → Phase → List Pair → Lane �
 appended_lane s c phase redo l = record { phase = phase; next = c.slot; wrap = c.wrap; floor = floor_after_append s l.floor; redo = redo }
 
 unfoldable pub idle_lane : Lane → Lane
-idle_lane l = record { phase = Idle; next = l.next; wrap = l.wrap; floor = l.floor; redo = l.redo }
+idle_lane l = record { phase = None; next = l.next; wrap = l.wrap; floor = l.floor; redo = l.redo }
 
 -- the redo log of a list of writes: n pairs, 0 where there are no more
 unfoldable pub pairs_of : (n : ℕ) → List Write → List Pair

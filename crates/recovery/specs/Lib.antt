@@ -1,3 +1,4 @@
+pub mod Answers
 pub mod Recovery
 pub mod Interface
 pub mod inner

@@ -1,27 +1,25 @@
 -- Recovery: the boundary, what is undone and in which order, torn slots, the list of stores, and as many of them as a limit lets through; what its answer
 -- tells. SPECIFICATION, "Recovery". Assumes nothing.
-use Rattle.std.specs.Prelude.{ℕ, zero, suc, ◌+◌, ◌*◌, ◌%◌, max, Bool, true, false, cond, not, List, [], ◌∷◌, ◌++◌, leb, eqb, length, take}
+use Rattle.std.specs.Prelude.{ℕ, zero, suc, ◌+◌, ◌*◌, ◌%◌, max, Bool, true, false, cond, not, List, [], ◌∷◌, ◌++◌, leb, eqb, length, take, Option, Some, None}
 use Rattle.slot.specs.declared.Content.{Content}
 use Rattle.slot.specs.declared.Content.TheVariants.{Empty, Torn, Entry, Stamp}
 use Rattle.image.specs.Image.{base_of, log_of, all_are, former_ok, sizes_at_end, trailer_ok}
 use Rattle.image.specs.Stores.{Store, stored}
 use Rattle.image.specs.declared.Sizes.{Sizes}
 use Rattle.lane_log.specs.Log.{Old, Complete, slot_at, complete_in, ordered, latest_in, contribution}
-use Rattle.lane_log.specs.declared.Timestamp.{Timestamp}
-use Rattle.lane_log.specs.declared.Timestamp.TheVariants.{None, At}
 use Rattle.record.specs.Record.{lesser}
 use Rattle.store.specs.Machine.{Machine, Cause, first_cause}
 use Rattle.store.specs.Calls.{bad_lag, started}
-use Rattle.recovery.specs.declared.Recovered.{Recovered}
-use Rattle.recovery.specs.declared.Recovered.TheVariants.{Refused, Cut, Finished}
+use Rattle.recovery.specs.Answers.{Recovered}
+use Rattle.recovery.specs.Answers.{Refused, Cut, Finished}
 
 -- ---- 1. the boundary
 -- the least of what the lanes below k give
-unfoldable pub boundary_below : Sizes → List ℕ → (k : ℕ) → Timestamp
+unfoldable pub boundary_below : Sizes → List ℕ → (k : ℕ) → Option ℕ
 boundary_below z image zero = None
 boundary_below z image (suc k) = lesser (boundary_below z image k) (contribution (latest_in z image k))
 
-unfoldable pub boundary : Sizes → List ℕ → Timestamp
+unfoldable pub boundary : Sizes → List ℕ → Option ℕ
 boundary z image = boundary_below z image z.lanes
 
 -- ---- 2. what is undone
@@ -34,9 +32,9 @@ unfoldable pub at_or_above : ℕ → List Complete → List Complete
 at_or_above b [] = []
 at_or_above b (q ∷ qs) = cond (leb b q.stamp) (q ∷ at_or_above b qs) (at_or_above b qs)
 
-unfoldable pub undone_from : Timestamp → List Complete → List Complete
+unfoldable pub undone_from : Option ℕ → List Complete → List Complete
 undone_from None qs = []
-undone_from (At b) qs = ordered qs (at_or_above b qs)
+undone_from (Some b) qs = ordered qs (at_or_above b qs)
 
 -- the sequences that recovery undoes, in its order
 unfoldable pub undone : Sizes → List ℕ → List Complete
@@ -162,7 +160,7 @@ pub record Told : Type 0 where
   -- do stores remain past the limit
   pub cut : Bool
   -- the boundary; the count of entries undone, and that of torn slots: lists of one where recovery finished, else of none
-  pub boundary : Timestamp
+  pub boundary : Option ℕ
   pub undone : List ℕ
   pub torn : List ℕ
 

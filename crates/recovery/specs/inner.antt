@@ -3,7 +3,6 @@ pub mod ToldLaws
 pub mod Limit
 pub mod Clearing
 pub mod Picking
-pub mod Undo
 pub mod LimitLaws
 pub mod PickingLaws
 pub mod LanesLaws
@@ -14,7 +13,7 @@ pub mod NextLaws
 pub mod Turns
 pub mod TurnLaws
 pub mod UndoLaws
-pub mod UndoWords
+pub mod UndoList
 pub mod ListLaws
 pub mod OrderLaws
 pub mod UndoOrderLaws

@@ -6,11 +6,11 @@ ghost use Rattle.std.specs.Prelude.{◌≡◌, ◌*◌, ◌≤◌, length, take}
 ghost use Rattle.image.specs.Image.{max_lanes, max_slots};
 ghost use Rattle.image.specs.inner.Facts.{IsImage};
 ghost use Rattle.recovery.specs.Recovery.{undone};
-ghost use Rattle.recovery.specs.inner.UndoWords.{undo_words};
+ghost use Rattle.recovery.specs.inner.UndoList.{undo_list};
 
 use image::Sizes;
-use lane_log::Timestamp;
 use record::Record;
+use winners::Place;
 
 mod order;
 pub mod scan;
@@ -24,40 +24,46 @@ pub const ALL_SLOTS: usize = image::MAX_LANES * image::MAX_SLOTS;
 // non-volatile memory that this call found.
 #[derive(Clone, Copy)]
 pub struct Finished {
-    pub boundary: Timestamp,
+    pub boundary: Option<u64>,
     pub undone: usize,
     pub torn: usize,
 }
 
-// The answer of recovery.
-#[derive(Clone, Copy)]
-pub enum Recovered {
-    // the number of the refusal; nothing is altered
-    Refused(u64),
-    // the limit left stores to be made
-    Cut,
-    Finished(Finished),
-}
-
-// The answer with the record: that of the new start where recovery finished, and otherwise a blank one that stands for
-// none.
+// A new start: what a finished recovery answers, and the record.
 #[derive(Clone, Copy)]
 pub struct Restart {
-    pub answer: Recovered,
+    pub finished: Finished,
     pub state: Record,
 }
 
-// The sequences that recovery undoes, in its order, four words each: the lane, the slot of the timestamp, the count of
-// entries, the timestamp. How many there are. Nothing but `order` is stored to.
-pub fn undo_order(sizes: Sizes, nvm: &[u64], order: &mut [u64]) -> usize
+// A sequence that recovery undoes: its lane, the slot of its timestamp, the count of its entries, the timestamp.
+#[derive(Clone, Copy)]
+pub struct Listed {
+    pub lane: usize,
+    pub slot: usize,
+    pub count: usize,
+    pub stamp: u64,
+}
+
+impl Listed {
+    // Before anything is listed.
+    pub const NONE: Listed = Listed {
+        lane: 0,
+        slot: 0,
+        count: 0,
+        stamp: 0,
+    };
+}
+
+// The sequences that recovery undoes, in its order, from the first place of `order` on. How many there are. Nothing but
+// `order` is stored to.
+pub fn undo_order(sizes: Sizes, nvm: &[u64], order: &mut [Listed]) -> usize
     requires image { IsImage sizes nvm.now }
-    requires max_slots_in_bounds { 4 * (max_lanes * max_slots) ≤ length order.old }
+    requires max_slots_in_bounds { max_lanes * max_slots ≤ length order.old }
     ensures few { result ≤ max_lanes * max_slots }
-    ensures listed { take (4 * result) order.new ≡ undo_words (undone sizes nvm.now) }
+    ensures listed { take result order.new ≡ undo_list (undone sizes nvm.now) }
 {
-    let mut stamps = [0u64; ALL_SLOTS];
-    let mut tree = [0u16; ALL_SLOTS];
-    let found = scan::scan(sizes, nvm, &mut stamps, &mut tree);
-    let boundary = found.boundary;
-    order::list_all(sizes, nvm, &mut stamps, &mut tree, boundary, order)
+    let mut places = [Place::NONE; ALL_SLOTS];
+    let found = scan::scan(sizes, nvm, &mut places);
+    order::list_all(sizes, nvm, &mut places, found.boundary, order)
 }

@@ -1,15 +1,13 @@
 -- What programs `recover` and `recover_read` print: words out of bytes, the refusals of an input, and the lines of a report. SPECIFICATION, "Programs
 -- `recover` and `recover_read`". Assumes nothing.
-use Rattle.std.specs.Prelude.{ℕ, zero, suc, ◌+◌, ◌-◌, ◌*◌, ◌/◌, ◌%◌, ◌^◌, ◌≤◌, Bool, cond, ◌&&◌, List, [], ◌∷◌, ◌++◌, ◌≡◌, leb, ltb, eqb, length, get_or, take, drop, replicate}
+use Rattle.std.specs.Prelude.{ℕ, zero, suc, ◌+◌, ◌-◌, ◌*◌, ◌/◌, ◌%◌, ◌^◌, ◌≤◌, Bool, cond, ◌&&◌, List, [], ◌∷◌, ◌++◌, ◌≡◌, leb, ltb, eqb, length, get_or, take, drop, replicate, Option, Some, None}
 use Rattle.image.specs.Image.{max_words, max_former, max_image, sizes_ok, former_length, sizes_at_end, data_of}
 use Rattle.image.specs.declared.Sizes.{Sizes}
-use Rattle.lane_log.specs.declared.Timestamp.{Timestamp}
-use Rattle.lane_log.specs.declared.Timestamp.TheVariants.{None, At}
 use Rattle.record.specs.Record.{max_lag}
 use Rattle.store.specs.Interface.{blank_of}
 use Rattle.store.specs.Machine.{Machine}
 use Rattle.recovery.specs.Recovery.{Restarted, recover_step, recover_read_step, told}
-use Rattle.recovery.specs.declared.Recovered.{Recovered}
+use Rattle.recovery.specs.Answers.{Recovered}
 use Rattle.report.specs.declared.SizesAt.{SizesAt}
 use Rattle.report.specs.declared.SizesAt.TheVariants.{Start, End}
 
@@ -88,11 +86,11 @@ boundary_text = 98 ∷ 111 ∷ 117 ∷ 110 ∷ 100 ∷ 97 ∷ 114 ∷ 121 ∷ 32
 abbrev pub refused_text : List ℕ
 refused_text = 114 ∷ 101 ∷ 102 ∷ 117 ∷ 115 ∷ 101 ∷ 100 ∷ 32 ∷ []
 
-unfoldable pub stamp_text : Timestamp → List ℕ
+unfoldable pub stamp_text : Option ℕ → List ℕ
 stamp_text None = none_text
-stamp_text (At s) = decimal s
+stamp_text (Some s) = decimal s
 
-unfoldable pub boundary_line : Timestamp → List ℕ
+unfoldable pub boundary_line : Option ℕ → List ℕ
 boundary_line b = boundary_text ++ stamp_text b ++ newline
 
 unfoldable pub refused_line : ℕ → List ℕ
@@ -126,7 +124,7 @@ recovered_from Start input = recover_step (sizes_in Start input) max_lag no_limi
 recovered_from End input = recover_read_step max_lag no_limit (nvm_only (image_in End input))
 
 -- what is printed of a finished recovery that left this in non-volatile memory: the boundary, then the data words
-unfoldable pub finished_text : Sizes → (nvm : List ℕ) → Timestamp → List ℕ
+unfoldable pub finished_text : Sizes → (nvm : List ℕ) → Option ℕ → List ℕ
 finished_text z nvm b = boundary_line b ++ word_lines (data_of z nvm) z.words
 
 -- what is printed of what its answer tells; without a limit it is never cut

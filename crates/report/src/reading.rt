@@ -1,45 +1,23 @@
 // Reading the input: words of eight bytes, the least significant byte first; the sizes; which inputs are refused; the
 // image.
-ghost use Rattle.std.specs.Prelude.{◌≡◌, ◌+◌, ◌*◌, ◌<◌, ◌≤◌, ◌^◌, length, take, drop};
+ghost use Rattle.std.specs.Prelude.{◌≡◌, ◌+◌, ◌*◌, ◌≤◌, length};
 ghost use Rattle.image.specs.Image.{max_image};
-ghost use Rattle.report.specs.Report.{little_endian, word_at, sizes_in, words_in, well_formed, longest as longest_of};
+ghost use Rattle.store.specs.Interface.{refusal_of};
+ghost use Rattle.report.specs.Report.{word_at, sizes_in, words_in, well_formed, longest as longest_of};
 ghost use Rattle.report.specs.Report.{input_refusal};
 ghost use Rattle.report.specs.inner.ReportFacts.{image_words};
 
 use crate::SizesAt;
 use image::Sizes;
-
-// As many numbers as a byte spells, and as four bytes spell.
-const BYTE: u64 = 256;
-
-const FOUR_BYTES: u64 = BYTE * BYTE * BYTE * BYTE;
-
-fn wide(byte: u8) -> u64
-    ensures same { result ≡ byte }
-    ensures small { result < 2 ^ 8 }
-{
-    byte as u64
-}
-
-// The number that four bytes spell.
-fn half(input: &[u8], at: usize) -> u64
-    requires { at + 4 ≤ length input.now }
-    ensures spelt { result ≡ little_endian (take 4 (drop at input.now)) }
-    ensures small { result < 2 ^ 32 }
-{
-    let first = wide(input[at]);
-    let second = wide(input[at + 1]);
-    let third = wide(input[at + 2]);
-    let fourth = wide(input[at + 3]);
-    first + BYTE * (second + BYTE * (third + BYTE * fourth))
-}
+use store::Refusal;
 
 // Word i of the input.
 pub fn word_at(input: &[u8], i: usize) -> u64
     requires { 8 * (i + 1) ≤ length input.now }
     ensures { result ≡ word_at input.now i }
 {
-    half(input, 8 * i) + FOUR_BYTES * half(input, 8 * i + 4)
+    let bytes = input[8 * i..].first_chunk().unwrap();
+    u64::from_le_bytes(*bytes)
 }
 
 // W, T and N at the start.
@@ -78,25 +56,25 @@ pub fn longest(place: SizesAt) -> usize
     }
 }
 
-// The number that refuses the input before recovery, or 0.
-pub fn refusal(place: SizesAt, input: &[u8]) -> u64
-    ensures { result ≡ input_refusal place input.now }
+// Is the input refused before recovery?
+pub fn refusal(place: SizesAt, input: &[u8]) -> Result<(), Refusal>
+    ensures { refusal_of result ≡ input_refusal place input.now }
 {
     match place {
         SizesAt::Start => {
             if well_formed(input) {
-                return 0;
+                return Ok(());
             }
-            1
+            Err(Refusal::BadBuffers)
         }
         SizesAt::End => {
             if longest(place) < input.len() {
-                return 14;
+                return Err(Refusal::BadTrailer);
             }
             if input.len() % 8 != 0 {
-                return 1;
+                return Err(Refusal::BadBuffers);
             }
-            0
+            Ok(())
         }
     }
 }
@@ -118,7 +96,7 @@ pub fn decode(input: &[u8], first: usize, nvm: &mut [u64])
     requires { 8 * (first + length nvm.old) ≤ length input.now }
     ensures { nvm.new ≡ words_in input.now first (length nvm.old) }
 {
-    for i in 0..nvm.len() {
-        nvm[i] = word_at(input, first + i);
+    for (i, word) in nvm.iter_mut().enumerate() {
+        *word = word_at(input, first + i);
     }
 }

@@ -2,92 +2,82 @@
 // those with the sizes at the start, then images alone; then, as program `recover` does it, that of standard input.
 #![tactic(auto)]
 
-ghost use Rattle.std.specs.Prelude.{◌+◌, ◌*◌, ◌<◌, ◌≤◌, length};
-ghost use Rattle.io.specs.Counts.{IsPrefixLen};
-
 use report::SizesAt;
-use std::io::Result;
+use std::alloc::AllocError;
+use std::io;
 
-// Byte k of a word, the least significant one first.
-fn byte_of(word: u64, k: usize) -> u8
-    requires { k < 8 }
-{
-    ((word >> (8 * k)) % 256) as u8
-}
+// The bytes of a buffer that has room for each of these reports, and of one that has not.
+const LONG: usize = 65536;
 
-// Puts the words into the input from a byte on.
-fn encode(words: &[u64], at: usize, input: &mut [u8])
-    requires { at + 8 * length words.now ≤ length input.old }
-{
-    for i in 0..8 * words.len() {
-        input[at + i] = byte_of(words[i / 8], i % 8);
+const SHORT: usize = 4096;
+
+// Puts words behind the bytes, eight bytes each, the least significant first.
+fn push_words(bytes: &mut Vec<u8>, words: &[u64]) -> Result<(), AllocError> {
+    for word in words {
+        bytes.extend_from_slice(&word.to_le_bytes())?;
     }
+    Ok(())
 }
 
-// The report of an input of `size` bytes: the first words, zeros, the last words.
-fn report_of(place: SizesAt, first: &[u64], last: &[u64], size: usize, output: &mut [u8]) -> usize
-    requires first_bound { 8 * length first.now ≤ 65536 }
-    requires last_bound { 8 * length last.now ≤ size }
-    requires size_bound { size ≤ 65536 }
-    ensures { IsPrefixLen result output.new }
-{
-    let mut input = io::large_buffer();
-    encode(first, 0, &mut input);
-    encode(last, size - 8 * last.len(), &mut input);
-    report::report(place, &input[..size], output)
+// An input of `size` bytes: the first words, zeros, the last words.
+fn input(
+    rt: &HostRuntime,
+    first: &[u64],
+    last: &[u64],
+    size: usize,
+) -> Result<Vec<u8>, AllocError> {
+    let mut bytes = Vec::new(rt.alloc());
+    push_words(&mut bytes, first)?;
+    bytes.resize(size.saturating_sub(8 * last.len()), 0)?;
+    push_words(&mut bytes, last)?;
+    Ok(bytes)
 }
 
-// Prints it.
-fn show(rt: &impl Print, place: SizesAt, first: &[u64], last: &[u64], size: usize) -> Result<()>
-    requires first_bound { 8 * length first.now ≤ 65536 }
-    requires last_bound { 8 * length last.now ≤ size }
-    requires size_bound { size ≤ 65536 }
-{
-    let mut output = io::large_buffer();
-    let count = report_of(place, first, last, size, &mut output);
+// Prints the report of an input.
+fn show(
+    rt: &HostRuntime,
+    place: SizesAt,
+    first: &[u64],
+    last: &[u64],
+    size: usize,
+) -> io::Result<()> {
+    let bytes = input(rt, first, last, size)?;
+    let mut output = [0u8; LONG];
+    let count = report::report(place, &bytes, &mut output);
     rt.write_all(&output[..count])
 }
 
 // Prints how long it is, in a long buffer and in a short one.
-fn measure(rt: &impl Print, place: SizesAt, first: &[u64], last: &[u64], size: usize) -> Result<()>
-    requires first_bound { 8 * length first.now ≤ 65536 }
-    requires last_bound { 8 * length last.now ≤ size }
-    requires size_bound { size ≤ 65536 }
-{
-    let mut long = io::large_buffer();
-    let mut short = io::buffer();
-    let count = report_of(place, first, last, size, &mut long);
-    let none = report_of(place, first, last, size, &mut short);
+fn measure(
+    rt: &HostRuntime,
+    place: SizesAt,
+    first: &[u64],
+    last: &[u64],
+    size: usize,
+) -> io::Result<()> {
+    let bytes = input(rt, first, last, size)?;
+    let count = report::report(place, &bytes, &mut [0u8; LONG]);
+    let none = report::report(place, &bytes, &mut [0u8; SHORT]);
     println!(rt; "{count} {none}")
 }
 
 // Sizes at the start, and zeros after these words.
-fn given(rt: &impl Print, words: &[u64], size: usize) -> Result<()>
-    requires words_bound { 8 * length words.now ≤ 65536 }
-    requires size_bound { size ≤ 65536 }
-{
-    show(rt, SizesAt::Start, words, &words[..0], size)
+fn given(rt: &HostRuntime, words: &[u64], size: usize) -> io::Result<()> {
+    show(rt, SizesAt::Start, words, &[], size)
 }
 
 // All that there is of an image alone, and zeros after these words.
-fn short(rt: &impl Print, words: &[u64], size: usize) -> Result<()>
-    requires words_bound { 8 * length words.now ≤ 65536 }
-    requires size_bound { size ≤ 65536 }
-{
-    show(rt, SizesAt::End, words, &words[..0], size)
+fn short(rt: &HostRuntime, words: &[u64], size: usize) -> io::Result<()> {
+    show(rt, SizesAt::End, words, &[], size)
 }
 
 // An image alone.
-fn alone(rt: &impl Print, words: &[u64], trailer: &[u64], size: usize) -> Result<()>
-    requires words_bound { 8 * length words.now ≤ 65536 }
-    requires trailer_bound { 8 * length trailer.now ≤ size }
-    requires size_bound { size ≤ 65536 }
-{
+fn alone(rt: &HostRuntime, words: &[u64], trailer: &[u64], size: usize) -> io::Result<()> {
     show(rt, SizesAt::End, words, trailer, size)
 }
 
 // Sizes 2, 1, 34 ask for 592 bytes.
-fn lengths(rt: &impl Print) -> Result<()> {
+fn lengths(rt: &HostRuntime) -> io::Result<()> {
     let sizes = [2u64, 1, 34];
     given(rt, &sizes, 0)?;
     given(rt, &sizes, 23)?;
@@ -99,7 +89,7 @@ fn lengths(rt: &impl Print) -> Result<()> {
 }
 
 // Each with as many bytes as its sizes would ask for.
-fn ranges(rt: &impl Print) -> Result<()> {
+fn ranges(rt: &HostRuntime) -> io::Result<()> {
     given(rt, &[0u64, 1, 34], 576)?;
     given(rt, &[1025u64, 1, 34], 8776)?;
     given(rt, &[2u64, 0, 34], 48)?;
@@ -110,7 +100,7 @@ fn ranges(rt: &impl Print) -> Result<()> {
 }
 
 // Sizes 2, 1, 34: an odd base, empty logs, empty logs with the greatest word, and the sample of program `recover`.
-fn images(rt: &impl Print) -> Result<()> {
+fn images(rt: &HostRuntime) -> io::Result<()> {
     given(rt, &[2u64, 1, 34, 1, 9, 0], 592)?;
     given(rt, &[2u64, 1, 34, 0, 9, 0], 592)?;
     given(rt, &[2u64, 1, 34, 0, u64::MAX, 10], 592)?;
@@ -118,7 +108,7 @@ fn images(rt: &impl Print) -> Result<()> {
 }
 
 // The greatest sizes ask for 40,992 bytes.
-fn greatest(rt: &impl Print) -> Result<()> {
+fn greatest(rt: &HostRuntime) -> io::Result<()> {
     let sizes = [1024u64, 8, 256];
     given(rt, &sizes, 40984)?;
     given(rt, &sizes, 40993)?;
@@ -126,7 +116,7 @@ fn greatest(rt: &impl Print) -> Result<()> {
 }
 
 // An image with its trailer is no input with the sizes at the start; but those of 2, 1, 36 ask for as many bytes.
-fn with_trailer(rt: &impl Print) -> Result<()> {
+fn with_trailer(rt: &HostRuntime) -> io::Result<()> {
     let trailer = [2u64, 1, 34, 71];
     show(rt, SizesAt::Start, &[2u64, 1, 34, 0, 9, 0], &trailer, 624)?;
     show(rt, SizesAt::Start, &[2u64, 1, 36, 0, 9, 0], &trailer, 624)
@@ -134,7 +124,7 @@ fn with_trailer(rt: &impl Print) -> Result<()> {
 
 // An image of sizes 2, 1, 34 has 75 words, 600 bytes: fewer than four words, bytes that are no words, four words, a
 // word less and a word more.
-fn lengths_alone(rt: &impl Print) -> Result<()> {
+fn lengths_alone(rt: &HostRuntime) -> io::Result<()> {
     let trailer = [2u64, 1, 34, 71];
     short(rt, &trailer, 0)?;
     short(rt, &trailer, 7)?;
@@ -149,7 +139,7 @@ fn lengths_alone(rt: &impl Print) -> Result<()> {
 }
 
 // Each word of the trailer one less, and one more; and no trailer at all.
-fn trailers(rt: &impl Print) -> Result<()> {
+fn trailers(rt: &HostRuntime) -> io::Result<()> {
     alone(rt, &[0u64], &[1u64, 1, 34, 71], 600)?;
     alone(rt, &[0u64], &[3u64, 1, 34, 71], 600)?;
     alone(rt, &[0u64], &[2u64, 0, 34, 71], 600)?;
@@ -162,7 +152,7 @@ fn trailers(rt: &impl Print) -> Result<()> {
 }
 
 // Each with the fourth word and as many bytes as its sizes would ask for.
-fn ranges_alone(rt: &impl Print) -> Result<()> {
+fn ranges_alone(rt: &HostRuntime) -> io::Result<()> {
     alone(rt, &[0u64], &[0u64, 1, 34, 69], 584)?;
     alone(rt, &[0u64], &[1025u64, 1, 34, 1094], 8784)?;
     alone(rt, &[0u64], &[2u64, 0, 34, 3], 56)?;
@@ -173,7 +163,7 @@ fn ranges_alone(rt: &impl Print) -> Result<()> {
 }
 
 // An odd base with a wrong trailer and with the right one, empty logs, and the sample of program `recover_read`.
-fn images_alone(rt: &impl Print) -> Result<()> {
+fn images_alone(rt: &HostRuntime) -> io::Result<()> {
     let trailer = [2u64, 1, 34, 71];
     alone(rt, &[1u64, 9, 0], &[2u64, 1, 34, 72], 600)?;
     alone(rt, &[1u64, 9, 0], &trailer, 600)?;
@@ -182,7 +172,7 @@ fn images_alone(rt: &impl Print) -> Result<()> {
 }
 
 // The greatest image has 5,125 words, 41,000 bytes. One byte more is refused as one word more is.
-fn greatest_alone(rt: &impl Print) -> Result<()> {
+fn greatest_alone(rt: &HostRuntime) -> io::Result<()> {
     let trailer = [1024u64, 8, 256, 5121];
     alone(rt, &[0u64], &trailer, 40992)?;
     alone(rt, &[0u64], &trailer, 40999)?;
@@ -191,7 +181,7 @@ fn greatest_alone(rt: &impl Print) -> Result<()> {
     measure(rt, SizesAt::End, &[0u64], &trailer, 41000)
 }
 
-fn main(rt: HostRuntime) -> Result<()> {
+fn main(rt: HostRuntime) -> io::Result<()> {
     lengths(&rt)?;
     ranges(&rt)?;
     images(&rt)?;

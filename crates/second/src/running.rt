@@ -1,124 +1,143 @@
-// How the second implementation checks and runs a transaction: which fields an instruction uses, and a program counter
-// over a copy of the data words. SPECIFICATION, "Transactions".
-use crate::words::{
-    Arena, CACHE, DATA, MAX_LONG, STATE, TXN, USED, WORDS, WRITES, cell, copy, get, minus, plus,
-    put, set_row,
-};
+// How the second implementation checks and runs a transaction: instructions made of words by patterns, and a run that
+// looks up what a word is in the writes made so far. SPECIFICATION, "Transactions".
+use crate::calls::Refusal;
+use crate::list::{List, OF_WRITES};
+use crate::records::Pair;
+use crate::words::word_at;
 
-// An instruction is a row: code, a, b, k.
-const SET: u64 = 1;
-
-const COPY: u64 = 2;
-
-const ADD: u64 = 3;
-
-const SKIP: u64 = 5;
-
-// The table of writes, one a row: word, old value, new value.
-pub(crate) const WORD: u64 = 0;
-
-pub(crate) const OLD: u64 = 1;
-
-pub(crate) const NEW: u64 = 2;
-
-// A word number below W where it is used, else 0.
-fn operand_ok(words: u64, used: bool, word: u64) -> bool {
-    if used {
-        return word < words;
-    }
-    word == 0
+// `word` is written. 4 was POKE, which is withdrawn.
+#[derive(Clone, Copy, PartialEq, Eq, Debug)]
+pub(crate) enum Instruction {
+    Set { word: u64, value: u64 },
+    Copy { word: u64, from: u64 },
+    Add { word: u64, from: u64, value: u64 },
+    Skip { unless: u64, distance: u64 },
 }
 
-// Is k in range, where `after` instructions follow?
-fn k_ok(code: u64, k: u64, after: u64) -> bool {
-    if code == COPY {
-        return k == 0;
-    }
-    if code == SKIP {
-        return 1 <= k && k <= 15 && k <= after;
-    }
-    true
-}
+impl TryFrom<[u64; 4]> for Instruction {
+    type Error = Refusal;
 
-// 4 was POKE, which is withdrawn.
-fn is_code(code: u64) -> bool {
-    code == SET || code == COPY || code == ADD || code == SKIP
-}
-
-fn instruction_ok(arena: &Arena, at: u64, after: u64) -> bool {
-    let words = get(arena, STATE, WORDS);
-    let code = cell(arena, TXN, at, 0);
-    if !is_code(code) {
-        return false;
-    }
-    operand_ok(words, code <= ADD, cell(arena, TXN, at, 1))
-        && operand_ok(words, code != SET, cell(arena, TXN, at, 2))
-        && k_ok(code, cell(arena, TXN, at, 3), after)
-}
-
-// Of at most so many instructions.
-pub(crate) fn txn_ok(arena: &Arena, most: u64) -> bool {
-    let length = get(arena, STATE, USED);
-    if length % 4 != 0 || length < 4 || most < length / 4 {
-        return false;
-    }
-    let count = length / 4;
-    for at in 0..count {
-        if !instruction_ok(arena, at, minus(count, plus(at, 1))) {
-            return false;
+    fn try_from(words: [u64; 4]) -> Result<Instruction, Refusal> {
+        match words {
+            [1, word, 0, value] => Ok(Instruction::Set { word, value }),
+            [2, word, from, 0] => Ok(Instruction::Copy { word, from }),
+            [3, word, from, value] => Ok(Instruction::Add { word, from, value }),
+            [5, 0, unless, distance] => Ok(Instruction::Skip { unless, distance }),
+            _ => Err(Refusal::BadTransaction),
         }
     }
-    true
 }
 
-// The instruction that comes after a SKIP.
-fn after_skip(arena: &Arena, at: u64) -> u64 {
-    let next = plus(at, 1);
-    if get(arena, DATA, plus(1, cell(arena, TXN, at, 2))) == 0 {
-        return plus(next, cell(arena, TXN, at, 3));
-    }
-    next
-}
-
-fn result(code: u64, source: u64, k: u64) -> u64 {
-    if code == COPY {
-        return source;
-    }
-    if code == ADD {
-        return plus(source, k);
-    }
-    k
-}
-
-// Write number n, by instruction `at`.
-fn write(arena: &mut Arena, at: u64, n: u64) {
-    let code = cell(arena, TXN, at, 0);
-    let source = get(arena, DATA, plus(1, cell(arena, TXN, at, 2)));
-    let word = cell(arena, TXN, at, 1);
-    let new = result(code, source, cell(arena, TXN, at, 3));
-    let old = get(arena, DATA, plus(1, word));
-    set_row(arena, WRITES, n, word, old, new, 0);
-    put(arena, DATA, plus(1, word), new);
-}
-
-// Runs a well-formed transaction on a copy of the cached image; how many writes it makes.
-pub(crate) fn run(arena: &mut Arena) -> u64 {
-    let words = get(arena, STATE, WORDS);
-    copy(arena, CACHE, DATA, 0, plus(words, 1));
-    let end = get(arena, STATE, USED) / 4;
-    let mut at = 0;
-    let mut count = 0;
-    for _ in 0..MAX_LONG {
-        if end <= at {
-            return count;
-        }
-        if cell(arena, TXN, at, 0) == SKIP {
-            at = after_skip(arena, at);
-        } else {
-            write(arena, at, count);
-            count = plus(count, 1);
-            at = plus(at, 1);
+impl Instruction {
+    // Is it well formed where there are so many data words, and so many instructions follow?
+    fn is_ok(&self, words: u64, after: u64) -> bool {
+        match *self {
+            Instruction::Set { word, .. } => word < words,
+            Instruction::Copy { word, from } => word < words && from < words,
+            Instruction::Add { word, from, .. } => word < words && from < words,
+            Instruction::Skip { unless, distance } => {
+                unless < words && (1..=15).contains(&distance) && distance <= after
+            }
         }
     }
-    count
+}
+
+// The instructions of a transaction.
+pub(crate) type Instructions = List<Instruction, OF_WRITES>;
+
+pub(crate) fn no_instructions() -> Instructions {
+    List::new(Instruction::Set { word: 0, value: 0 })
+}
+
+// Those of a transaction of at most so many, none where it is not well formed.
+pub(crate) fn parse(given: &[u64], words: u64, most: u64) -> Option<Instructions> {
+    let (rows, rest) = given.as_chunks::<4>();
+    let mut after = rows.len() as u64;
+    if !rest.is_empty() || after == 0 || most < after {
+        return None;
+    }
+    let mut instructions = no_instructions();
+    for row in rows {
+        after = after.wrapping_sub(1);
+        let Ok(instruction) = Instruction::try_from(*row) else {
+            return None;
+        };
+        if !instruction.is_ok(words, after) {
+            return None;
+        }
+        instructions.push(instruction);
+    }
+    Some(instructions)
+}
+
+// What a transaction writes, over which value.
+#[derive(Clone, Copy, PartialEq, Eq, Default, Debug)]
+pub(crate) struct Write {
+    pub pair: Pair,
+    pub old: u64,
+}
+
+pub(crate) type Writes = List<Write, OF_WRITES>;
+
+// What a data word is after these writes.
+pub(crate) fn present(image: &[u64], writes: &[Write], word: u64) -> u64 {
+    writes
+        .iter()
+        .rev()
+        .find(|write| write.pair.word == word)
+        .map_or(word_at(image, word.wrapping_add(1)), |write| {
+            write.pair.value
+        })
+}
+
+// The pair that an instruction writes; a SKIP writes none.
+fn written(image: &[u64], writes: &[Write], instruction: Instruction) -> Option<Pair> {
+    match instruction {
+        Instruction::Set { word, value } => Some(Pair { word, value }),
+        Instruction::Copy { word, from } => Some(Pair {
+            word,
+            value: present(image, writes, from),
+        }),
+        Instruction::Add { word, from, value } => Some(Pair {
+            word,
+            value: present(image, writes, from).wrapping_add(value),
+        }),
+        Instruction::Skip { .. } => None,
+    }
+}
+
+// How many instructions are passed over after one.
+fn distance(image: &[u64], writes: &[Write], instruction: Instruction) -> u64 {
+    match instruction {
+        Instruction::Skip { unless, distance } if present(image, writes, unless) == 0 => distance,
+        _ => 0,
+    }
+}
+
+// The writes of a transaction on an image.
+pub(crate) fn run(image: &[u64], instructions: &[Instruction]) -> Writes {
+    let mut writes = List::new(Write::default());
+    let mut passed = 0u64;
+    for instruction in instructions {
+        if passed != 0 {
+            passed -= 1;
+            continue;
+        }
+        passed = distance(image, writes.as_slice(), *instruction);
+        if let Some(pair) = written(image, writes.as_slice(), *instruction) {
+            let old = present(image, writes.as_slice(), pair.word);
+            writes.push(Write { pair, old });
+        }
+    }
+    writes
+}
+
+// The writes of pairs on an image.
+pub(crate) fn over(image: &[u64], pairs: &[Pair]) -> Writes {
+    let mut writes = List::new(Write::default());
+    for pair in pairs {
+        let old = present(image, writes.as_slice(), pair.word);
+        writes.push(Write { pair: *pair, old });
+    }
+    writes
 }

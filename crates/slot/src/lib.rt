@@ -40,6 +40,9 @@ impl Slot {
     // The place of the number in the address word, above the low bit's and one bit that is 0.
     pub const NUMBER: u64 = 8;
 
+    // The three below are kept from being From and TryFrom, which would be no plainer: reading takes the image's number
+    // of words beside the slot, and making, which asks bounds of its arguments, cannot fail.
+
     // The words of an entry: the word's number, its old value, the wrap bit.
     pub fn entry(word: usize, old: u64, wrap: u64) -> Slot
         requires word_bound { word + 1 < tag }
@@ -85,14 +88,14 @@ impl Slot {
         let number = address / Slot::NUMBER;
         // the two bits above the wrap bit: the low bit and a 0 in an entry, both 0 in a timestamp
         let low = address / Slot::LOW & 3;
-        if 1 <= number && number <= words as u64 && low < 2 {
+        if (1..=words as u64).contains(&number) && low < 2 {
             return Content::Entry {
                 word: (number - 1) as usize,
                 old: value - wrap + low,
                 wrap,
             };
         }
-        if Slot::TAG <= number && number <= Slot::TAG + Slot::MAX_ENTRIES && low == 0 {
+        if (Slot::TAG..=Slot::TAG + Slot::MAX_ENTRIES).contains(&number) && low == 0 {
             return Content::Stamp {
                 count: (number - Slot::TAG) as usize,
                 stamp: value - wrap,

@@ -1,5 +1,5 @@
 -- The calls as total functions: what each answers and leaves. SPECIFICATION, "Calls". Assumes nothing.
-use Rattle.std.specs.Prelude.{ℕ, ◌+◌, ◌*◌, Bool, true, false, cond, not, ◌&&◌, List, [], ◌∷◌, ◌++◌, leb, ltb, eqb, length, take, replicate}
+use Rattle.std.specs.Prelude.{ℕ, ◌+◌, ◌*◌, Bool, true, false, cond, not, ◌&&◌, List, [], ◌∷◌, ◌++◌, leb, ltb, eqb, length, take, replicate, Some, None}
 use Rattle.slot.specs.declared.Content.{Content}
 use Rattle.slot.specs.declared.Content.TheVariants.{Empty, Torn, Entry, Stamp}
 use Rattle.txn.specs.Txn.{max_writes, Rule, current, txn_by, run}
@@ -14,11 +14,10 @@ use Rattle.record.specs.Record.{start_record, lane_at, cursor_of, is_logged, log
 use Rattle.record.specs.Record.{with_lane, with_clock, with_last}
 use Rattle.record.specs.Record.{drained_lane, appended_lane, idle_lane, pairs_of}
 use Rattle.record.specs.declared.Pair.{Pair}
-use Rattle.record.specs.declared.Phase.{Phase}
-use Rattle.record.specs.declared.Phase.TheVariants.{Idle, Holds}
 use Rattle.record.specs.declared.Record.{Record}
-use Rattle.store.specs.declared.Answer.TheVariants.{Done, NoWrites, Logged, Settled, Committed, Stale, Changed, Marked}
+use Rattle.store.specs.Answers.{Done, NoWrites, Logged, Settled, Committed, Stale, Changed, Marked}
 use Rattle.store.specs.Machine.{Machine, Step, Cause, first_cause, unless}
+use Rattle.record.specs.Record.{Phase}
 
 -- ---- causes that calls share
 unfoldable pub bad_buffers : Sizes → Machine → Cause
@@ -126,7 +125,7 @@ appended z L ws phase redo m =
 
 -- a mark appended to lane L behind its drain: the lane then holds nothing, and its pairs stay
 abbrev pub marked : Sizes → ℕ → Machine → Machine
-marked z L m = appended z L [] Idle (lane_at m.state L).redo (drained z L m)
+marked z L m = appended z L [] None (lane_at m.state L).redo (drained z L m)
 
 -- ---- Log of a transaction that has words, by the rule that it is checked by
 -- the writes of a transaction on the cached data words
@@ -151,7 +150,7 @@ log_txn_refusal_by r z L f m =
 unfoldable pub logged : Sizes → ℕ → List Write → Machine → Machine
 logged z L ws m =
     let l = lane_at m.state L in
-    appended z L ws (Holds (record { first = l.next; count = length ws; stamp = (m.state).clock + 2 })) (pairs_of max_writes ws) m
+    appended z L ws (Some (record { first = l.next; count = length ws; stamp = (m.state).clock + 2 })) (pairs_of max_writes ws) m
 
 unfoldable pub log_txn_step_by : Rule → Sizes → ℕ → List ℕ → Machine → Step
 log_txn_step_by r z L f m =

@@ -1,10 +1,13 @@
 -- How a call's parameters and result are a machine and a step of it: what the calls' contracts compare. SPECIFICATION, "Contracts". Assumes nothing.
-use Rattle.std.specs.Prelude.{ℕ, cond, List, ◌++◌, eqb}
+use Rattle.std.specs.Prelude.{ℕ, cond, List, ◌++◌, eqb, Result, Ok, Err, ⊤}
 use Rattle.record.specs.Record.{no_pairs, blank_record}
 use Rattle.record.specs.declared.Record.{Record}
 use Rattle.codec.specs.Fields.{record_in, pairs_in, words_of}
-use Rattle.store.specs.declared.Answer.{Answer}
-use Rattle.store.specs.declared.Outcome.{Outcome}
+use Rattle.store.specs.Answers.{Answer, Refused, Done, NoWrites, Logged, Settled, Committed, Stale, Changed, Marked, Locked}
+use Rattle.store.specs.declared.Answer.{Answer as Reply}
+use Rattle.store.specs.declared.Answer.TheVariants as reply
+use Rattle.store.specs.declared.Refusal.{Refusal}
+use Rattle.store.specs.declared.Refusal.TheVariants.{BadBuffers, BadRecord, BadLane, BadWord, BadTxn, AlreadyLogged, NotLogged, ClockSpent, WouldHit, OddBase, LockHeld, TooLong, BadTrailer, WouldLag, BadLag}
 use Rattle.store.specs.Machine.{Machine, Step, said}
 
 abbrev pub machine_of : Record → (pairs cache nvm flags : List ℕ) → Machine
@@ -14,9 +17,47 @@ machine_of state pairs cache nvm flags = record { state = state; pairs = pairs; 
 abbrev pub blank_of : (cache nvm flags : List ℕ) → Machine
 blank_of cache nvm flags = machine_of blank_record no_pairs cache nvm flags
 
--- an outcome, with the pairs and the three buffers as the call leaves them
-abbrev pub step_of : Outcome → (pairs cache nvm flags : List ℕ) → Step
-step_of r pairs cache nvm flags = record { answer = r.answer; machine = machine_of r.state pairs cache nvm flags }
+-- ---- results of the code
+-- the number of a refusal
+unfoldable pub number : Refusal → ℕ
+number BadBuffers = 1
+number BadRecord = 2
+number BadLane = 3
+number BadWord = 4
+number BadTxn = 5
+number AlreadyLogged = 6
+number NotLogged = 7
+number ClockSpent = 8
+number WouldHit = 9
+number OddBase = 10
+number LockHeld = 11
+number TooLong = 12
+number BadTrailer = 14
+number WouldLag = 15
+number BadLag = 16
+
+-- of a test whether a call is refused: 0 where it is not
+unfoldable pub refusal_of : Result ⊤ Refusal → ℕ
+refusal_of (Ok t) = 0
+refusal_of (Err e) = number e
+
+-- what a call answers
+unfoldable pub answer_of : Result Reply Refusal → Answer
+answer_of (Err e) = Refused (number e)
+answer_of (Ok reply.Done) = Done
+answer_of (Ok reply.NoWrites) = NoWrites
+answer_of (Ok (reply.Logged a)) = Logged a
+answer_of (Ok (reply.Settled s)) = Settled s
+answer_of (Ok (reply.Committed s)) = Committed s
+answer_of (Ok reply.Stale) = Stale
+answer_of (Ok reply.Changed) = Changed
+answer_of (Ok (reply.Marked a)) = Marked a
+answer_of (Ok (reply.Locked a)) = Locked a
+
+-- Format's result, with the pairs and the three buffers as the call leaves them; beside a refusal stands a blank record
+unfoldable pub step_of : Result Record Refusal → (pairs cache nvm flags : List ℕ) → Step
+step_of (Ok r) pairs cache nvm flags = record { answer = Done; machine = machine_of r pairs cache nvm flags }
+step_of (Err e) pairs cache nvm flags = record { answer = Refused (number e); machine = machine_of blank_record pairs cache nvm flags }
 
 -- the answer of a call that takes and gives no record, with the buffers as it leaves them
 abbrev pub blank_step_of : Answer → (cache nvm flags : List ℕ) → Step

@@ -1,3 +1,4 @@
+pub mod Answers
 pub mod Machine
 pub mod Calls
 pub mod Locks

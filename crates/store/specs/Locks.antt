@@ -1,17 +1,15 @@
 -- Long transactions under the lock: the call that takes it, and the call that makes the next step, which logs a part or writes it. SPECIFICATION, "Long
 -- transactions". Assumes nothing.
-use Rattle.std.specs.Prelude.{ℕ, ◌+◌, ◌-◌, ◌/◌, cond, not, ◌&&◌, List, [], ◌∷◌, leb, ltb, eqb, length, get_or, set}
+use Rattle.std.specs.Prelude.{ℕ, ◌+◌, ◌-◌, ◌/◌, cond, not, ◌&&◌, List, [], ◌∷◌, leb, ltb, eqb, length, get_or, set, Some, None}
 use Rattle.txn.specs.Txn.{max_long, current}
 use Rattle.txn.specs.declared.Write.{Write}
 use Rattle.image.specs.Image.{data_of}
 use Rattle.image.specs.declared.Sizes.{Sizes}
 use Rattle.record.specs.Record.{lane_at, is_held, locked_in, part_length, pairs_from, pairs_of, words_of_pairs, spent, with_clock, with_last, with_lock}
 use Rattle.record.specs.declared.Pair.{Pair}
-use Rattle.record.specs.declared.Phase.TheVariants.{Idle}
 use Rattle.record.specs.declared.Locked.{Locked}
-use Rattle.record.specs.declared.Lock.TheVariants.{Free, Held}
 use Rattle.record.specs.declared.Record.{Record}
-use Rattle.store.specs.declared.Answer.TheVariants as answer
+use Rattle.store.specs.Answers as answer
 use Rattle.store.specs.Machine.{Machine, Step, first_cause, unless}
 use Rattle.store.specs.Calls.{bad_buffers, bad_record, bad_lane, bad_txn, already_logged, lock_held, drained, changed, would_hit, would_lag, writes_on}
 use Rattle.store.specs.Calls.{appended_at, pair_stores}
@@ -43,7 +41,7 @@ unfoldable pub locked : ℕ → List Write → Machine → Machine
 locked L ws m =
     let s = (m.state).clock + 2 in
     record {
-      state = with_lock (with_clock m.state s) (Held (record { lane = L; stamp = s; count = length ws; logged = 0; written = 0 }));
+      state = with_lock (with_clock m.state s) (Some (record { lane = L; stamp = s; count = length ws; logged = 0; written = 0 }));
       pairs = words_of_pairs (pairs_of max_long ws);
       cache = m.cache;
       nvm = m.nvm;
@@ -84,14 +82,14 @@ unfoldable pub part_logged : Sizes → Locked → Machine → Machine
 part_logged z k m =
     let ws = pair_writes (part_of k m.pairs) (data_of z m.cache) in
     let held : Locked = record { lane = k.lane; stamp = k.stamp; count = k.count; logged = k.logged + length ws; written = k.written } in
-    appended_at z k.lane k.stamp ws Idle (lane_at m.state k.lane).redo (with_lock m.state (Held held)) m
+    appended_at z k.lane k.stamp ws None (lane_at m.state k.lane).redo (with_lock m.state (Some held)) m
 
 -- the record after the present part is written: the last one commits, and frees the lock
 unfoldable pub part_written_state : Locked → Record → Record
 part_written_state k r =
     let n = k.written + part_length k in
-    cond (eqb n k.count) (with_lock (with_last r k.stamp) Free)
-    (with_lock r (Held (record { lane = k.lane; stamp = k.stamp; count = k.count; logged = k.logged; written = n })))
+    cond (eqb n k.count) (with_lock (with_last r k.stamp) None)
+    (with_lock r (Some (record { lane = k.lane; stamp = k.stamp; count = k.count; logged = k.logged; written = n })))
 
 unfoldable pub part_written : Locked → Machine → Machine
 part_written k m = changed k.lane (pair_stores (part_of k m.pairs)) (part_written_state k m.state) m

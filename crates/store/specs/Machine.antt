@@ -2,8 +2,8 @@
 -- "Machine, refusals and answers". Assumes nothing.
 use Rattle.std.specs.Prelude.{ℕ, Bool, true, false, cond, List, [], ◌∷◌, eqb}
 use Rattle.record.specs.declared.Record.{Record}
-use Rattle.store.specs.declared.Answer.{Answer}
-use Rattle.store.specs.declared.Answer.TheVariants.{Refused, Done, NoWrites, Logged, Settled, Committed, Stale, Changed, Marked, Locked}
+use Rattle.store.specs.Answers.{Answer}
+use Rattle.store.specs.Answers.{Refused, Done, NoWrites, Logged, Settled, Committed, Stale, Changed, Marked, Locked}
 
 -- record, the pairs of the transaction that holds the lock (a part of the record that is lent as words), cached image, non-volatile memory (its words are
 -- the cells), flag bytes

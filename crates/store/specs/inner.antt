@@ -1,5 +1,6 @@
 -- How the code goes and why it is right: need not be believed.
 pub mod KeepsLaws
+pub mod ResultLaws
 pub mod SaidLaws
 pub mod Checked
 pub mod StoreLaws

@@ -1,53 +1,98 @@
 // The calls' answers, the calls that append and commit nothing: Format, write-back, Drain, and what the other calls
 // share.
+// Sizes, record and the three buffers are lent to each call one by one, here and in the crates above: of a struct of
+// lent buffers no field may be read while another is lent on, and passed by value its fields have no names in a contract
+// after the call. So no struct would be plainer, and a signature tells which buffers a call may store to.
+// Kept: a lane is a number below 8, in clauses and not in a type, as in codec::read.
 #![tactic(auto)]
 
-ghost use Rattle.std.specs.Prelude.{◌≡◌, true, ◌<◌, length, replicate};
-ghost use Rattle.txn.specs.Txn.{max_writes, txn_ok, run};
-ghost use Rattle.txn.specs.inner.Writes.{writes_of};
+ghost use Rattle.std.specs.Prelude.{◌≡◌, ◌≤◌, true, ◌<◌, length, replicate};
+ghost use Rattle.txn.specs.Txn.{max_long, txn_ok, run};
 ghost use Rattle.image.specs.Image.{max_lanes, sizes_ok, former_length, trailer, image_length, data_of};
 ghost use Rattle.image.specs.inner.Facts.{IsImage};
 ghost use Rattle.lane_log.specs.Log.{latest_in};
 ghost use Rattle.record.specs.Record.{no_pairs, lane_at, with_lane, drained_lane};
-ghost use Rattle.codec.specs.Fields.{record_length, record_of, words_of};
+ghost use Rattle.codec.specs.Fields.{record_of, words_of};
 ghost use Rattle.store.specs.Calls.{start_image, format_refusal, format_step, write_back_refusal, write_back_step};
 ghost use Rattle.store.specs.Calls.{drain_refusal, drain_step};
-ghost use Rattle.store.specs.Interface.{blank_of, step_of, blank_step_of, machine_in, kept_by, keeps};
+ghost use Rattle.store.specs.Interface.{number, refusal_of, answer_of, blank_of, step_of, blank_step_of, machine_in, kept_by, keeps};
 ghost use Rattle.store.specs.inner.Checked.{body_of};
 
 use codec::{RECORD_WORDS, STATE_WORDS};
 use image::Sizes;
-use lane_log::Latest;
+use lane_log::{Log, Sequence};
 use record::Record;
 use txn::Writes;
 
 // What Log answers where the transaction writes: the count of its writes and its timestamp.
-#[derive(Clone, Copy)]
+#[derive(Clone, Copy, PartialEq, Eq)]
 pub struct Appended {
     pub count: usize,
     pub stamp: u64,
 }
 
 // What Mark answers: its timestamp, and whether it dropped a logged transaction.
-#[derive(Clone, Copy)]
+#[derive(Clone, Copy, PartialEq, Eq)]
 pub struct Marked {
     pub stamp: u64,
     pub dropped: bool,
 }
 
 // What Lock and Continue answer: how many writes of the locked transaction are not yet made, and its timestamp.
-#[derive(Clone, Copy)]
+#[derive(Clone, Copy, PartialEq, Eq)]
 pub struct Progress {
     pub left: usize,
     pub stamp: u64,
 }
 
-// The answer of a call.
-#[derive(Clone, Copy)]
+// Why a call is refused, which alters nothing. The numbers are those that callers are told.
+#[derive(Clone, Copy, PartialEq, Eq)]
+pub enum Refusal {
+    // sizes out of range, or a buffer of another length than they ask for
+    BadBuffers = 1,
+    // the record is out of range
+    BadRecord = 2,
+    // no lane has this number
+    BadLane = 3,
+    // no word of the image has this number
+    BadWord = 4,
+    // no well-formed transaction
+    BadTxn = 5,
+    // the lane holds a logged transaction
+    AlreadyLogged = 6,
+    // it holds none, or no lane has the lock
+    NotLogged = 7,
+    // the clock can give no new timestamp
+    ClockSpent = 8,
+    // a slot of a sequence at or above the lower bound would be overwritten
+    WouldHit = 9,
+    // the base timestamp is odd
+    OddBase = 10,
+    // the lock is held, or held by another lane
+    LockHeld = 11,
+    // a long transaction has no room in the lane's log
+    TooLong = 12,
+    // the image tells no sizes
+    BadTrailer = 14,
+    // the new timestamp would be more than the lag limit above the lower bound
+    WouldLag = 15,
+    // the lag limit that the call is given is out of range
+    BadLag = 16,
+}
+
+impl Refusal {
+    #[tactic(auto, unfolding(crate::specs::Interface::number))]
+    pub fn number(self) -> u64
+        ensures { result ≡ number self }
+    {
+        self as u64
+    }
+}
+
+// The answer of a call that is not refused.
+#[derive(Clone, Copy, PartialEq, Eq)]
 pub enum Answer {
-    // the number of the refusal; nothing is altered
-    Refused(u64),
-    // Format, write-back, Drain
+    // write-back, Drain
     Done,
     // Log or Lock of a transaction that writes nothing: count 0, and no timestamp
     NoWrites,
@@ -67,24 +112,7 @@ pub enum Answer {
     Locked(Progress),
 }
 
-// Format's answer with the record that it makes: an enum cannot hold the record's arrays.
-#[derive(Clone, Copy)]
-pub struct Outcome {
-    pub answer: Answer,
-    pub state: Record,
-}
-
-// A refused Format, with the record that stands for none.
-fn refused(number: u64, state: Record) -> Outcome
-    ensures { result ≡ record { answer = Answer.Refused number; state = state } }
-{
-    Outcome {
-        answer: Answer::Refused(number),
-        state,
-    }
-}
-
-// The number of Format's refusal, or 0.
+// Would Format be refused?
 pub fn format_refusal(
     sizes: Sizes,
     lag: u64,
@@ -92,20 +120,20 @@ pub fn format_refusal(
     cache: &[u64],
     nvm: &[u64],
     flags: &[u8],
-) -> u64
-    ensures { result ≡ format_refusal sizes lag start.now
+) -> Result<(), Refusal>
+    ensures { refusal_of result ≡ format_refusal sizes lag start.now
         (blank_of cache.now nvm.now flags.now) }
 {
     if !image::format_ok(sizes, cache.len(), nvm.len(), flags.len()) {
-        return 1;
+        return Err(Refusal::BadBuffers);
     }
     if start.len() != sizes.words {
-        return 1;
+        return Err(Refusal::BadBuffers);
     }
     if !record::lag_ok(lag) {
-        return 16;
+        return Err(Refusal::BadLag);
     }
-    0
+    Ok(())
 }
 
 // The trailer: the sizes, and how many words stand before it.
@@ -129,7 +157,7 @@ fn fill_body(sizes: Sizes, start: &[u64], words: &mut [u64])
     let end = 1 + start.len();
     words[0] = 0;
     image::bulk::copy_words(start, &mut words[1..end]);
-    image::bulk::clear_words(&mut words[end..]);
+    words[end..].fill(0);
 }
 
 // One image as Format leaves it.
@@ -157,10 +185,10 @@ fn fill(sizes: Sizes, start: &[u64], cache: &mut [u64], nvm: &mut [u64], flags: 
 {
     fill_image(sizes, start, cache);
     fill_image(sizes, start, nvm);
-    image::bulk::clear_flags(flags);
+    flags.fill(0);
 }
 
-// Starts the store with these words and this lag limit. It takes no record; beside a refusal the record is a blank one.
+// Starts the store with these words and this lag limit, and answers the record. It takes none.
 pub fn format(
     sizes: Sizes,
     lag: u64,
@@ -168,56 +196,53 @@ pub fn format(
     cache: &mut [u64],
     nvm: &mut [u64],
     flags: &mut [u8],
-) -> Outcome
+) -> Result<Record, Refusal>
     ensures { step_of result no_pairs cache.new nvm.new flags.new
         ≡ format_step sizes lag start.now
         (blank_of cache.old nvm.old flags.old) }
 {
-    let number = format_refusal(sizes, lag, start, cache, nvm, flags);
-    if number != 0 {
-        return refused(number, record::blank_record());
-    }
+    format_refusal(sizes, lag, start, cache, nvm, flags)?;
     fill(sizes, start, cache, nvm, flags);
-    Outcome {
-        answer: Answer::Done,
-        state: record::start_record(lag, 0),
-    }
+    Ok(record::start_record(lag, 0))
 }
 
-// The number of the refusal of a write-back, or 0.
+// Would a write-back be refused?
 pub fn write_back_refusal(
     sizes: Sizes,
     cache: &[u64],
     nvm: &[u64],
     flags: &[u8],
     word: usize,
-) -> u64
-    ensures { result ≡ write_back_refusal sizes word
+) -> Result<(), Refusal>
+    ensures { refusal_of result ≡ write_back_refusal sizes word
         (blank_of cache.now nvm.now flags.now) }
 {
     if !image::buffers_ok(sizes, cache.len(), nvm.len(), flags.len()) {
-        return 1;
+        return Err(Refusal::BadBuffers);
     }
     if cache.len() <= word {
-        return 4;
+        return Err(Refusal::BadWord);
     }
-    0
+    Ok(())
 }
 
 // Copies one word of the image to non-volatile memory. It takes no record.
-pub fn write_back(sizes: Sizes, cache: &[u64], nvm: &mut [u64], flags: &[u8], word: usize) -> Answer
-    ensures { blank_step_of result cache.now nvm.new flags.now
+pub fn write_back(
+    sizes: Sizes,
+    cache: &[u64],
+    nvm: &mut [u64],
+    flags: &[u8],
+    word: usize,
+) -> Result<Answer, Refusal>
+    ensures { blank_step_of (answer_of result) cache.now nvm.new flags.now
         ≡ write_back_step sizes word (blank_of cache.now nvm.old flags.now) }
 {
-    let number = write_back_refusal(sizes, cache, nvm, flags, word);
-    if number != 0 {
-        return Answer::Refused(number);
-    }
+    write_back_refusal(sizes, cache, nvm, flags, word)?;
     image::flush::write_back(cache, nvm, word);
-    Answer::Done
+    Ok(Answer::Done)
 }
 
-// The number of Drain's refusal, or 0: what every call on a lane checks first.
+// Would Drain be refused? What every call on a lane checks first.
 pub fn drain_refusal(
     sizes: Sizes,
     state: &[u64],
@@ -225,40 +250,47 @@ pub fn drain_refusal(
     nvm: &[u64],
     flags: &[u8],
     lane: usize,
-) -> u64
-    ensures { result ≡ drain_refusal sizes lane
+) -> Result<(), Refusal>
+    ensures { refusal_of result ≡ drain_refusal sizes lane
         (machine_in state.now cache.now nvm.now flags.now) }
 {
     if !image::buffers_ok(sizes, cache.len(), nvm.len(), flags.len()) {
-        return 1;
+        return Err(Refusal::BadBuffers);
     }
     if state.len() != STATE_WORDS {
-        return 1;
+        return Err(Refusal::BadBuffers);
     }
-    if !codec::check::record_ok(sizes, &state[..RECORD_WORDS], &state[RECORD_WORDS..]) {
-        return 2;
+    if !codec::check::record_ok(
+        sizes,
+        state.first_chunk().unwrap(),
+        state.last_chunk().unwrap(),
+    ) {
+        return Err(Refusal::BadRecord);
     }
     if sizes.lanes <= lane {
-        return 3;
+        return Err(Refusal::BadLane);
     }
-    0
+    Ok(())
 }
 
 // The lane's latest sequence in the cached log.
-pub fn latest_in(sizes: Sizes, cache: &[u64], lane: usize) -> Latest
+pub fn latest_in(sizes: Sizes, cache: &[u64], lane: usize) -> Option<Sequence>
     requires image { IsImage sizes cache.now }
     requires lane_lt_lanes { lane < sizes.lanes }
     ensures { result ≡ latest_in sizes cache.now lane }
 {
-    let log = image::log_part(sizes, cache, lane);
-    lane_log::search::latest(log, sizes.words, sizes.slots, cache[0])
+    Log::of(sizes, cache, lane).latest()
 }
 
 // The same, looked for first in the slot before the lane's next one, where it nearly always is.
-pub fn latest_near(sizes: Sizes, words: &[u64], cache: &[u64], lane: usize) -> Latest
+pub fn latest_near(
+    sizes: Sizes,
+    words: &[u64; RECORD_WORDS],
+    cache: &[u64],
+    lane: usize,
+) -> Option<Sequence>
     requires image { IsImage sizes cache.now }
     requires lane_lt_lanes { lane < sizes.lanes }
-    requires words_len { length words.now ≡ record_length }
     ensures { result ≡ latest_in sizes cache.now lane }
 {
     let cursor = codec::read::cursor(words, lane);
@@ -267,25 +299,23 @@ pub fn latest_near(sizes: Sizes, words: &[u64], cache: &[u64], lane: usize) -> L
     } else {
         cursor.slot - 1
     };
-    let log = image::log_part(sizes, cache, lane);
-    lane_log::search::latest_near(log, sizes.words, sizes.slots, cache[0], last)
+    Log::of(sizes, cache, lane).latest_near(last)
 }
 
-// The writes of a transaction on the cached data words.
-pub fn writes_on(sizes: Sizes, cache: &[u64], txn: &[u64]) -> Writes
+// The writes of a transaction, of at most N instructions, on the cached data words.
+pub fn writes_on<const N: usize>(sizes: Sizes, cache: &[u64], txn: &[u64]) -> Writes<N>
     requires image { IsImage sizes cache.now }
-    requires txn_value { txn_ok max_writes sizes.words txn.now ≡ true }
-    ensures { result ≡ writes_of max_writes
-        (run sizes.words txn.now (data_of sizes cache.now)) }
+    requires most_bound { N ≤ max_long }
+    requires txn_value { txn_ok N sizes.words txn.now ≡ true }
+    ensures { result ≡ run sizes.words txn.now (data_of sizes cache.now) }
 {
     let end = 1 + sizes.words;
     txn::run(txn, &cache[1..end])
 }
 
 // Stores the record after the lane's drain, which found this latest sequence: it gives the lane its floor.
-pub fn put_drained(words: &mut [u64], lane: usize, latest: Latest)
-    requires words_len { length words.old ≡ record_length }
-    requires lane_lt_max_lanes { lane < max_lanes }
+pub fn put_drained(words: &mut [u64; RECORD_WORDS], lane: usize, latest: Option<Sequence>)
+    requires { lane < max_lanes }
     ensures { words.new ≡ words_of (with_lane (record_of words.old) lane
         (drained_lane latest (lane_at (record_of words.old) lane))) }
 {
@@ -305,17 +335,14 @@ pub fn drain(
     nvm: &mut [u64],
     flags: &mut [u8],
     lane: usize,
-) -> Answer
-    ensures { kept_by result state.new cache.now nvm.new flags.new
+) -> Result<Answer, Refusal>
+    ensures { kept_by (answer_of result) state.new cache.now nvm.new flags.new
         ≡ keeps state.old (drain_step sizes lane
         (machine_in state.old cache.now nvm.old flags.old)) }
 {
-    let number = drain_refusal(sizes, state, cache, nvm, flags, lane);
-    if number != 0 {
-        return Answer::Refused(number);
-    }
-    let latest = latest_near(sizes, &state[..RECORD_WORDS], cache, lane);
+    drain_refusal(sizes, state, cache, nvm, flags, lane)?;
+    let latest = latest_near(sizes, state.first_chunk().unwrap(), cache, lane);
     image::flush::drain(lane, cache, nvm, flags);
-    put_drained(&mut state[..RECORD_WORDS], lane, latest);
-    Answer::Done
+    put_drained(state.first_chunk_mut().unwrap(), lane, latest);
+    Ok(Answer::Done)
 }

@@ -17,6 +17,7 @@ pub fn read_full<R: Read>(reader: &mut R, buf: &mut [u8]) -> Result<usize>
     ensures end { IfOk result (λ n. n < length buf.new → IsAtEnd (R.remaining reader.new)) }
     ensures failed { OnErr result (ConsumesPart (R.remaining reader.old) (R.remaining reader.new) buf.new) }
 {
+    // the place is counted: where a `&mut` moves along the buffer, the loop's invariant cannot speak of what it has passed
     let mut done = 0;
     while done < buf.len() {
         let count = reader.read(&mut buf[done..])?;
@@ -34,13 +35,12 @@ pub fn write_all<W: Write>(writer: &mut W, buf: &[u8]) -> Result<()>
     ensures written { OnOk result (Appends (W.contents writer.old) (W.contents writer.new) buf.now) }
     ensures failed { OnErr result (AppendsPart (W.contents writer.old) (W.contents writer.new) buf.now) }
 {
-    let mut done = 0;
-    while done < buf.len() {
-        let count = writer.write(&buf[done..])?;
-        if count == 0 {
-            return Err(ErrorKind::WriteZero.into());
+    let mut rest = buf;
+    while !rest.is_empty() {
+        match writer.write(rest)? {
+            0 => return Err(ErrorKind::WriteZero.into()),
+            count => rest = &rest[count..],
         }
-        done += count;
     }
     Ok(())
 }

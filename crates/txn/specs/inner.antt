@@ -3,6 +3,8 @@ pub mod CheckLaws
 pub mod TxnLaws
 pub mod Writes
 pub mod WritesLaws
+pub mod Chunks
+pub mod Operations
 pub mod Lookup
 pub mod LookupLaws
 pub mod Progress

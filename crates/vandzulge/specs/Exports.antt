@@ -1,9 +1,7 @@
 -- What a call leaves for a caller that lends words: the number returned, the record's words, the answer's words, the buffers. SPECIFICATION, "Exported
 -- functions". Assumes nothing.
-use Rattle.std.specs.Prelude.{ℕ, Bool, cond, ◌&&◌, ◌||◌, List, [], ◌∷◌, eqb, length, get_or}
+use Rattle.std.specs.Prelude.{ℕ, Bool, cond, ◌&&◌, ◌||◌, List, [], ◌∷◌, eqb, length, get_or, Option, Some, None}
 use Rattle.image.specs.declared.Sizes.{Sizes}
-use Rattle.lane_log.specs.declared.Timestamp.{Timestamp}
-use Rattle.lane_log.specs.declared.Timestamp.TheVariants.{None, At}
 use Rattle.store.specs.Machine.{Machine, Step, Said, said}
 use Rattle.store.specs.Interface.{state_of, where_taken}
 use Rattle.recovery.specs.Recovery.{Restarted, Told, told}
@@ -72,9 +70,9 @@ unfoldable pub where_finished : Told → (new before : List ℕ) → List ℕ
 where_finished t new before = cond (t.refused || t.cut) before new
 
 -- 1 and 0, or 2 and the boundary; then the count of entries undone, and that of torn slots
-unfoldable pub finished_words : Timestamp → (undone torn : ℕ) → List ℕ
+unfoldable pub finished_words : Option ℕ → (undone torn : ℕ) → List ℕ
 finished_words None undone torn = 1 ∷ 0 ∷ undone ∷ torn ∷ []
-finished_words (At b) undone torn = 2 ∷ b ∷ undone ∷ torn ∷ []
+finished_words (Some b) undone torn = 2 ∷ b ∷ undone ∷ torn ∷ []
 
 -- 0s where recovery did not finish
 unfoldable pub told_words : Told → List ℕ

@@ -1,45 +1,54 @@
 // What the calls answer, as a number and four words.
-ghost use Rattle.std.specs.Prelude.{◌≡◌, ◌++◌, length};
+// Kept: record and answer are slices here, as C lends them, and clauses say how long they are. As arrays they would be
+// no plainer: each call would take a chunk of either slice, and have to prove that it is there and all of the slice.
+ghost use Rattle.std.specs.Prelude.{◌≡◌, ◌++◌, Ok, length};
 ghost use Rattle.record.specs.Record.{no_pairs};
 ghost use Rattle.store.specs.Machine.{said};
 ghost use Rattle.recovery.specs.Recovery.{told};
+ghost use Rattle.recovery.specs.Interface.{recovered_of};
 ghost use Rattle.codec.specs.Fields.{state_length, words_of};
-ghost use Rattle.store.specs.Interface.{where_taken};
-ghost use Rattle.vandzulge.specs.Exports.{answer_length, said_words};
-ghost use Rattle.vandzulge.specs.Exports.{where_finished, finished_words, told_words};
+ghost use Rattle.store.specs.Interface.{answer_of, where_taken};
+ghost use Rattle.vandzulge.specs.Exports.{record_fits, both_fit, answer_length, said_words};
+ghost use Rattle.vandzulge.specs.Exports.{finished_words, told_words};
+ghost use Rattle.vandzulge.specs.inner.Results.{started_number, started_words, restarted_words};
 
 use crate::ANSWER_WORDS;
-use codec::RECORD_WORDS;
-use lane_log::Timestamp;
+use codec::{RECORD_WORDS, STATE_WORDS};
 use record::Record;
-use recovery::{Recovered, Restart};
-use store::{Answer, Outcome};
+use recovery::{Finished, Restart};
+use store::{Answer, Refusal};
+
+// Has a record so many words as it is lent in?
+#[tactic(auto, unfolding(crate::specs::Exports::record_fits))]
+pub(crate) fn record_fits(state: &[u64]) -> bool
+    ensures { result ≡ record_fits state.now }
+{
+    state.len() == STATE_WORDS
+}
+
+// Have both record and answer?
+#[tactic(auto, unfolding(crate::specs::Exports::both_fit))]
+pub(crate) fn both_fit(state: &[u64], answer: &[u64]) -> bool
+    ensures { result ≡ both_fit state.now answer.now }
+{
+    record_fits(state) && answer.len() == ANSWER_WORDS
+}
 
 // The number of the refusal, 0 where it is none.
-#[tactic(auto, unfolding(store::specs::Machine::said))]
-pub(crate) fn number_in(answer: Answer) -> u64
-    ensures { result ≡ (said answer).number }
+pub(crate) fn number_in(given: Result<Answer, Refusal>) -> u64
+    ensures { result ≡ (said (answer_of given)).number }
 {
-    match answer {
-        Answer::Refused(number) => number,
-        Answer::Done => 0,
-        Answer::NoWrites => 0,
-        Answer::Logged(_) => 0,
-        Answer::Settled(_) => 0,
-        Answer::Committed(_) => 0,
-        Answer::Stale => 0,
-        Answer::Changed => 0,
-        Answer::Marked(_) => 0,
-        Answer::Locked(_) => 0,
+    match given {
+        Ok(_) => 0,
+        Err(refusal) => refusal.number(),
     }
 }
 
-#[tactic(auto, unfolding(store::specs::Machine::said, crate::specs::Exports::said_words, crate::specs::Exports::first_word))]
+#[tactic(auto, unfolding(store::specs::Machine::said, store::specs::Interface::answer_of, crate::specs::Exports::said_words, crate::specs::Exports::first_word))]
 fn answer_words(answer: Answer) -> [u64; ANSWER_WORDS]
-    ensures { result ≡ said_words (said answer) }
+    ensures { result ≡ said_words (said (answer_of (Ok answer))) }
 {
     match answer {
-        Answer::Refused(_) => [0, 0, 0, 0],
         Answer::Done => [0, 0, 0, 0],
         Answer::NoWrites => [0, 0, 0, 0],
         Answer::Logged(appended) => [appended.count as u64, appended.stamp, 0, 0],
@@ -47,7 +56,7 @@ fn answer_words(answer: Answer) -> [u64; ANSWER_WORDS]
         Answer::Committed(stamp) => [1, stamp, 0, 0],
         Answer::Stale => [0, 0, 0, 0],
         Answer::Changed => [0, 0, 0, 0],
-        Answer::Marked(marked) => [codec::bit_for(marked.dropped), marked.stamp, 0, 0],
+        Answer::Marked(marked) => [u64::from(marked.dropped), marked.stamp, 0, 0],
         Answer::Locked(progress) => [progress.left as u64, progress.stamp, 0, 0],
     }
 }
@@ -57,105 +66,89 @@ fn put_start(after: Record, state: &mut [u64])
     requires { length state.old ≡ state_length }
     ensures { state.new ≡ words_of after ++ no_pairs }
 {
-    codec::record_to(after, &mut state[..RECORD_WORDS]);
-    image::bulk::clear_words(&mut state[RECORD_WORDS..]);
+    let (words, pairs) = state.split_first_chunk_mut().unwrap();
+    codec::record_to(after, words);
+    pairs.fill(0);
 }
 
-// Writes the record of a start where the call was taken; its number.
-pub(crate) fn start(outcome: Outcome, state: &mut [u64]) -> u64
+// Writes the record of a start where there is one; the number of the refusal, or 0.
+pub(crate) fn start(started: Result<Record, Refusal>, state: &mut [u64]) -> u64
     requires { length state.old ≡ state_length }
-    ensures number { result ≡ (said outcome.answer).number }
-    ensures words { state.new
-        ≡ where_taken (said outcome.answer).number (words_of outcome.state ++ no_pairs) state.old }
+    ensures number { result ≡ started_number started }
+    ensures words { state.new ≡ started_words started state.old }
 {
-    let answer = outcome.answer;
-    let number = number_in(answer);
-    if number == 0 {
-        let after = outcome.state;
-        put_start(after, state);
+    match started {
+        Ok(after) => {
+            put_start(after, state);
+            0
+        }
+        Err(refusal) => refusal.number(),
     }
-    number
 }
 
 // Writes the answer's words where the call was taken; its number.
-pub(crate) fn reply(given: Answer, answer: &mut [u64]) -> u64
+pub(crate) fn reply(given: Result<Answer, Refusal>, answer: &mut [u64]) -> u64
     requires { length answer.old ≡ answer_length }
-    ensures number { result ≡ (said given).number }
+    ensures number { result ≡ (said (answer_of given)).number }
     ensures words { answer.new
-        ≡ where_taken (said given).number (said_words (said given)) answer.old }
+        ≡ where_taken (said (answer_of given)).number (said_words (said (answer_of given))) answer.old }
 {
-    let number = number_in(given);
-    if number == 0 {
-        let words = answer_words(given);
-        image::bulk::copy_words(&words, answer);
-    }
-    number
-}
-
-#[tactic(auto, unfolding(recovery::specs::Recovery::told))]
-fn recovered_number(answer: Recovered) -> u64
-    ensures { result ≡ (told answer).number }
-{
-    match answer {
-        Recovered::Refused(number) => number,
-        Recovered::Cut => 0,
-        Recovered::Finished(_) => 0,
+    match given {
+        Ok(taken) => {
+            let words = answer_words(taken);
+            answer.copy_from_slice(&words);
+            0
+        }
+        Err(refusal) => refusal.number(),
     }
 }
 
 #[tactic(auto, unfolding(crate::specs::Exports::finished_words))]
-fn finished_words(boundary: Timestamp, undone: usize, torn: usize) -> [u64; ANSWER_WORDS]
-    ensures { result ≡ finished_words boundary undone torn }
+fn finished_words(finished: Finished) -> [u64; ANSWER_WORDS]
+    ensures { result ≡ finished_words finished.boundary finished.undone finished.torn }
 {
+    let boundary = finished.boundary;
     match boundary {
-        Timestamp::None => [1, 0, undone as u64, torn as u64],
-        Timestamp::At(stamp) => [2, stamp, undone as u64, torn as u64],
+        None => [1, 0, finished.undone as u64, finished.torn as u64],
+        Some(stamp) => [2, stamp, finished.undone as u64, finished.torn as u64],
     }
 }
 
-#[tactic(auto, unfolding(recovery::specs::Recovery::told, crate::specs::Exports::told_words, crate::specs::Exports::where_finished))]
-fn recovered_words(answer: Recovered) -> [u64; ANSWER_WORDS]
-    ensures { result ≡ told_words (told answer) }
+// Writes the answer and the record of a start where recovery finished, and 0s for an answer where it was cut short.
+fn recovered(given: Option<Restart>, state: &mut [u64], answer: &mut [u64])
+    requires state_len { length state.old ≡ state_length }
+    requires answer_len { length answer.old ≡ answer_length }
+    ensures state { state.new ≡ restarted_words (Ok given) state.old }
+    ensures answer { answer.new ≡ told_words (told (recovered_of (Ok given))) }
 {
-    match answer {
-        Recovered::Refused(_) => [0, 0, 0, 0],
-        Recovered::Cut => [0, 0, 0, 0],
-        Recovered::Finished(finished) => {
-            let boundary = finished.boundary;
-            finished_words(boundary, finished.undone, finished.torn)
+    match given {
+        Some(after) => {
+            let words = finished_words(after.finished);
+            answer.copy_from_slice(&words);
+            put_start(after.state, state);
         }
+        None => answer.copy_from_slice(&[0; ANSWER_WORDS]),
     }
 }
 
-// Writes the record of a start where recovery finished; its number.
-#[tactic(auto, unfolding(recovery::specs::Recovery::told, crate::specs::Exports::where_finished))]
-pub(crate) fn restart(from: Restart, state: &mut [u64]) -> u64
-    requires { length state.old ≡ state_length }
-    ensures number { result ≡ (told from.answer).number }
-    ensures words { state.new
-        ≡ where_finished (told from.answer) (words_of from.state ++ no_pairs) state.old }
+// The same where the call was taken; its number.
+pub(crate) fn restart(
+    given: Result<Option<Restart>, Refusal>,
+    state: &mut [u64],
+    answer: &mut [u64],
+) -> u64
+    requires state_len { length state.old ≡ state_length }
+    requires answer_len { length answer.old ≡ answer_length }
+    ensures number { result ≡ (told (recovered_of given)).number }
+    ensures state { state.new ≡ restarted_words given state.old }
+    ensures answer { answer.new
+        ≡ where_taken (told (recovered_of given)).number (told_words (told (recovered_of given))) answer.old }
 {
-    let answer = from.answer;
-    match answer {
-        Recovered::Refused(number) => number,
-        Recovered::Cut => 0,
-        Recovered::Finished(_) => {
-            let after = from.state;
-            put_start(after, state);
+    match given {
+        Ok(taken) => {
+            recovered(taken, state, answer);
             0
         }
-    }
-}
-
-// Writes recovery's answer where the call was taken.
-pub(crate) fn reply_restart(given: Recovered, answer: &mut [u64])
-    requires { length answer.old ≡ answer_length }
-    ensures { answer.new
-        ≡ where_taken (told given).number (told_words (told given)) answer.old }
-{
-    let number = recovered_number(given);
-    if number == 0 {
-        let words = recovered_words(given);
-        image::bulk::copy_words(&words, answer);
+        Err(refusal) => refusal.number(),
     }
 }

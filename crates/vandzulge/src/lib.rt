@@ -1,6 +1,8 @@
 // The calls for other languages: numbers and slices only. Each returns 0 where the call is taken, else the number of
 // its refusal, and then it has touched nothing. The sizes are W, T and N. `state` is the record in words, the lock's
 // pairs behind it, `answer` has 4 words; another length of either is refusal 1.
+// Kept: ten of them begin alike, and take words, lanes and slots one by one. The C interface needs it: each call is a
+// symbol of its own, and is given numbers and slices only.
 #![tactic(auto)]
 
 ghost use Rattle.std.specs.Prelude.{◌≡◌};
@@ -13,13 +15,16 @@ ghost use Rattle.codec.specs.Fields.{record_in, pairs_in};
 ghost use Rattle.vandzulge.specs.Exports.{sizes_of, record_fits, both_fit};
 ghost use Rattle.vandzulge.specs.Exports.{left_by, leaves, replies, restarts, restart_replies};
 
-use codec::STATE_WORDS;
 use image::Sizes;
+use store::Refusal;
 
 mod answers;
 
 // How many words an answer has.
 const ANSWER_WORDS: usize = 4;
+
+// The refusal of a record or an answer of another length.
+const UNFIT: u64 = Refusal::BadBuffers as u64;
 
 // Starts the store with these words and this lag limit. The record becomes the start record, with pairs of 0; its words
 // are not read.
@@ -40,16 +45,16 @@ pub extern "C" fn vandzulge_format(
         (format_step (sizes_of words lanes slots) lag start.now)
         (blank_of cache.old nvm.old flags.old) }
 {
-    if state.len() != STATE_WORDS {
-        return 1;
+    if !answers::record_fits(state) {
+        return UNFIT;
     }
     let sizes = Sizes {
         words,
         lanes,
         slots,
     };
-    let outcome = store::format(sizes, lag, start, cache, nvm, flags);
-    answers::start(outcome, state)
+    let started = store::format(sizes, lag, start, cache, nvm, flags);
+    answers::start(started, state)
 }
 
 // Copies one word of the image to non-volatile memory. It takes no record and has no answer.
@@ -74,8 +79,7 @@ pub extern "C" fn vandzulge_write_back(
         lanes,
         slots,
     };
-    let answer = store::write_back(sizes, cache, nvm, flags, word);
-    answers::number_in(answer)
+    answers::number_in(store::write_back(sizes, cache, nvm, flags, word))
 }
 
 // Drains a lane. It has no answer.
@@ -96,8 +100,8 @@ pub extern "C" fn vandzulge_drain(
         (machine_of (record_in state.old) (pairs_in state.old)
         cache.now nvm.old flags.old) }
 {
-    if state.len() != STATE_WORDS {
-        return 1;
+    if !answers::record_fits(state) {
+        return UNFIT;
     }
     let sizes = Sizes {
         words,
@@ -133,11 +137,8 @@ pub extern "C" fn vandzulge_log(
         (machine_of (record_in state.old) (pairs_in state.old)
         cache.old nvm.old flags.old) }
 {
-    if state.len() != STATE_WORDS {
-        return 1;
-    }
-    if answer.len() != ANSWER_WORDS {
-        return 1;
+    if !answers::both_fit(state, answer) {
+        return UNFIT;
     }
     let sizes = Sizes {
         words,
@@ -172,11 +173,8 @@ pub extern "C" fn vandzulge_redo(
         (machine_of (record_in state.old) (pairs_in state.old)
         cache.old nvm.old flags.old) }
 {
-    if state.len() != STATE_WORDS {
-        return 1;
-    }
-    if answer.len() != ANSWER_WORDS {
-        return 1;
+    if !answers::both_fit(state, answer) {
+        return UNFIT;
     }
     let sizes = Sizes {
         words,
@@ -212,11 +210,8 @@ pub extern "C" fn vandzulge_validate(
         (machine_of (record_in state.old) (pairs_in state.old)
         cache.old nvm.old flags.old) }
 {
-    if state.len() != STATE_WORDS {
-        return 1;
-    }
-    if answer.len() != ANSWER_WORDS {
-        return 1;
+    if !answers::both_fit(state, answer) {
+        return UNFIT;
     }
     let sizes = Sizes {
         words,
@@ -251,11 +246,8 @@ pub extern "C" fn vandzulge_mark(
         (machine_of (record_in state.old) (pairs_in state.old)
         cache.old nvm.old flags.old) }
 {
-    if state.len() != STATE_WORDS {
-        return 1;
-    }
-    if answer.len() != ANSWER_WORDS {
-        return 1;
+    if !answers::both_fit(state, answer) {
+        return UNFIT;
     }
     let sizes = Sizes {
         words,
@@ -292,11 +284,8 @@ pub extern "C" fn vandzulge_lock(
         (machine_of (record_in state.old) (pairs_in state.old)
         cache.old nvm.old flags.old) }
 {
-    if state.len() != STATE_WORDS {
-        return 1;
-    }
-    if answer.len() != ANSWER_WORDS {
-        return 1;
+    if !answers::both_fit(state, answer) {
+        return UNFIT;
     }
     let sizes = Sizes {
         words,
@@ -332,11 +321,8 @@ pub extern "C" fn vandzulge_continue(
         (machine_of (record_in state.old) (pairs_in state.old)
         cache.old nvm.old flags.old) }
 {
-    if state.len() != STATE_WORDS {
-        return 1;
-    }
-    if answer.len() != ANSWER_WORDS {
-        return 1;
+    if !answers::both_fit(state, answer) {
+        return UNFIT;
     }
     let sizes = Sizes {
         words,
@@ -373,21 +359,16 @@ pub extern "C" fn vandzulge_recover(
         (recover_step (sizes_of words lanes slots) lag limit)
         (blank_of cache.old nvm.old flags.old) }
 {
-    if state.len() != STATE_WORDS {
-        return 1;
-    }
-    if answer.len() != ANSWER_WORDS {
-        return 1;
+    if !answers::both_fit(state, answer) {
+        return UNFIT;
     }
     let sizes = Sizes {
         words,
         lanes,
         slots,
     };
-    let result = restart::recover(sizes, lag, cache, nvm, flags, limit);
-    let given = result.answer;
-    answers::reply_restart(given, answer);
-    answers::restart(result, state)
+    let given = restart::recover(sizes, lag, cache, nvm, flags, limit);
+    answers::restart(given, state, answer)
 }
 
 // Recovers an image whose last four words tell its sizes, and is otherwise as the call before.
@@ -410,14 +391,9 @@ pub extern "C" fn vandzulge_recover_read(
         (recover_read_step lag limit)
         (blank_of cache.old nvm.old flags.old) }
 {
-    if state.len() != STATE_WORDS {
-        return 1;
+    if !answers::both_fit(state, answer) {
+        return UNFIT;
     }
-    if answer.len() != ANSWER_WORDS {
-        return 1;
-    }
-    let result = restart::recover_read(lag, cache, nvm, flags, limit);
-    let given = result.answer;
-    answers::reply_restart(given, answer);
-    answers::restart(result, state)
+    let given = restart::recover_read(lag, cache, nvm, flags, limit);
+    answers::restart(given, state, answer)
 }

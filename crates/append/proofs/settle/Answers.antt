@@ -1,61 +1,51 @@
 -- `append::settle` meets its contract: where there is no room the step is refused; otherwise a mark is appended to the drained lane.
 -- Assumes nothing.
-use Rattle.std.proofs.Common.{refl, sym, ap, ◌∙◌}
-use Rattle.store.specs.Machine.{said}
-use Rattle.store.specs.Interface.{keeps}
+use Rattle.std.proofs.Common.{rules, refl, sym, ap, ◌∙◌}
+use Rattle.store.specs.Interface.{keeps, answer_of}
 use Rattle.store.specs.inner.StoreLaws.{checked, lane-small}
 use Rattle.codec.specs.inner.ReadLaws.{lanes-read}
-use Rattle.store.specs.inner.KeepsLaws.{words_long, words-there}
+use Rattle.store.specs.inner.KeepsLaws.{words-there}
 use Rattle.append.specs.inner.LogMarkLaws.{unrefused, log-room, log-refuses, log-searchable, settle-count}
 use Rattle.append.specs.inner.LogMarkLaws.{settle-after, log-settles}
+use Rattle.store.specs.inner.ResultLaws.{answered-err, err-nonzero}
+use Rattle.store.specs.declared.Answer.TheVariants.{Settled}
+use Rattle.codec.proofs.Arrays.{chunk_read, chunk_lent}
 use Rattle.append.proofs.settle.Goals as goal
 
-pub slice_bounds-plan_log-end : goal.slice_bounds-plan_log-end
-slice_bounds-plan_log-end c =
-    words-there c.args.state.now (checked _ _ _ _ _ _ _ (unrefused _ _ _ _ c.requires).at-lane).in_pairs
+pub unwrap-requires : goal.unwrap-requires
+unwrap-requires c =
+    search (rules, words-there c.args.state.now (checked _ _ _ _ _ _ _ (unrefused _ _ _ _ c.requires).at-lane).in_pairs)
 
-pub slice_bounds-plan_log-end-2 : goal.slice_bounds-plan_log-end-2
-slice_bounds-plan_log-end-2 c =
-    sym (words_long c.args.state.now (checked _ _ _ _ _ _ _ (unrefused _ _ _ _ c.requires).at-lane).in_pairs)
-
-pub plan_log-plan-requires : goal.plan_log-plan-requires
-plan_log-plan-requires c =
+pub plan_log-requires : goal.plan_log-requires
+plan_log-requires c =
     record {
-      words_len = words_long c.args.state.now (checked _ _ _ _ _ _ _ (unrefused _ _ _ _ c.requires).at-lane).in_pairs;
-      searchable = log-searchable _ _ _ _ _ _ _ _ _ (lanes-read _) c.requires (settle-count _ _);
+      searchable = rw (chunk_read _ _ _ _ c.unwrap.ensures c.first_chunk.ensures.cases) (log-searchable _ _ _ _ _ _ _ _ _ (lanes-read _) c.requires (settle-count _ _));
     }
 
-pub returns-then-number-ne0 : goal.returns-then-number-ne0
-returns-then-number-ne0 c =
-    log-refuses _ _ _ _ _ _ _ _
-    (c.plan_log-plan.ensures.number ∙ log-room _ _ _ _ (unrefused _ _ _ _ c.requires) _ (settle-count _ _) _ refl) c.if-number-ne0.true
+pub returns-in_err-latest : goal.returns-in_err-latest
+returns-in_err-latest c =
+    rw (answered-err _ _ c.from_residual.ensures.1)
+    (log-refuses _ _ _ _ _ _ _ _
+    ((rw (chunk_read _ _ _ _ c.unwrap.ensures c.first_chunk.ensures.cases) at c.in_err-latest.ensures) ∙ log-room _ _ _ _ (unrefused _ _ _ _ c.requires) _ (settle-count _ _) _ refl)
+    (err-nonzero _))
 
 pub drain-requires : goal.drain-requires
 drain-requires c =
     let k = checked _ _ _ _ _ _ _ (unrefused _ _ _ _ c.requires).at-lane in
     record { lane_lt_max_lanes = lane-small _ _ k.image.sizes-ok k.lane_below; nvm_len = k.same-nvm; flags_len = k.same_flags }
 
-pub slice_bounds-words-end : goal.slice_bounds-words-end
-slice_bounds-words-end c =
-    words-there c.args.state.now (checked _ _ _ _ _ _ _ (unrefused _ _ _ _ c.requires).at-lane).in_pairs
-
-pub slice_bounds-words-end-2 : goal.slice_bounds-words-end-2
-slice_bounds-words-end-2 c =
-    sym (words_long c.args.state.now (checked _ _ _ _ _ _ _ (unrefused _ _ _ _ c.requires).at-lane).in_pairs)
-
 pub put_mark-requires : goal.put_mark-requires
 put_mark-requires c =
     let u = unrefused _ _ _ _ c.requires in
-    let n = c.plan_log-plan.ensures.number ∙ log-room _ _ _ _ u _ (settle-count _ _) _ refl in
+    let n = sym (rw (chunk_read _ _ _ _ c.unwrap.ensures c.first_chunk.ensures.cases) at c.in_ok-latest.ensures.0) ∙ log-room _ _ _ _ u _ (settle-count _ _) _ refl in
     record {
-      words_len = words_long c.args.state.now (checked _ _ _ _ _ _ _ u.at-lane).in_pairs;
-      after_drain = settle-after _ _ _ _ _ _ _ _ (c.plan_log-plan.ensures.latest c.if-number-ne0.false) (sym n ∙ c.if-number-ne0.false) (lanes-read _) _ c.drain.ensures.cleared;
+      after_drain = rw (chunk_lent _ _ _ _ c.unwrap-words.ensures c.first_chunk_mut.ensures.cases) (settle-after _ _ _ _ _ _ _ _ (c.in_ok-latest.ensures.1) (sym n) (lanes-read _) _ c.drain.ensures.cleared);
     }
 
 pub returns : goal.returns
-unfolding said
+unfolding answer_of
 returns c =
-    let n = c.plan_log-plan.ensures.number ∙ log-room _ _ _ _ (unrefused _ _ _ _ c.requires) _ (settle-count _ _) _ refl in
-    c.put_mark.ensures.marked _ _ _ _ refl
+    let n = sym (rw (chunk_read _ _ _ _ c.unwrap.ensures c.first_chunk.ensures.cases) at c.in_ok-latest.ensures.0) ∙ log-room _ _ _ _ (unrefused _ _ _ _ c.requires) _ (settle-count _ _) _ refl in
+    (rw (chunk_lent _ _ _ _ c.unwrap-words.ensures c.first_chunk_mut.ensures.cases) at c.put_mark.ensures.marked) _ _ _ (Settled c.put_mark.result)
     ∙ ap (keeps _)
-    (log-settles _ _ _ _ _ _ _ _ _ c.drain.ensures.copied c.drain.ensures.cleared (sym n ∙ c.if-number-ne0.false) _ c.put_mark.ensures.stamp)
+    (log-settles _ _ _ _ _ _ _ _ _ c.drain.ensures.copied c.drain.ensures.cleared (sym n) _ (rw (chunk_lent _ _ _ _ c.unwrap-words.ensures c.first_chunk_mut.ensures.cases) at c.put_mark.ensures.stamp))

@@ -1,22 +1,19 @@
 -- Inner: how the code goes, need not be believed. Laws of Log and Mark: a law for each return of their checks, their plans and their steps; what they
 -- know where they are not refused. Assumes nothing.
-use Rattle.std.specs.Prelude.{ℕ, zero, suc, ◌+◌, ◌^◌, ◌≤◌, ◌<◌, ◌≡◌, Bool, true, cond, ◌&&◌, eqb, take}
+use Rattle.std.specs.Prelude.{ℕ, zero, suc, ◌+◌, ◌^◌, ◌≤◌, ◌<◌, ◌≡◌, Bool, true, cond, ◌&&◌, eqb, Option, Some, None, Result, Ok, Err, IsErrAnd}
 use Rattle.std.proofs.Math.Path.{refl, sym, ap}
 use Rattle.std.proofs.Common.{◌∙◌, arith, get_or-set_same}
 use Rattle.std.proofs.Math.Bool.{false, or-true}
 use mathlib.Core.List.{List, [], ◌∷◌, ◌++◌}
 use Rattle.std.proofs.Math.Decide.{ℕ_discrete}
 use Rattle.std.proofs.Math.ListN.{length, length-map}
-use Rattle.std.proofs.Math.Seq.{length-take-le}
 use borrow.Author.Tests.{eq-eqb, ne_eqb, eqb-true, eqb-false, le-leb, not-false}
 use Rattle.laws.specs.inner.Tests.{split}
 use Rattle.laws.specs.inner.Lists.{none, All-map}
 use Rattle.slot.specs.Slot.{max_entries}
 use Rattle.txn.specs.Txn.{max_writes, current, txn_ok, run}
-use Rattle.txn.specs.inner.Writes.{writes_of}
 use Rattle.txn.specs.inner.TxnLaws.{run_none, few-writes, run-low}
 use Rattle.txn.specs.declared.Write.{Write}
-use Rattle.txn.specs.declared.Writes.{Writes}
 use Rattle.image.specs.Image.{max_words, max_lanes, sizes_ok, base_of, data_of, log_start, log_of}
 use Rattle.image.specs.inner.ImageLaws.{sizes-in, log-fits}
 use Rattle.image.specs.Flush.{flush_all, drained_nvm, drained_flags}
@@ -27,46 +24,43 @@ use Rattle.lane_log.specs.inner.LogLaws.{hits-in}
 use Rattle.lane_log.specs.Append.{advance, append_stores}
 use Rattle.lane_log.specs.inner.AppendEntries.{WordsBelow, LogAt}
 use Rattle.lane_log.specs.declared.Cursor.{Cursor}
-use Rattle.lane_log.specs.declared.Latest.{Latest}
-use Rattle.lane_log.specs.declared.Timestamp.{Timestamp}
 use Rattle.record.specs.Record.{no_lane, lane_at, is_logged, is_held, spent, bound_of, lag_passed, cursor_of, floor_after_drain, floor_after_append}
 use Rattle.record.specs.Record.{with_lane, with_clock, drained_lane, appended_lane, pairs_of}
 use Rattle.record.specs.inner.RecordLaws.{record-in, LaneIn, lane-in, clock-room, clock-lane, lane-twice}
 use Rattle.record.specs.declared.Lane.{Lane}
 use Rattle.record.specs.declared.Pair.{Pair}
-use Rattle.record.specs.declared.Phase.{Phase}
-use Rattle.record.specs.declared.Phase.TheVariants.{Idle, Holds}
 use Rattle.record.specs.declared.Record.{Record}
 use Rattle.codec.specs.Fields.{record_of, words_of}
 use Rattle.codec.specs.inner.InPlace.{headed, redone}
 use Rattle.codec.specs.inner.ReadLaws.{lanes-read}
-use Rattle.store.specs.declared.Answer.{Answer}
-use Rattle.store.specs.declared.Answer.TheVariants.{Refused, NoWrites, Logged, Settled, Marked}
+use Rattle.store.specs.Answers.{Answer}
+use Rattle.store.specs.Answers.{Refused, NoWrites, Logged, Settled, Marked}
+use Rattle.store.specs.declared.Refusal.{Refusal}
 use Rattle.store.specs.Machine.{Machine, Step, Cause, first_cause, unless, said}
 use Rattle.store.specs.Calls.{bad_buffers, bad_record, bad_lane, bad_txn, already_logged, lock_held, clock_spent, drain_refusal, drained, changed, would_lag, would_hit}
 use Rattle.store.specs.Calls.{writes_on, appended}
 use Rattle.store.specs.Calls.{marked, log_txn_refusal_by, log_txn_step_by, logged, settle_refusal, settle_step, log_refusal_by, log_refusal, log_step_by, log_step}
 use Rattle.store.specs.Calls.{mark_refusal, mark_step}
-use Rattle.store.specs.Interface.{machine_of, machine_in, kept_by, keeps}
+use Rattle.store.specs.Interface.{machine_of, machine_in, kept_by, keeps, refusal_of}
 use Rattle.store.specs.inner.Checked.{Checked, drained_state}
 use Rattle.store.specs.inner.StoreLaws.{first_holds, first-fails, first-none, first-end, checked, lane-small, at-lane, after-lane}
 use Rattle.store.specs.inner.StoreLaws.{lane-passed, step-taken, drained-by, drained-state, drained-clock, drained-lane, drained-keeps}
 use Rattle.store.specs.inner.KeepsLaws.{keeps-taken, keeps-refused}
-use Rattle.store.specs.inner.CachedWritesLaws.{count_of, full-list, writes-of}
-use Rattle.append.specs.declared.Plan.{Plan}
 use Rattle.append.specs.inner.Plans.{room_refusal, bad_words, log_checks, log_room, takes_stamp, Planned, Searchable, Appendable, AfterDrain}
 use Rattle.append.specs.inner.Plans.{logged_step, marked_step, appended_state}
+use Rattle.record.specs.Record.{Phase}
+use Rattle.lane_log.specs.declared.Sequence.{Sequence}
 
 -- ---- refusals 8, 15 and 9
 -- the lower bound once the lane has the floor that its drain gives it is that of the drained record
-pub bound-drained : (z : Sizes) (r : Record) (q : Latest) (cache : List ℕ) (L : ℕ) (old floor bound : Timestamp) → q ≡ latest_in z cache L
+pub bound-drained : (z : Sizes) (r : Record) (q : Option Sequence) (cache : List ℕ) (L : ℕ) (old floor bound : Option ℕ) → q ≡ latest_in z cache L
     → old ≡ (lane_at r L).floor → floor ≡ floor_after_drain q old → ((l : Lane) → l.floor ≡ floor → bound ≡ bound_of z (with_lane r L l))
     → bound ≡ bound_of z (drained_state z cache L r)
 unfolding drained_state drained_lane
 bound-drained z r q cache L old floor bound f o e b = b (drained_lane (latest_in z cache L) (lane_at r L)) (rw (e, o, f))
 
 -- the lag by what was read of the record
-pub lag-read : (ws : List ℕ) (lag clock : ℕ) (bound : Timestamp) (passed : Bool) → lag ≡ (record_of ws).lag → clock ≡ (record_of ws).clock
+pub lag-read : (ws : List ℕ) (lag clock : ℕ) (bound : Option ℕ) (passed : Bool) → lag ≡ (record_of ws).lag → clock ≡ (record_of ws).clock
     → passed ≡ lag_passed lag (clock + 2) bound → lag_passed (record_of ws).lag ((record_of ws).clock + 2) bound ≡ passed
 lag-read ws lag clock bound passed l k e = rw (← l, ← k) (sym e)
 
@@ -76,7 +70,7 @@ module _ (z : Sizes) (r : Record) (cache : List ℕ) (L n : ℕ) (binds : Bool) 
   room-spent e = sym (first_holds _ _ e)
 
   -- the lag and a hit are looked at by the lower bound of the drained record
-  module _ (bound : Timestamp) (b : bound ≡ bound_of z (drained_state z cache L r)) (s : spent r ≡ false) where
+  module _ (bound : Option ℕ) (b : bound ≡ bound_of z (drained_state z cache L r)) (s : spent r ≡ false) where
     lag-in : (binds && lag_passed r.lag (r.clock + 2) (bound_of z (drained_state z cache L r))) ≡ (binds && lag_passed r.lag (r.clock + 2) bound)
     lag-in = rw b
 
@@ -310,8 +304,10 @@ module _ (z : Sizes) (L : ℕ) (m : Machine) where
   mark-unspent e = (first-none _ _ (λ d. omega arith) (first-none _ _ (λ d. omega arith) (lane-passed z L m _ e).1).1).0
 
 -- a refused call's plan
-pub planned-refused : (p : Plan) (refusal : ℕ) (q : Latest) → p.number ≡ refusal → (p.number ≡ 0 → ⊥) → Planned p refusal q
-planned-refused p refusal q e h = record { number = e; latest = λ d. absurd (h d) }
+pub planned-err : (refusal : ℕ) (q : Option Sequence) (r : Result (Option Sequence) Refusal) (e : Refusal) → IsErrAnd r (λ x. x ≡ e)
+    → refusal_of (Err e) ≡ refusal → Planned r refusal q
+planned-err refusal q (Ok l) e p h = elim p [ ]
+planned-err refusal q (Err x) e p h = rw p h
 
 -- ---- what a call knows that is not refused 1, 2 or 3: its lane is in range
 pub lane_inside : (z : Sizes) (L : ℕ) (ws : List ℕ) → sizes_ok z ≡ true → L < z.lanes → L < length (record_of ws).lanes
@@ -323,7 +319,7 @@ module _ (z : Sizes) (state : Record) (pairs cache nvm flags : List ℕ) (L : �
   lane-held = lane-in z _ _
       ((record-in z state pairs k.in-range).lanes L k.lane_below (omega (arith, lane-small z L k.image.sizes-ok k.lane_below)))
 
-  pub searchable : (q : Latest) (n : ℕ) → q ≡ latest_in z cache L → 1 ≤ n → n + max_entries ≤ z.slots → Searchable z state q cache L n
+  pub searchable : (q : Option Sequence) (n : ℕ) → q ≡ latest_in z cache L → 1 ≤ n → n + max_entries ≤ z.slots → Searchable z state q cache L n
   searchable q n f h g = record {
     image = k.image;
     lane_below = k.lane_below;
@@ -334,10 +330,10 @@ module _ (z : Sizes) (state : Record) (pairs cache nvm flags : List ℕ) (L : �
   }
 
 -- ---- what a call knows that appends these writes: no refusal, and the lane's latest sequence
-pub record Known (z : Sizes) (state : Record) (pairs cache nvm flags : List ℕ) (L : ℕ) (ws : List Write) (w : Writes) (q : Latest) : Type 0 where
+pub record Known (z : Sizes) (state : Record) (pairs cache nvm flags : List ℕ) (L : ℕ) (ws : List Write) (w : List Write) (q : Option Sequence) : Type 0 where
   pub checked : Checked z state pairs cache nvm flags L
   pub small : L < max_lanes
-  pub writes : w ≡ writes_of max_writes ws
+  pub writes : w ≡ ws
   pub few : length ws ≤ max_writes
   pub low : WordsBelow max_words ws
   pub latest : q ≡ latest_in z cache L
@@ -394,9 +390,9 @@ log-searchable z L f state pairs cache nvm flags n eight h v =
     searchable z state pairs cache nvm flags L k eight _ (n + 1) refl (omega arith)
     (omega (arith, few-counted z L f (machine_of state pairs cache nvm flags) n v s.words-high u, s.slots-low))
 
-module _ (z : Sizes) (state : Record) (pairs cache nvm flags : List ℕ) (L : ℕ) (w : Writes) (q : Latest) (found : q ≡ latest_in z cache L) where
+module _ (z : Sizes) (state : Record) (pairs cache nvm flags : List ℕ) (L : ℕ) (w : List Write) (q : Option Sequence) (found : q ≡ latest_in z cache L) where
   pub log-known : (f : List ℕ) → log_checks z L f (machine_of state pairs cache nvm flags) ≡ 0
-      → w ≡ writes_of max_writes (writes_on z f (machine_of state pairs cache nvm flags))
+      → w ≡ writes_on z f (machine_of state pairs cache nvm flags)
       → Known z state pairs cache nvm flags L (writes_on z f (machine_of state pairs cache nvm flags)) w q
   log-known f e v =
       let u = unrefused z L f (machine_of state pairs cache nvm flags) e in
@@ -412,7 +408,7 @@ module _ (z : Sizes) (state : Record) (pairs cache nvm flags : List ℕ) (L : �
       }
 
   -- no writes
-  none-known : drain_refusal z L (machine_of state pairs cache nvm flags) ≡ 0 → w ≡ writes_of max_writes [] → Known z state pairs cache nvm flags L [] w q
+  none-known : drain_refusal z L (machine_of state pairs cache nvm flags) ≡ 0 → w ≡ [] → Known z state pairs cache nvm flags L [] w q
   none-known e v =
       let k = checked z state pairs cache nvm flags L e in
       record {
@@ -443,48 +439,46 @@ module _ (z : Sizes) (state : Record) (pairs cache nvm flags : List ℕ) (L : �
             place = record { slot = l.next; wrap = l.wrap };
             room = omega (arith, h);
             writes = record {
-              few = rw (count_of _ ws k.writes) k.few;
-              full = full-list _ ws k.writes;
-              low = rw (writes-of _ ws k.writes k.few) k.low;
+              few = rw k.writes k.few;
+              low = rw k.writes k.low;
             };
           };
         }
 
   pub log-after : (f : List ℕ) → Known z state pairs cache nvm flags L (writes_on z f (machine_of state pairs cache nvm flags)) w q
-      → log_refusal z L f (machine_of state pairs cache nvm flags) ≡ 0 → (w.count ≡ 0 → ⊥) → length state.lanes ≡ max_lanes → (flags' : List ℕ)
+      → log_refusal z L f (machine_of state pairs cache nvm flags) ≡ 0 → (length w ≡ 0 → ⊥) → length state.lanes ≡ max_lanes → (flags' : List ℕ)
       → flags' ≡ drained_flags L flags → AfterDrain z state q cache flags' L w
   log-after f k e h eight flags' d =
       after-drain _ k eight
       (clock-free _ k
       (log-unspent z L f (machine_of state pairs cache nvm flags) e
-      (takes-some z f (machine_of state pairs cache nvm flags) _ (count_of w _ k.writes) h))) flags' d
+      (takes-some z f (machine_of state pairs cache nvm flags) _ (ap length k.writes) h))) flags' d
 
 -- a mark may be appended
-module _ (z : Sizes) (state : Record) (pairs cache nvm flags : List ℕ) (L : ℕ) (q : Latest) (found : q ≡ latest_in z cache L) where
+module _ (z : Sizes) (state : Record) (pairs cache nvm flags : List ℕ) (L : ℕ) (q : Option Sequence) (found : q ≡ latest_in z cache L) where
   mark-may : drain_refusal z L (machine_of state pairs cache nvm flags) ≡ 0 → spent state ≡ false → length state.lanes ≡ max_lanes → (flags' : List ℕ)
-      → flags' ≡ drained_flags L flags → AfterDrain z state q cache flags' L (writes_of max_writes [])
+      → flags' ≡ drained_flags L flags → AfterDrain z state q cache flags' L []
   mark-may e s eight flags' d =
-      let w = writes_of max_writes [] in
-      let k = none-known z state pairs cache nvm flags L w q found e refl in
-      after-drain z state pairs cache nvm flags L w q found [] k eight (clock-free z state pairs cache nvm flags L w q found [] k s) flags' d
+      let k = none-known z state pairs cache nvm flags L [] q found e refl in
+      after-drain z state pairs cache nvm flags L [] q found [] k eight (clock-free z state pairs cache nvm flags L [] q found [] k s) flags' d
 
   -- by Log of no words
   pub settle-after : log_refusal z L [] (machine_of state pairs cache nvm flags) ≡ 0 → length state.lanes ≡ max_lanes → (flags' : List ℕ)
-      → flags' ≡ drained_flags L flags → AfterDrain z state q cache flags' L (writes_of max_writes [])
+      → flags' ≡ drained_flags L flags → AfterDrain z state q cache flags' L []
   settle-after e =
       let m = machine_of state pairs cache nvm flags in
       mark-may (unrefused z L [] m (log-checked z L [] m e)).at-lane (log-unspent z L [] m e (takes_none z [] m refl))
 
   -- by Mark
   pub mark-after : mark_refusal z L (machine_of state pairs cache nvm flags) ≡ 0 → length state.lanes ≡ max_lanes → (flags' : List ℕ)
-      → flags' ≡ drained_flags L flags → AfterDrain z state q cache flags' L (writes_of max_writes [])
+      → flags' ≡ drained_flags L flags → AfterDrain z state q cache flags' L []
   mark-after e =
       let m = machine_of state pairs cache nvm flags in
       mark-may (mark-lane z L m e) (mark-unspent z L m e)
 
 -- ---- an append
 -- where it starts: the lane's log, which is within the buffers
-pub append_at : (z : Sizes) (c : Cursor) (cache flags : List ℕ) (L : ℕ) (w : Writes) (s start : ℕ) → Appendable z c cache flags L w s
+pub append_at : (z : Sizes) (c : Cursor) (cache flags : List ℕ) (L : ℕ) (w : List Write) (s start : ℕ) → Appendable z c cache flags L w s
     → start ≡ log_start z L → LogAt start z.slots L cache flags
 append_at z c cache flags L w s start a e = record {
   slots-high = (sizes-in z a.image.sizes-ok).slots-high;
@@ -494,7 +488,7 @@ append_at z c cache flags L w s start a e = record {
 }
 
 -- the record that it leaves, as it is stored: the clock, then the lane without its redo log
-pub appended-words : (r r₁ r₂ : Record) (ws : List ℕ) (L : ℕ) (q : Latest) (s : ℕ) (end : Cursor) (phase : Phase) (old mid floor : Timestamp)
+pub appended-words : (r r₁ r₂ : Record) (ws : List ℕ) (L : ℕ) (q : Option Sequence) (s : ℕ) (end : Cursor) (phase : Phase) (old mid floor : Option ℕ)
     → old ≡ (lane_at r L).floor → mid ≡ floor_after_drain q old → floor ≡ floor_after_append s mid → r₁ ≡ with_clock r s
     → r₂ ≡ with_lane r₁ L (headed phase end floor (lane_at r₁ L)) → ws ≡ words_of r₂ → ws ≡ words_of (appended_state r L q s end phase)
 unfolding appended_state headed appended_lane drained_lane with_clock lane_at
@@ -506,7 +500,7 @@ unfolding lane_at with_lane
 lane-set r L l h = get_or-set_same r.lanes L l no_lane h
 
 -- the record where the redo log was stored before it
-redone-first : (r r₁ : Record) (L : ℕ) (q : Latest) (s : ℕ) (end : Cursor) (phase : Phase) (redo : List Pair) → L < length r.lanes
+redone-first : (r r₁ : Record) (L : ℕ) (q : Option Sequence) (s : ℕ) (end : Cursor) (phase : Phase) (redo : List Pair) → L < length r.lanes
     → r₁ ≡ with_lane r L (redone redo (lane_at r L))
     → appended_state r₁ L q s end phase ≡ with_lane (with_clock r s) L (appended_lane s end phase redo (drained_lane q (lane_at r L)))
 unfolding appended_state redone appended_lane drained_lane
@@ -516,18 +510,18 @@ redone-first r r₁ L q s end phase redo h e =
     (lane-twice (with_clock r s) L l (appended_lane s end phase redo (drained_lane q (lane_at r L))))
 
 -- on a drained machine
-append-machine : (z : Sizes) (L : ℕ) (phase : Phase) (redo : List Pair) (d : Record) (pairs cache nvm flags : List ℕ) (w : Writes) → w.count ≤ length w.list
+append-machine : (z : Sizes) (L : ℕ) (phase : Phase) (redo : List Pair) (d : Record) (pairs cache nvm flags : List ℕ) (w : List Write)
     → (s : ℕ) (cursor end : Cursor) (r₂ : Record) (cache' flags' : List ℕ) → s ≡ d.clock + 2 → cursor ≡ cursor_of (lane_at d L)
-    → end ≡ advance z.slots (w.count + 1) cursor → r₂ ≡ with_lane (with_clock d s) L (appended_lane s end phase redo (lane_at d L))
-    → cache' ≡ stored (append_stores (log_start z L) z.slots s cursor (take w.count w.list)) cache
-    → flags' ≡ flush_all L (places (append_stores (log_start z L) z.slots s cursor (take w.count w.list))) flags
-    → machine_of r₂ pairs cache' nvm flags' ≡ appended z L (take w.count w.list) phase redo (machine_of d pairs cache nvm flags)
+    → end ≡ advance z.slots (length w + 1) cursor → r₂ ≡ with_lane (with_clock d s) L (appended_lane s end phase redo (lane_at d L))
+    → cache' ≡ stored (append_stores (log_start z L) z.slots s cursor w) cache
+    → flags' ≡ flush_all L (places (append_stores (log_start z L) z.slots s cursor w)) flags
+    → machine_of r₂ pairs cache' nvm flags' ≡ appended z L w phase redo (machine_of d pairs cache nvm flags)
 unfolding appended changed
-append-machine z L phase redo d pairs cache nvm flags w h s cursor end r₂ cache' flags' e₁ e₂ e₃ e₄ e₅ e₆ =
-    rw (e₄, e₃, e₆, e₅, e₂, e₁, length-take-le w.count w.list h)
+append-machine z L phase redo d pairs cache nvm flags w s cursor end r₂ cache' flags' e₁ e₂ e₃ e₄ e₅ e₆ =
+    rw (e₄, e₃, e₆, e₅, e₂, e₁)
 
 -- the record before the drain, with its clock and its lane changed, is the drained one so changed
-module _ (z : Sizes) (L : ℕ) (r : Record) (q : Latest) (cache : List ℕ) (f : q ≡ latest_in z cache L) (small : L < length r.lanes) where
+module _ (z : Sizes) (L : ℕ) (r : Record) (q : Option Sequence) (cache : List ℕ) (f : q ≡ latest_in z cache L) (small : L < length r.lanes) where
   changed-once : (s : ℕ) (after : Lane) → with_lane (with_clock r s) L after ≡ with_lane (with_clock (drained_state z cache L r) s) L after
   unfolding drained_state
   changed-once s after =
@@ -542,54 +536,54 @@ module _ (z : Sizes) (L : ℕ) (r : Record) (q : Latest) (cache : List ℕ) (f :
   cursor-drained = rw ((drained-keeps z cache L r).next, (drained-keeps z cache L r).wrap)
 
   -- what an append leaves, from the lane's cursor at the next timestamp
-  module _ (pairs nvm flags : List ℕ) (w : Writes) (n : w.count ≤ length w.list) (s : ℕ) (cursor end : Cursor) (cache' flags' : List ℕ)
-      (e₁ : s ≡ r.clock + 2) (e₂ : cursor ≡ cursor_of (lane_at r L)) (e₃ : end ≡ advance z.slots (w.count + 1) cursor)
-      (e₄ : cache' ≡ stored (append_stores (log_start z L) z.slots s cursor (take w.count w.list)) cache)
-      (e₅ : flags' ≡ flush_all L (places (append_stores (log_start z L) z.slots s cursor (take w.count w.list))) flags) where
+  module _ (pairs nvm flags : List ℕ) (w : List Write) (s : ℕ) (cursor end : Cursor) (cache' flags' : List ℕ)
+      (e₁ : s ≡ r.clock + 2) (e₂ : cursor ≡ cursor_of (lane_at r L)) (e₃ : end ≡ advance z.slots (length w + 1) cursor)
+      (e₄ : cache' ≡ stored (append_stores (log_start z L) z.slots s cursor w) cache)
+      (e₅ : flags' ≡ flush_all L (places (append_stores (log_start z L) z.slots s cursor w)) flags) where
     appended-by : (phase : Phase) (redo : List Pair) (r₂ : Record)
         → r₂ ≡ with_lane (with_clock r s) L (appended_lane s end phase redo (drained_lane q (lane_at r L)))
         → machine_of r₂ pairs cache' nvm flags'
-        ≡ appended z L (take w.count w.list) phase redo (machine_of (drained_state z cache L r) pairs cache nvm flags)
+        ≡ appended z L w phase redo (machine_of (drained_state z cache L r) pairs cache nvm flags)
     appended-by phase redo r₂ e =
-        append-machine z L phase redo (drained_state z cache L r) pairs cache nvm flags w n s cursor end r₂ cache' flags'
+        append-machine z L phase redo (drained_state z cache L r) pairs cache nvm flags w s cursor end r₂ cache' flags'
         (e₁ ∙ ap (λ (k : ℕ). k + 2) (sym (drained-clock z cache L r))) (e₂ ∙ cursor-drained) e₃
         (e ∙ changed-once s _ ∙ ap (λ (l : Lane). with_lane (with_clock (drained_state z cache L r) s) L (appended_lane s end phase redo l)) lane-drained) e₄ e₅
 
     -- a mark
-    mark-by : (answer : Answer) (machine : Machine) → w ≡ writes_of max_writes []
-        → machine ≡ appended z L (take w.count w.list) Idle (lane_at r L).redo (machine_of (drained_state z cache L r) pairs cache nvm flags)
+    mark-by : (answer : Answer) (machine : Machine) → w ≡ []
+        → machine ≡ appended z L w None (lane_at r L).redo (machine_of (drained_state z cache L r) pairs cache nvm flags)
         → record { answer = answer; machine = machine } ≡ marked_step z L answer (machine_of (drained_state z cache L r) pairs cache nvm flags)
     unfolding marked_step
-    mark-by answer machine v a = rw (a, writes-of w [] v (omega arith), (drained-keeps z cache L r).redo)
+    mark-by answer machine v a = rw (a, v, (drained-keeps z cache L r).redo)
 
-    pub marks : (before ws : List ℕ) (answer : Answer) → (said answer).number ≡ 0 → w ≡ writes_of max_writes []
-        → ws ≡ words_of (appended_state r L q s end Idle)
+    pub marks : (before ws : List ℕ) (answer : Answer) → (said answer).number ≡ 0 → w ≡ []
+        → ws ≡ words_of (appended_state r L q s end None)
         → kept_by answer (ws ++ pairs) cache' nvm flags'
         ≡ keeps before (marked_step z L answer (machine_of (drained_state z cache L r) pairs cache nvm flags))
     unfolding appended_state
     marks before ws answer t v e =
-        let r₂ = appended_state r L q s end Idle in
+        let r₂ = appended_state r L q s end None in
         keeps-taken before answer r₂ ws pairs cache' nvm flags' _
-        (mark-by answer (machine_of r₂ pairs cache' nvm flags') v (appended-by Idle (lane_at r L).redo r₂ refl)) t e
+        (mark-by answer (machine_of r₂ pairs cache' nvm flags') v (appended-by None (lane_at r L).redo r₂ refl)) t e
 
     -- Log of a transaction that writes
-    log-by : (redo : List Pair) (machine : Machine) → redo ≡ pairs_of max_writes (take w.count w.list)
-        → machine ≡ appended z L (take w.count w.list) (Holds (record { first = cursor.slot; count = w.count; stamp = s })) redo
+    log-by : (redo : List Pair) (machine : Machine) → redo ≡ pairs_of max_writes w
+        → machine ≡ appended z L w (Some (record { first = cursor.slot; count = length w; stamp = s })) redo
         (machine_of (drained_state z cache L r) pairs cache nvm flags)
-        → record { answer = Logged (record { count = w.count; stamp = s }); machine = machine }
-        ≡ logged_step z L (take w.count w.list) (machine_of (drained_state z cache L r) pairs cache nvm flags)
+        → record { answer = Logged (record { count = length w; stamp = s }); machine = machine }
+        ≡ logged_step z L w (machine_of (drained_state z cache L r) pairs cache nvm flags)
     unfolding logged_step logged cursor_of
     log-by redo machine g a =
-        rw (a, g, e₂, e₁, (drained-keeps z cache L r).next, drained-clock z cache L r, length-take-le w.count w.list n)
+        rw (a, g, e₂, e₁, (drained-keeps z cache L r).next, drained-clock z cache L r)
 
-    pub logs : (before ws : List ℕ) (r₁ : Record) (redo : List Pair) → redo ≡ pairs_of max_writes (take w.count w.list)
+    pub logs : (before ws : List ℕ) (r₁ : Record) (redo : List Pair) → redo ≡ pairs_of max_writes w
         → r₁ ≡ with_lane r L (redone redo (lane_at r L))
-        → ws ≡ words_of (appended_state r₁ L q s end (Holds (record { first = cursor.slot; count = w.count; stamp = s })))
-        → kept_by (Logged (record { count = w.count; stamp = s })) (ws ++ pairs) cache' nvm flags'
-        ≡ keeps before (logged_step z L (take w.count w.list) (machine_of (drained_state z cache L r) pairs cache nvm flags))
+        → ws ≡ words_of (appended_state r₁ L q s end (Some (record { first = cursor.slot; count = length w; stamp = s })))
+        → kept_by (Logged (record { count = length w; stamp = s })) (ws ++ pairs) cache' nvm flags'
+        ≡ keeps before (logged_step z L w (machine_of (drained_state z cache L r) pairs cache nvm flags))
     unfolding said
     logs before ws r₁ redo g e d =
-        let phase = Holds (record { first = cursor.slot; count = w.count; stamp = s }) in
+        let phase = Some (record { first = cursor.slot; count = length w; stamp = s }) in
         let r₂ = appended_state r₁ L q s end phase in
         keeps-taken before _ r₂ ws pairs cache' nvm flags' _
         (log-by redo (machine_of r₂ pairs cache' nvm flags') g (appended-by phase redo r₂ (redone-first r r₁ L q s end phase redo small e))) refl d
@@ -639,27 +633,27 @@ module _ (z : Sizes) (L : ℕ) (state : Record) (pairs cache nvm flags nvm' flag
   taken-some [] n e step a = absurd (n refl)
   taken-some (w ∷ f) n e step a = a ∙ step-taken _ _ _ _ refl e
 
-  module _ (f : List ℕ) (w : Writes) (q : Latest) (k : Known z state pairs cache nvm flags L (writes_on z f (machine_of state pairs cache nvm flags)) w q)
+  module _ (f : List ℕ) (w : List Write) (q : Option Sequence) (k : Known z state pairs cache nvm flags L (writes_on z f (machine_of state pairs cache nvm flags)) w q)
       (e : log_refusal z L f (machine_of state pairs cache nvm flags) ≡ 0) (n : length f ≡ 0 → ⊥) where
     -- a transaction that writes nothing drains its lane
-    pub log-drains : (before ws : List ℕ) → ws ≡ words_of (with_lane state L (drained_lane q (lane_at state L))) → w.count ≡ 0
+    pub log-drains : (before ws : List ℕ) → ws ≡ words_of (with_lane state L (drained_lane q (lane_at state L))) → length w ≡ 0
         → kept_by NoWrites (ws ++ pairs) cache nvm' flags' ≡ keeps before (log_step z L f (machine_of state pairs cache nvm flags))
     unfolding said drained_state
     log-drains before ws d h =
         keeps-taken before NoWrites (drained_state z cache L state) ws pairs cache nvm' flags' _
-        (rw now-drained (taken-some f n e _ (rw (sym (count_of _ _ k.writes) ∙ h)))) refl
+        (rw now-drained (taken-some f n e _ (rw (sym (ap length k.writes) ∙ h)))) refl
         (d ∙ rw k.latest)
 
     -- one that writes appends to it
-    pub log-writes : (w.count ≡ 0 → ⊥)
-        → logged_step z L (take w.count w.list) (machine_of (drained_state z cache L state) pairs cache nvm' flags')
+    pub log-writes : (length w ≡ 0 → ⊥)
+        → logged_step z L w (machine_of (drained_state z cache L state) pairs cache nvm' flags')
         ≡ log_step z L f (machine_of state pairs cache nvm flags)
     unfolding logged_step
     log-writes h =
-        let c = count_of _ _ k.writes in
+        let c = ap length k.writes in
         taken-some f n e _
         (rw (
-          writes-of _ _ k.writes k.few,
+          k.writes,
           now-drained,
           drained-state z L (machine_of state pairs cache nvm flags),
           drained-clock z cache L state,

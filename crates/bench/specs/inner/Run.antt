@@ -1,25 +1,13 @@
--- Inner: how the code goes, need not be believed. What a run keeps beside the second implementation's words: the store's answer, and pseudo-random
--- numbers. The code's constants are numbers here: region 15 is STORED, whose words 1,792 and 1,793 are the kind of the answer and its number; of region 0
--- word 0 is the seed and word 13 the length of non-volatile memory; calls 7 and 9 are recovery with sizes and without. Assumes nothing.
-use Rattle.std.specs.Prelude.{ℕ, ◌-◌, ◌*◌, ◌/◌, ◌%◌, ◌^◌, cond, List, eqb}
+-- Inner: how the code goes, need not be believed. What a run draws and picks: pseudo-random numbers, each from the seed, and the recovery that an image
+-- is for. Assumes nothing.
+use Rattle.std.specs.Prelude.{ℕ, ◌-◌, ◌*◌, ◌/◌, ◌%◌, ◌^◌, cond, eqb}
 use Rattle.std.specs.Int.Bits.{bit_xor}
-use Rattle.second.specs.inner.Words.{word_at, stored, former_in}
+use Rattle.second.specs.declared.calls.Call.{Call}
+use Rattle.second.specs.declared.calls.Call.TheVariants.{Recover, RecoverRead}
 
--- the kind of the store's last answer
-abbrev pub kind_in : List ℕ → ℕ
-kind_in ws = word_at ws 15 1792
-
--- the number of its refusal, or 0
-unfoldable pub refusal_in : List ℕ → ℕ
-refusal_in ws = cond (eqb (kind_in ws) 0) (word_at ws 15 1793) 0
-
--- how long the buffers are
-abbrev pub lent_in : List ℕ → ℕ
-lent_in ws = word_at ws 0 13
-
--- the recovery of an image so long
-unfoldable pub recovery_in : List ℕ → ℕ
-recovery_in ws = cond (eqb (lent_in ws) (former_in ws)) 7 9
+-- the recovery of an image that is lent so long, where it has so many words without its trailer
+abbrev pub recovery_of : (lent former : ℕ) → Call
+recovery_of lent former = cond (eqb lent former) Recover RecoverRead
 
 -- xorshift: 13 left, 7 right, 17 left
 abbrev pub left13 : ℕ → ℕ
@@ -32,20 +20,16 @@ abbrev pub left17 : ℕ → ℕ
 left17 a = bit_xor a ((a * 2 ^ 17) % 2 ^ 64)
 
 -- the number that is drawn next, which is the new seed
-unfoldable pub drawn : List ℕ → ℕ
-drawn ws = left17 (right7 (left13 (word_at ws 0 0)))
-
--- the words after it is drawn
-unfoldable pub after_draw : List ℕ → List ℕ
-after_draw ws = stored ws 0 0 (drawn ws)
+unfoldable pub drawn : (seed : ℕ) → ℕ
+drawn seed = left17 (right7 (left13 seed))
 
 -- the same below n, 0 where n is 0
-unfoldable pub drawn_below : List ℕ → ℕ → ℕ
-drawn_below ws n = cond (eqb n 0) 0 (drawn ws % n)
+abbrev pub drawn_below : (seed n : ℕ) → ℕ
+drawn_below seed n = cond (eqb n 0) 0 (drawn seed % n)
 
 -- a value of a word: once in eight times any, once in eight times one of the three greatest, else below 4
-unfoldable pub value_drawn : List ℕ → ℕ
-value_drawn ws =
-    let next = after_draw ws in
-    let pick = drawn_below ws 8 in
+abbrev pub value_drawn : (seed : ℕ) → ℕ
+value_drawn seed =
+    let next = drawn seed in
+    let pick = drawn_below seed 8 in
     cond (eqb pick 0) (drawn next) (cond (eqb pick 1) (2 ^ 64 - 1 - drawn_below next 3) (drawn_below next 4))

@@ -1,13 +1,10 @@
--- `holder` is `lock_words`, arm by arm.
--- Assumes nothing.
-use Rattle.record.specs.Record.{is_held, locked_in}
-use Rattle.codec.specs.Fields.{bit_for, lock_words}
+-- `holder` is `lock_words`: 0s where the lock is free. Assumes nothing.
+use Rattle.std.proofs.Common.{refl, ◌∙◌}
+use Rattle.record.specs.Record.{is_held}
+use Rattle.codec.specs.Fields.{lock_words}
+use Rattle.codec.proofs.WriteLaws.{bit-byte, locked-default}
 use Rattle.codec.proofs.holder.Goals as goal
 
-pub returns-in-Free : goal.returns-in-Free
-unfolding lock_words bit_for is_held locked_in
-returns-in-Free c = rw c.in-Free.is
-
-pub returns-in-Held : goal.returns-in-Held
-unfolding lock_words bit_for is_held locked_in
-returns-in-Held c = rw c.in-Held.is
+pub returns : goal.returns
+unfolding lock_words is_held
+returns c = rw (c.from.ensures ∙ bit-byte _, c.is_some.ensures, locked-default _ _ c.unwrap_or_default-held.ensures) refl

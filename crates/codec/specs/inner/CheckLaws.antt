@@ -18,7 +18,7 @@ pair-on ws i =
     let f : 2 + (2 * i + 1) ≡ 2 * suc i + 1 = omega arith in
     rw (get_or-drop 2 ws (2 * i) 0, get_or-drop 2 ws (2 * i + 1) 0, e, f)
 
-pairs-on : (ws : List ℕ) (i n : ℕ) → pairs_from (drop 2 ws) i n ≡ pairs_from ws (suc i) n
+pub pairs-on : (ws : List ℕ) (i n : ℕ) → pairs_from (drop 2 ws) i n ≡ pairs_from ws (suc i) n
 unfolding pairs_from
 pairs-on ws i zero = refl
 pairs-on ws i (suc n) = rw (pair-on ws i, pairs-on ws (suc i) n)
@@ -27,7 +27,7 @@ pair-first : (ws : List ℕ) → pair_of ws ≡ pair_at ws 0
 unfolding pair_of pair_at
 pair-first ws = refl
 
-pairs_first : (ws : List ℕ) (n count : ℕ) → count ≤ n → take count (row_of 2 pair_of n ws) ≡ pairs_from ws 0 count
+pub pairs_first : (ws : List ℕ) (n count : ℕ) → count ≤ n → take count (row_of 2 pair_of n ws) ≡ pairs_from ws 0 count
 unfolding row_of pairs_from
 pairs_first ws n zero h = refl
 pairs_first ws zero (suc count) h = absurd (omega arith)

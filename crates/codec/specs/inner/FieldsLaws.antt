@@ -1,19 +1,18 @@
 -- Inner: how the code goes, need not be believed. Laws of the loops that read and write the record's words. Assumes nothing.
-use Rattle.std.specs.Prelude.{ℕ, zero, suc, ◌+◌, ◌-◌, ◌*◌, ◌≤◌, ◌<◌, ◌≡◌, refl, List, [], ◌∷◌, ◌++◌, length, get_or, set, take, drop}
+use Rattle.std.specs.Prelude.{ℕ, zero, suc, ◌+◌, ◌-◌, ◌*◌, ◌≤◌, ◌<◌, ◌≡◌, refl, List, [], ◌∷◌, ◌++◌, length, get_or, set, take, drop, Option}
 use Rattle.std.proofs.Common.{sym, ◌∙◌, ap, append_assoc, append-nil, arith, mul-suc, add-one, length-append, length-set, length-drop, drop_of_length-le, take_at, take-suc-set, take-suc, take_all, length-take-le, drop-drop, get_or-drop}
 use borrow.Rule.Slice.PartMut.{post_of, put_mid, same_len_mid, mid_len}
 use Rattle.txn.specs.Txn.{max_writes}
 use Rattle.image.specs.Image.{max_lanes}
-use Rattle.lane_log.specs.declared.Timestamp.{Timestamp}
 use Rattle.record.specs.Record.{no_pair, no_lane}
 use Rattle.record.specs.declared.Pair.{Pair}
-use Rattle.record.specs.declared.Phase.{Phase}
 use Rattle.record.specs.declared.Lane.{Lane}
-use Rattle.record.specs.declared.Lock.{Lock}
 use Rattle.record.specs.declared.Record.{Record}
 use Rattle.codec.specs.Fields.{head_length, pairs_length, lane_length, lanes_end, holder_length, record_length}
 use Rattle.codec.specs.Fields.{row_of, phase_of, floor_of, pair_of, lane_of, lock_of, record_of}
 use Rattle.codec.specs.Fields.{row_words, pair_words, head_words, lane_words, lock_words, words_of}
+use Rattle.record.specs.Record.{Lock}
+use Rattle.record.specs.Record.{Phase}
 
 -- the words from k on, as a part of a slice
 pub tail-is : (k : ℕ) (ws : List ℕ) → take (length ws - k) (drop k ws) ≡ drop k ws
@@ -53,7 +52,7 @@ unfolding pair_of
 pair_read ws i = let e : 2 * i + 0 ≡ 2 * i = omega arith in rw (get_or-drop (2 * i) ws 0 0, get_or-drop (2 * i) ws 1 0, e)
 
 -- a lane's fields, the floor and the pairs each from a part of the slice
-pub lane-fields : (ws : List ℕ) (p : Phase) (f : Timestamp) (redo : List Pair) → p ≡ phase_of ws → f ≡ floor_of (take (length ws - 6) (drop 6 ws))
+pub lane-fields : (ws : List ℕ) (p : Phase) (f : Option ℕ) (redo : List Pair) → p ≡ phase_of ws → f ≡ floor_of (take (length ws - 6) (drop 6 ws))
     → redo ≡ row_of 2 pair_of max_writes (take (length ws - head_length) (drop head_length ws))
     → record { phase = p; next = get_or ws 4 0; wrap = get_or ws 5 0; floor = f; redo = redo } ≡ lane_of ws
 unfolding lane_of

@@ -1,21 +1,20 @@
 -- Inner: how the code goes, need not be believed. Laws of fields read where they stand in the record's words, and of the lower bound. Assumes nothing.
-use Rattle.std.specs.Prelude.{ℕ, zero, suc, ◌+◌, ◌-◌, ◌*◌, ◌≤◌, ◌<◌, ◌≡◌, refl, List, eqb, length, get_or, take, drop}
+use Rattle.std.specs.Prelude.{ℕ, zero, suc, ◌+◌, ◌-◌, ◌*◌, ◌≤◌, ◌<◌, ◌≡◌, refl, List, eqb, length, get_or, take, drop, Option}
 use Rattle.std.proofs.Common.{sym, ◌∙◌, ap, arith, mul-suc, le_of_suc-le-suc, length-drop, drop-drop, get_or-set_same, get_or-set_other, eqb-true}
 use Rattle.std.proofs.lemmas.Bool.{eqb-false}
 use Rattle.laws.specs.inner.Tests.{split}
 use Rattle.txn.specs.Txn.{max_writes}
 use Rattle.image.specs.Image.{max_lanes}
-use Rattle.lane_log.specs.declared.Timestamp.{Timestamp}
 use Rattle.record.specs.Record.{no_lane, lane_at, cursor_of, lesser, least_floor, with_lane}
 use Rattle.record.specs.declared.Pair.{Pair}
-use Rattle.record.specs.declared.Phase.{Phase}
 use Rattle.record.specs.declared.Lane.{Lane}
-use Rattle.record.specs.declared.Lock.{Lock}
 use Rattle.record.specs.declared.Record.{Record}
 use Rattle.codec.specs.Fields.{head_length, lane_length, lanes_end, record_length}
 use Rattle.codec.specs.Fields.{row_of, phase_of, floor_of, pair_of, lane_of, lock_of, record_of}
 use Rattle.codec.specs.inner.FieldsLaws.{tail-is}
 use Rattle.codec.specs.inner.InPlace.{floor_with}
+use Rattle.record.specs.Record.{Lock}
+use Rattle.record.specs.Record.{Phase}
 
 -- ---- a lane's words
 pub row_at : {A : Type 0} (size : ℕ) (of : List ℕ → A) (n : ℕ) (ws : List ℕ) (i : ℕ) (d : A) → i < n → get_or (row_of size of n ws) i d ≡ of (drop (size * i) ws)
@@ -26,7 +25,7 @@ row_at size of (suc n) ws (suc i) d h =
     row_at size of n (drop size ws) i d (le_of_suc-le-suc h)
     ∙ ap of (drop-drop (size * i) size ws ∙ ap (λ k. drop k ws) (let e : size + size * i ≡ size * suc i = omega (arith, mul-suc size i) in e))
 
-row-all : {A : Type 0} (size : ℕ) (of : List ℕ → A) (n : ℕ) (ws : List ℕ) → length (row_of size of n ws) ≡ n
+pub row-all : {A : Type 0} (size : ℕ) (of : List ℕ → A) (n : ℕ) (ws : List ℕ) → length (row_of size of n ws) ≡ n
 unfolding row_of
 row-all size of zero ws = refl
 row-all size of (suc n) ws = ap suc (row-all size of n (drop size ws))
@@ -55,7 +54,7 @@ pub lock-there : (ws : List ℕ) (k : Lock) → k ≡ lock_of (take (length ws -
 unfolding record_of
 lock-there ws k e = e ∙ ap lock_of (tail-is (lanes_end + 1) ws)
 
-pub floor-there : (ws : List ℕ) (f : Timestamp) (l : Lane) → f ≡ floor_of (take (length ws - 6) (drop 6 ws)) → lane_of ws ≡ l → f ≡ l.floor
+pub floor-there : (ws : List ℕ) (f : Option ℕ) (l : Lane) → f ≡ floor_of (take (length ws - 6) (drop 6 ws)) → lane_of ws ≡ l → f ≡ l.floor
 unfolding lane_of
 floor-there ws f l e n = e ∙ ap floor_of (tail-is 6 ws) ∙ ap (λ (m : Lane). m.floor) n
 
@@ -81,9 +80,9 @@ floor-with r L i l h =
     (λ e. rw e (ap (λ (m : Lane). m.floor) (sym (get_or-set_other r.lanes L i l no_lane (λ p. eqb-false i L e p)))))
 
 -- a floor more
-pub least-with : (r : Record) (L i : ℕ) (l : Lane) (given least floor next : Timestamp) → i < length r.lanes → l.floor ≡ given
+pub least-with : (r : Record) (L i : ℕ) (l : Lane) (given least floor next : Option ℕ) → i < length r.lanes → l.floor ≡ given
     → least ≡ least_floor (take i (with_lane r L l).lanes) → floor ≡ floor_with r L given i → next ≡ lesser least floor
     → next ≡ lesser (least_floor (take i (with_lane r L l).lanes)) (get_or (with_lane r L l).lanes i no_lane).floor
 least-with r L i l given least floor next h e a b n =
-    n ∙ ap (λ (t : Timestamp). lesser t floor) a
-    ∙ ap (lesser (least_floor (take i (with_lane r L l).lanes))) (b ∙ ap (λ (t : Timestamp). floor_with r L t i) (sym e) ∙ floor-with r L i l h)
+    n ∙ ap (λ (t : Option ℕ). lesser t floor) a
+    ∙ ap (lesser (least_floor (take i (with_lane r L l).lanes))) (b ∙ ap (λ (t : Option ℕ). floor_with r L t i) (sym e) ∙ floor-with r L i l h)

@@ -13,9 +13,8 @@ write_pairs-requires c =
     let k = c.requires.restampable in
     record {
       lane_lt_max_lanes = lane-small _ _ k.image.sizes-ok k.lane_below;
-      count_le_max_writes = c.requires.count_le_max_writes;
       flags_len = k.same_flags;
-      pairs_inside = λ i h. pair_inside c.args.sizes c.args.pairs c.args.count _ c.requires.pairs_value (omega arith) k.image.in_image i (omega arith);
+      pairs_inside = λ i h. pair_inside c.args.sizes c.args.pairs.now _ c.requires.pairs_value k.image.in_image i h;
     }
 
 pub restamp-requires : goal.restamp-requires

@@ -1,38 +1,35 @@
 -- `commit::validate_refusal` meets its contract: Drain's causes first, then the transaction's, then those of a commit.
-use Rattle.std.proofs.Common.{sym, ◌∙◌}
+use Rattle.std.proofs.Common.{rules, refl, sym, ◌∙◌}
 use Rattle.store.specs.inner.StoreLaws.{checked, lane-small}
-use Rattle.store.specs.inner.KeepsLaws.{words_long}
+use Rattle.store.specs.inner.KeepsLaws.{words-there}
 use Rattle.commit.specs.inner.CommitLaws.{validate-refused, validate-bad, validate-causes}
+use Rattle.store.specs.inner.ResultLaws.{none-found, found-err, err-nonzero}
+use Rattle.store.specs.Interface.{number, refusal_of}
+use Rattle.record.specs.Record.{is_held}
+use Rattle.codec.proofs.Arrays.{chunk_read}
 use Rattle.commit.proofs.validate_refusal.Goals as goal
 
-pub returns-then-number-ne0 : goal.returns-then-number-ne0
-returns-then-number-ne0 c = validate-refused _ _ _ _ c.drain_refusal-number.ensures _ c.if-number-ne0.true
+pub returns-in_err-drain_refusal : goal.returns-in_err-drain_refusal
+returns-in_err-drain_refusal c = found-err _ _ _ c.from_residual.ensures.1 (validate-refused _ _ _ _ c.in_err-drain_refusal.ensures _ (err-nonzero _))
 
 pub returns-then-not-txn_ok : goal.returns-then-not-txn_ok
+unfolding refusal_of number
 returns-then-not-txn_ok c =
-    validate-bad _ _ _ _ c.drain_refusal-number.ensures _ c.if-number-ne0.false (sym c.txn_ok.ensures ∙ c.if-not-txn_ok.true)
+    validate-bad _ _ _ _ (sym (none-found c.in_ok-drain_refusal.ensures)) _ refl (sym c.txn_ok.ensures ∙ c.if-not-txn_ok.true)
 
-pub slice_bounds-words-end : goal.slice_bounds-words-end
-slice_bounds-words-end c =
-    let k = checked _ _ _ _ _ _ _ (sym c.drain_refusal-number.ensures ∙ c.if-number-ne0.false) in
-    sym (words_long c.args.state.now k.in_pairs)
+pub unwrap-words-requires : goal.unwrap-words-requires
+unwrap-words-requires c =
+    let k = checked _ _ _ _ _ _ _ (none-found c.in_ok-drain_refusal.ensures) in
+    search (rules, words-there c.args.state.now k.in_pairs)
 
 pub phase-phase-requires : goal.phase-phase-requires
 phase-phase-requires c =
-    let k = checked _ _ _ _ _ _ _ (sym c.drain_refusal-number.ensures ∙ c.if-number-ne0.false) in
-    record { words_len = words_long c.args.state.now k.in_pairs; lane_lt_max_lanes = lane-small _ _ k.image.sizes-ok k.lane_below }
-
-pub lock-lock-requires : goal.lock-lock-requires
-lock-lock-requires c =
-    let k = checked _ _ _ _ _ _ _ (sym c.drain_refusal-number.ensures ∙ c.if-number-ne0.false) in
-    words_long c.args.state.now k.in_pairs
-
-pub spent-requires : goal.spent-requires
-spent-requires c =
-    let k = checked _ _ _ _ _ _ _ (sym c.drain_refusal-number.ensures ∙ c.if-number-ne0.false) in
-    words_long c.args.state.now k.in_pairs
+    let k = checked _ _ _ _ _ _ _ (none-found c.in_ok-drain_refusal.ensures) in
+    lane-small _ _ k.image.sizes-ok k.lane_below
 
 pub returns : goal.returns
+unfolding is_held
 returns c =
-    validate-causes _ _ _ _ c.drain_refusal-number.ensures _ _ _ _ _ _ c.if-number-ne0.false (sym c.txn_ok.ensures ∙ c.if-not-txn_ok.false)
-    c.phase-phase.ensures c.lock-lock.ensures c.is_held.ensures c.spent.ensures c.commit_refusal.ensures
+    let e = chunk_read _ _ _ _ c.unwrap-words.ensures c.first_chunk.ensures.cases in
+    validate-causes _ _ _ _ (sym (none-found c.in_ok-drain_refusal.ensures)) _ _ _ _ _ _ refl (sym c.txn_ok.ensures ∙ c.if-not-txn_ok.false)
+    (rw e at c.phase-phase.ensures) (rw e at c.lock-lock.ensures) c.is_some.ensures (rw e at c.spent.ensures) c.commit_refusal.ensures

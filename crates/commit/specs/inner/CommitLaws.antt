@@ -1,12 +1,12 @@
 -- Inner: how the code goes, need not be believed. Laws of Redo and Validate: their refusals, the stores of a commit, comparing writes with entries, and
 -- each way in which a call ends. Assumes nothing.
-use Rattle.std.specs.Prelude.{ℕ, ◌+◌, ◌*◌, ◌≤◌, ◌<◌, ◌≡◌, Bool, true, false, cond, ◌&&◌, length, get_or, set, drop}
+use Rattle.std.specs.Prelude.{ℕ, ◌+◌, ◌*◌, ◌≤◌, ◌<◌, ◌≡◌, Bool, true, false, cond, ◌&&◌, length, get_or, set, drop, Option, None}
 use Rattle.std.proofs.Math.Path.{refl, sym, ap}
-use Rattle.std.proofs.Common.{◌∙◌, arith, add-one, drop-cons, length-take-le, get_or-take, get_or-set_other}
+use Rattle.std.proofs.Common.{◌∙◌, arith, add-one, drop-cons, get_or-set_other}
 use mathlib.Core.List.{List, [], ◌∷◌, ◌++◌}
 use Rattle.std.proofs.Math.Dec.{eqb, ltb}
 use Rattle.std.proofs.Math.ListN.{take, length-set}
-use Rattle.std.proofs.Math.Seq.{take-suc, drop-length}
+use Rattle.std.proofs.Math.Seq.{take-length, take-suc, drop-length}
 use borrow.Author.Tests.{eq-eqb, ne_eqb, lt-ltb, le-ltb, ltb-true, not-false}
 use Rattle.laws.specs.inner.Tests.{and_left, and_right}
 use Rattle.laws.specs.inner.Lists.{none, more}
@@ -26,21 +26,16 @@ use Rattle.lane_log.specs.Append.{circular, restamp_store}
 use Rattle.lane_log.specs.inner.AppendEntries.{WordsBelow}
 use Rattle.lane_log.proofs.SearchLaws.{circular-low}
 use Rattle.lane_log.specs.declared.Cursor.{Cursor}
-use Rattle.lane_log.specs.declared.Latest.{Latest}
-use Rattle.lane_log.specs.declared.Timestamp.{Timestamp}
-use Rattle.record.specs.Record.{no_pair, lane_at, cursor_of, is_logged, logged_in, is_held, pairs_ok, spent, floor_after_drain, drained_lane, idle_lane}
+use Rattle.record.specs.Record.{no_pair, lane_at, cursor_of, is_logged, logged_in, is_held, pairs_ok, spent, floor_after_drain, drained_lane, idle_lane, Phase}
 use Rattle.record.specs.Record.{with_lane, with_clock, with_last, pairs_of}
 use Rattle.record.specs.inner.RecordLaws.{record-in, lane-in, phase-in, clock-room, pair-below, pairs-cut, lane-twice}
-use Rattle.record.specs.declared.Lock.{Lock}
 use Rattle.record.specs.declared.Logged.{Logged}
 use Rattle.record.specs.declared.Pair.{Pair}
-use Rattle.record.specs.declared.Phase.{Phase}
-use Rattle.record.specs.declared.Phase.TheVariants.{Idle}
 use Rattle.record.specs.declared.Record.{Record}
 use Rattle.codec.specs.Fields.{record_of, words_of}
 use Rattle.codec.specs.inner.InPlace.{headed}
 use Rattle.codec.specs.inner.ReadLaws.{lanes-read}
-use Rattle.store.specs.declared.Answer.TheVariants.{Refused, Committed, Stale, Changed}
+use Rattle.store.specs.Answers.{Refused, Committed, Stale, Changed}
 use Rattle.store.specs.Machine.{Machine, first_cause, said}
 use Rattle.store.specs.Calls.{bad_txn, not_logged, lock_held, clock_spent, drain_refusal, drained, changed, writes_on, pair_stores, commit_stores, committed}
 use Rattle.store.specs.Calls.{redo_refusal, is_stale, redo_pairs, redo_step, entry_matches, entries_match, matches, released}
@@ -53,6 +48,8 @@ use Rattle.store.specs.inner.StoreLaws.{drained-by, drained-state, drained-clock
 use Rattle.store.specs.inner.KeepsLaws.{keeps-taken, keeps-refused}
 use Rattle.commit.specs.inner.Commit.{commit_refusal, released_state, committed_state, commit_words, matches_held, Restampable, Committable, redo_drained}
 use Rattle.commit.specs.inner.Commit.{validate_drained}
+use Rattle.record.specs.Record.{Lock}
+use Rattle.lane_log.specs.declared.Sequence.{Sequence}
 
 -- ---- refusals 7, 11 and 8
 module _ (phase : Phase) (held spent b : Bool) (f : b ≡ is_logged phase) where
@@ -207,11 +204,11 @@ module _ (L : ℕ) (pairs : List Pair) (cache₀ flags₀ : List ℕ) (i : ℕ) 
         );
       }
 
--- a pair below the count is of a word inside the image
-pub pair_inside : (z : Sizes) (pairs : List Pair) (count n : ℕ) → pairs_ok z.words (take count pairs) ≡ true → count ≤ length pairs → former_length z ≤ n
-    → (i : ℕ) → i < count → 1 + (get_or pairs i no_pair).word < n
+-- a pair is of a word inside the image
+pub pair_inside : (z : Sizes) (pairs : List Pair) (n : ℕ) → pairs_ok z.words pairs ≡ true → former_length z ≤ n → (i : ℕ) → i < length pairs
+    → 1 + (get_or pairs i no_pair).word < n
 unfolding former_length
-pair_inside z pairs count n h k e i l = omega (arith, pair-below z.words pairs count i h l (omega arith))
+pair_inside z pairs n h e i l = omega (arith, pair-below z.words pairs (length pairs) i (rw take-length h) l (omega arith))
 
 -- ---- a commit
 -- a word past the data words keeps its value when pairs are written
@@ -268,12 +265,12 @@ module _ (z : Sizes) (L : ℕ) (g : Logged) (s : ℕ) (ps : List Pair) (cache ca
 
 -- ---- the record stored
 -- the head of a lane that is drained and holds nothing
-pub head-released : (r r₂ : Record) (L : ℕ) (q : Latest) (c : Cursor) (before floor : Timestamp) → c ≡ cursor_of (lane_at r L) → before ≡ (lane_at r L).floor
-    → floor ≡ floor_after_drain q before → r₂ ≡ with_lane r L (headed Idle c floor (lane_at r L)) → r₂ ≡ released_state L q r
+pub head-released : (r r₂ : Record) (L : ℕ) (q : Option Sequence) (c : Cursor) (before floor : Option ℕ) → c ≡ cursor_of (lane_at r L) → before ≡ (lane_at r L).floor
+    → floor ≡ floor_after_drain q before → r₂ ≡ with_lane r L (headed None c floor (lane_at r L)) → r₂ ≡ released_state L q r
 unfolding released_state headed idle_lane drained_lane cursor_of
 head-released r r₂ L q c before floor f h g e = e ∙ rw (f, g, h)
 
-pub after-commit : (r r₁ r₂ : Record) (L : ℕ) (q : Latest) (s : ℕ) → r₁ ≡ with_clock r s → r₂ ≡ with_last r₁ s → released_state L q r₂ ≡ committed_state L q s r
+pub after-commit : (r r₁ r₂ : Record) (L : ℕ) (q : Option Sequence) (s : ℕ) → r₁ ≡ with_clock r s → r₂ ≡ with_last r₁ s → released_state L q r₂ ≡ committed_state L q s r
 unfolding committed_state
 after-commit r r₁ r₂ L q s e f = rw (f, e)
 
@@ -291,7 +288,7 @@ module _ (z : Sizes) (cache : List ℕ) (L : ℕ) (r : Record) where
   last-kept : (last : ℕ) → last ≡ r.last → last ≡ (drained_state z cache L r).last
   last-kept _ c = c ∙ sym (drained-last z cache L r)
 
-module _ (z : Sizes) (cache : List ℕ) (L : ℕ) (r : Record) (q : Latest) (found : q ≡ latest_in z cache L) where
+module _ (z : Sizes) (cache : List ℕ) (L : ℕ) (r : Record) (q : Option Sequence) (found : q ≡ latest_in z cache L) where
   lane-drained : with_lane r L (drained_lane q (lane_at r L)) ≡ drained_state z cache L r
   unfolding drained_state
   lane-drained = rw found
@@ -331,47 +328,37 @@ pub record Compared (W N : ℕ) (log : List ℕ) (first : ℕ) (ws : List Write)
 pub compared-none : (W N : ℕ) (log : List ℕ) (first : ℕ) (ws : List Write) → first < N → Compared W N log first ws 0 first
 compared-none W N log first ws h = record { within = h; rest = refl }
 
-module _ (W N : ℕ) (log : List ℕ) (first : ℕ) (list : List Write) (n i slot : ℕ) (a : Compared W N log first (take n list) i slot) (h : i < n)
-    (k : n ≤ length list)
-    (w : Write) (c : Content) (b : Bool) (e : w ≡ get_or list i no_write) (f : c ≡ slot_at W log slot) (g : b ≡ entry_matches w c) where
-  next-write : drop i (take n list) ≡ w ∷ drop (i + 1) (take n list)
-  next-write =
-      drop-cons (take n list) i no_write (rw (length-take-le n list k) h)
-      ∙ rw (get_or-take n list i no_write h, ← e, add-one i)
-
-  next-match : entries_match W N log first (take n list) ≡ (b && entries_match W N log (circular N (slot + 1)) (drop (i + 1) (take n list)))
+module _ (W N : ℕ) (log : List ℕ) (first : ℕ) (ws : List Write) (i slot : ℕ) (a : Compared W N log first ws i slot) (h : i < length ws) (w : Write)
+    (c : Content) (b : Bool) (e : w ≡ get_or ws i no_write) (f : c ≡ slot_at W log slot) (g : b ≡ entry_matches w c) where
+  next-match : entries_match W N log first ws ≡ (b && entries_match W N log (circular N (slot + 1)) (drop (i + 1) ws))
   unfolding entries_match
-  next-match = a.rest ∙ rw (next-write, ← f, ← g)
+  next-match = a.rest ∙ rw (drop-cons ws i no_write h, ← e, ← f, ← g, add-one i)
 
-  pub compared-fails : b ≡ false → false ≡ entries_match W N log first (take n list)
+  pub compared-fails : b ≡ false → false ≡ entries_match W N log first ws
   compared-fails d = sym (next-match ∙ rw d)
 
-  pub compared-more : (next : ℕ) → b ≡ true → next ≡ circular N (slot + 1) → Compared W N log first (take n list) (i + 1) next
+  pub compared-more : (next : ℕ) → b ≡ true → next ≡ circular N (slot + 1) → Compared W N log first ws (i + 1) next
   compared-more next d q =
       record {
         within = rw q (circular-low N (slot + 1) (let l = a.within in omega arith));
         rest = next-match ∙ rw (d, q);
       }
 
-pub compared-all : (W N : ℕ) (log : List ℕ) (first : ℕ) (list : List Write) (n i slot : ℕ) → Compared W N log first (take n list) i slot → i ≡ n
-    → n ≤ length list
-    → true ≡ entries_match W N log first (take n list)
+pub compared-all : (W N : ℕ) (log : List ℕ) (first : ℕ) (ws : List Write) (i slot : ℕ) → Compared W N log first ws i slot → i ≡ length ws
+    → true ≡ entries_match W N log first ws
 unfolding entries_match
-compared-all W N log first list n i slot a e k = sym (a.rest ∙ rw (e, ended))
-  where
-    ended : drop n (take n list) ≡ []
-    ended = ap (λ (j : ℕ). drop j (take n list)) (sym (length-take-le n list k)) ∙ drop-length (take n list)
+compared-all W N log first ws i slot a e = sym (a.rest ∙ rw (e, drop-length ws))
 
 -- the writes against what the lane holds
-module _ (z : Sizes) (L : ℕ) (g : Logged) (list : List Write) (n : ℕ) (k : n ≤ length list) (cache : List ℕ) where
-  pub matches-few : (n ≡ g.count → ⊥) → false ≡ matches_held z L g (take n list) cache
+module _ (z : Sizes) (L : ℕ) (g : Logged) (ws : List Write) (cache : List ℕ) where
+  pub matches-few : (length ws ≡ g.count → ⊥) → false ≡ matches_held z L g ws cache
   unfolding matches_held
-  matches-few h = rw (length-take-le n list k, ne_eqb n g.count h)
+  matches-few h = rw (ne_eqb (length ws) g.count h)
 
-  pub matches-log : (part : List ℕ) (b : Bool) → n ≡ g.count → part ≡ log_of z L cache → b ≡ entries_match z.words z.slots part g.first (take n list)
-      → b ≡ matches_held z L g (take n list) cache
+  pub matches-log : (part : List ℕ) (b : Bool) → length ws ≡ g.count → part ≡ log_of z L cache → b ≡ entries_match z.words z.slots part g.first ws
+      → b ≡ matches_held z L g ws cache
   unfolding matches_held
-  matches-log part b h p q = q ∙ rw (length-take-le n list k, eq-eqb n g.count h, p)
+  matches-log part b h p q = q ∙ rw (eq-eqb (length ws) g.count h, p)
 
 held-matches : (z : Sizes) (L : ℕ) (g : Logged) (ws : List Write) (r : Record) (pairs cache nvm flags : List ℕ) → g ≡ logged_in (lane_at r L).phase
     → matches_held z L g ws cache ≡ matches z L ws (machine_of (drained_state z cache L r) pairs cache nvm flags)
@@ -384,7 +371,7 @@ pub commit-ready : (z : Sizes) (L : ℕ) (r : Record) (cache flags : List ℕ) (
     → Restampable z cache flags L g (clock + 2) × ((g.count ≤ max_writes) × (pairs_ok z.words (take g.count redo) ≡ true))
 commit-ready z L r cache flags g clock redo k f c e = (rw (f, c) k.restampable, (rw f k.logged.most, rw (f, e) k.logged.pairs))
 
-module _ (z : Sizes) (L : ℕ) (r : Record) (q : Latest) (cache flags : List ℕ) (g : Logged) (last : ℕ) (found : q ≡ latest_in z cache L)
+module _ (z : Sizes) (L : ℕ) (r : Record) (q : Option Sequence) (cache flags : List ℕ) (g : Logged) (last : ℕ) (found : q ≡ latest_in z cache L)
     (f : g ≡ logged_in (lane_at r L).phase) (h : last ≡ r.last) (before pairs nvm ws : List ℕ) where
   stale-is : ltb g.stamp last ≡ is_stale L (machine_of (drained_state z cache L r) pairs cache nvm flags)
   unfolding is_stale
@@ -424,31 +411,30 @@ unfolding pairs_ok pairs_of
 pairs-low W none = refl
 pairs-low W (more {x = w} h a) = rw (lt-ltb w.word W h) (pairs-low W a)
 
-module _ (z : Sizes) (list : List Write) (n : ℕ) (k : n ≤ max_writes) (long : n ≤ length list) (redo : List Pair)
-    (p : redo ≡ pairs_of max_writes (take n list)) where
-  first-pairs : take n redo ≡ pairs_of (length (take n list)) (take n list)
-  first-pairs = rw (p, length-take-le n list long) (pairs-cut n max_writes (take n list) k)
+module _ (z : Sizes) (list : List Write) (k : length list ≤ max_writes) (redo : List Pair) (p : redo ≡ pairs_of max_writes list) where
+  first-pairs : take (length list) redo ≡ pairs_of (length list) list
+  first-pairs = rw p (pairs-cut (length list) max_writes list k)
 
-  pub validate-pairs : WordsBelow z.words (take n list) → pairs_ok z.words (take n redo) ≡ true
+  pub validate-pairs : WordsBelow z.words list → pairs_ok z.words (take (length list) redo) ≡ true
   validate-pairs a = rw first-pairs (pairs-low z.words a)
 
-  pub validate-commits : (L : ℕ) (r : Record) (q : Latest) (cache flags : List ℕ) (g : Logged) → q ≡ latest_in z cache L → g ≡ logged_in (lane_at r L).phase
-      → (b : Bool) → b ≡ matches_held z L g (take n list) cache → (before pairs nvm ws : List ℕ) → L < length r.lanes → b ≡ true
+  pub validate-commits : (L : ℕ) (r : Record) (q : Option Sequence) (cache flags : List ℕ) (g : Logged) → q ≡ latest_in z cache L → g ≡ logged_in (lane_at r L).phase
+      → (b : Bool) → b ≡ matches_held z L g list cache → (before pairs nvm ws : List ℕ) → L < length r.lanes → b ≡ true
       → (clock : ℕ) (cache₂ flags₂ : List ℕ) → clock ≡ r.clock
-      → cache₂ ≡ stored (commit_words z L g (clock + 2) (take n redo) cache) cache
-      → flags₂ ≡ flush_all L (places (commit_words z L g (clock + 2) (take n redo) cache)) flags
+      → cache₂ ≡ stored (commit_words z L g (clock + 2) (take (length list) redo) cache) cache
+      → flags₂ ≡ flush_all L (places (commit_words z L g (clock + 2) (take (length list) redo) cache)) flags
       → ws ≡ words_of (committed_state L q (clock + 2) r)
       → kept_by (Committed (clock + 2)) (ws ++ pairs) cache₂ nvm flags₂
-      ≡ keeps before (validate_drained z L (take n list) (machine_of (drained_state z cache L r) pairs cache nvm flags))
+      ≡ keeps before (validate_drained z L list (machine_of (drained_state z cache L r) pairs cache nvm flags))
   unfolding validate_drained said
   validate-commits L r q cache flags g found f b m before pairs nvm ws small t clock cache₂ flags₂ c e₁ e₂ e =
       keeps-taken before (Committed (clock + 2)) (committed_state L q (clock + 2) r) ws pairs cache₂ nvm flags₂ _
       (ap (λ (m : Machine). record { answer = Committed (clock + 2); machine = m })
-      (committed-by z cache L r q found small g clock (take n redo) pairs nvm flags cache₂ flags₂ f c e₁ e₂)
-      ∙ rw (← held-matches z L g (take n list) r pairs cache nvm flags f, ← m, t, first-pairs, clock-kept z cache L r clock c))
+      (committed-by z cache L r q found small g clock (take (length list) redo) pairs nvm flags cache₂ flags₂ f c e₁ e₂)
+      ∙ rw (← held-matches z L g list r pairs cache nvm flags f, ← m, t, first-pairs, clock-kept z cache L r clock c))
       refl e
 
-pub validate-changed : (z : Sizes) (L : ℕ) (r : Record) (q : Latest) (cache flags : List ℕ) (g : Logged) (list : List Write) → q ≡ latest_in z cache L
+pub validate-changed : (z : Sizes) (L : ℕ) (r : Record) (q : Option Sequence) (cache flags : List ℕ) (g : Logged) (list : List Write) → q ≡ latest_in z cache L
     → g ≡ logged_in (lane_at r L).phase → (b : Bool) → b ≡ matches_held z L g list cache → (before pairs nvm ws : List ℕ) → L < length r.lanes → b ≡ false
     → ws ≡ words_of (released_state L q r)
     → kept_by Changed (ws ++ pairs) cache nvm flags ≡ keeps before (validate_drained z L list (machine_of (drained_state z cache L r) pairs cache nvm flags))

@@ -1,10 +1,10 @@
 -- What record, cached image and history have in common while the store runs:
 -- the book's part, which the calls alone keep, and what the logs must say. Assumes nothing.
+use Rattle.std.specs.Prelude.{Option, Some, None}
 use mathlib.Core.Path.{◌≡◌, refl, ap, ◌∙◌, sym}
 use mathlib.Core.Logic.{◌≢◌}
 use mathlib.Core.Bool.{Bool, true, false, ◌&&◌}
 use mathlib.Core.List.{List, [], ◌∷◌}
-use mathlib.Core.Option.{Option, none, some}
 use Prim.Native.Nat.{ℕ, suc, ◌+◌, ◌-◌, ◌≤◌, ◌<◌}
 use native.Mathlib.Omega.{arith}
 use native.Mathlib.Nat.{le_refl}
@@ -22,14 +22,9 @@ use Rattle.image.specs.declared.Sizes.{Sizes}
 use Rattle.lane_log.specs.Log.{slot_at, latest_in}
 use Rattle.lane_log.specs.Append.{circular}
 use Rattle.lane_log.proofs.SearchLaws.{circular-low}
-use Rattle.lane_log.specs.declared.Timestamp.TheVariants.{None, At}
-use Rattle.record.specs.Record.{lane_at, is_logged, logged_in, lock_length, is_held, stamp_ok, record_ok, pairs_of, words_of_pairs}
+use Rattle.record.specs.Record.{lane_at, is_logged, logged_in, lock_length, is_held, stamp_ok, record_ok, pairs_of, words_of_pairs, Phase, Lock}
 use Rattle.record.specs.declared.Locked.{Locked}
-use Rattle.record.specs.declared.Lock.{Lock}
-use Rattle.record.specs.declared.Lock.TheVariants.{Free, Held}
 use Rattle.record.specs.declared.Logged.{Logged}
-use Rattle.record.specs.declared.Phase.{Phase}
-use Rattle.record.specs.declared.Phase.TheVariants.{Idle, Holds}
 use Rattle.store.specs.Machine.{Machine}
 use Rattle.store.specs.Calls.{entry_matches, entries_match}
 use Rattle.crash.specs.History.{closing_at, newest_stamp, Commit, Holder, History, page_at, replay, words_below, present, written, visible}
@@ -55,7 +50,7 @@ pub data Entries (W N : ℕ) (log : List ℕ) : ℕ → List Write → Type 0 wh
 -- lane L holds the logged transaction g: the history holds its transaction, and the redo log has its writes
 pub record Holding (z : Sizes) (base : ℕ) (h : History) (m : Machine) (L : ℕ) (g : Logged) : Type 0 where
   pub txn : List ℕ
-  pub held : (page_at h L).held ≡ some txn
+  pub held : (page_at h L).held ≡ Some txn
   pub ok : txn_by former max_writes z.words txn ≡ true
   pub newest : (page_at h L).newest ≡ closing_at g.stamp
   pub above : base ≤ g.stamp
@@ -77,13 +72,13 @@ holder_of k f = record { lane = k.lane; txn = f; stamp = k.stamp; left = k.count
 pub record Locking (z : Sizes) (base : ℕ) (h : History) (m : Machine) (k : Locked) : Type 0 where
   pub txn : List ℕ
   pub ok : txn_by current max_long z.words txn ≡ true
-  pub holder : h.lock ≡ some (holder_of k txn)
+  pub holder : h.lock ≡ Some (holder_of k txn)
   pub clock : h.clock ≡ k.stamp
   pub low : base < k.stamp
   pub commits : All (λ c. c.stamp < k.stamp) h.commits
-  pub others : (M s : ℕ) → M < z.lanes → M ≢ k.lane → newest_stamp (page_at h M).newest ≡ At s → s < k.stamp
+  pub others : (M s : ℕ) → M < z.lanes → M ≢ k.lane → newest_stamp (page_at h M).newest ≡ Some s → s < k.stamp
   -- of its own lane, until its first part is logged, and from then on
-  pub mine : k.logged ≡ 0 → (s : ℕ) → newest_stamp (page_at h k.lane).newest ≡ At s → s < k.stamp
+  pub mine : k.logged ≡ 0 → (s : ℕ) → newest_stamp (page_at h k.lane).newest ≡ Some s → s < k.stamp
   pub own : 0 < k.logged → (page_at h k.lane).newest ≡ closing_at k.stamp
   pub count : k.count ≡ length (all_writes z txn h)
   pub pairs : m.pairs ≡ words_of_pairs (pairs_of max_long (all_writes z txn h))
@@ -102,38 +97,38 @@ pub record Book (z : Sizes) (base : ℕ) (h : History) (m : Machine) : Type 0 wh
   pub upto : All (λ c. c.stamp ≤ h.clock) h.commits
   pub low : base ≤ h.clock
   pub last : m.state.last ≡ last_of base h.commits
-  pub stamps : (L s : ℕ) → L < z.lanes → newest_stamp (page_at h L).newest ≡ At s → stamp_ok h.clock s ≡ true
-  pub holding : (L : ℕ) (g : Logged) → L < z.lanes → (lane_at m.state L).phase ≡ Holds g → Holding z base h m L g
-  pub locking : (k : Locked) → m.state.lock ≡ Held k → Locking z base h m k
+  pub stamps : (L s : ℕ) → L < z.lanes → newest_stamp (page_at h L).newest ≡ Some s → stamp_ok h.clock s ≡ true
+  pub holding : (L : ℕ) (g : Logged) → L < z.lanes → (lane_at m.state L).phase ≡ Some g → Holding z base h m L g
+  pub locking : (k : Locked) → m.state.lock ≡ Some k → Locking z base h m k
 
 -- ---- what the cached logs must say
 pub record Logs (z : Sizes) (h : History) (m : Machine) : Type 0 where
   -- a lane's latest sequence has the newest timestamp of its page, and is a mark where that is
   pub newest : (L : ℕ) → L < z.lanes → newest_of (latest_in z m.cache L) ≡ (page_at h L).newest
   -- a lane that holds a transaction has its entries in its log
-  pub entries : (L : ℕ) (g : Logged) → L < z.lanes → (lane_at m.state L).phase ≡ Holds g
+  pub entries : (L : ℕ) (g : Logged) → L < z.lanes → (lane_at m.state L).phase ≡ Some g
       → Entries z.words z.slots (log_of z L m.cache) g.first (writes_logged z L h)
 
 -- ---- phases
-pub is-held : (p : Phase) → is_logged p ≡ true → p ≡ Holds (logged_in p)
+pub is-held : (p : Phase) → is_logged p ≡ true → p ≡ Some (logged_in p)
 unfolding is_logged logged_in
-is-held Idle e = absurd (let z : ◌≡◌ {A = ℕ} 0 1 = cc in omega arith)
-is-held (Holds g) e = refl
+is-held None e = absurd (let z : ◌≡◌ {A = ℕ} 0 1 = cc in omega arith)
+is-held (Some g) e = refl
 
 -- ---- the lock
 -- a free one has no holder
-pub no-holder : (l : Lock) (y : Option Holder) → lock_state l ≡ holder_state y → is_held l ≡ false → y ≡ none
+pub no-holder : (l : Lock) (y : Option Holder) → lock_state l ≡ holder_state y → is_held l ≡ false → y ≡ None
 unfolding lock_state holder_state is_held
-no-holder Free none e f = refl
-no-holder Free (some k) e f = absurd (let z : ◌≡◌ {A = ℕ} 0 1 = cc in omega arith)
-no-holder (Held k) y e f = absurd (let z : ◌≡◌ {A = ℕ} 0 1 = cc in omega arith)
+no-holder None None e f = refl
+no-holder None (Some k) e f = absurd (let z : ◌≡◌ {A = ℕ} 0 1 = cc in omega arith)
+no-holder (Some k) y e f = absurd (let z : ◌≡◌ {A = ℕ} 0 1 = cc in omega arith)
 
-pub not-locked : {A : Type 0} (l : Lock) (k : Locked) → is_held l ≡ false → l ≡ Held k → A
+pub not-locked : {A : Type 0} (l : Lock) (k : Locked) → is_held l ≡ false → l ≡ Some k → A
 unfolding is_held
 not-locked l k f e = absurd (let d = ap is_held e in let z : ◌≡◌ {A = ℕ} 0 1 = cc in omega arith)
 
 -- then the words are those of the commits
-pub visible-free : (z : Sizes) (h : History) → h.lock ≡ none → visible z h ≡ present z h
+pub visible-free : (z : Sizes) (h : History) → h.lock ≡ None → visible z h ≡ present z h
 unfolding visible written
 visible-free z h e = ap (λ (y : Option Holder). written z y (present z h)) e
 
@@ -171,7 +166,7 @@ last_up b nil last = le_refl b
 last_up b (more {x = c} h hs) (then a r) = omega (arith, last_up c.stamp a r)
 
 -- some commit is above a timestamp just where the last one is
-pub above-last : (base s : ℕ) {cs : List Commit} → base ≤ s → Rising cs → commit_above (At s) cs ≡ ltb s (last_of base cs)
+pub above-last : (base s : ℕ) {cs : List Commit} → base ≤ s → Rising cs → commit_above (Some s) cs ≡ ltb s (last_of base cs)
 unfolding commit_above is_above last_of
 above-last base s h last = sym (le-ltb s base h)
 above-last base s h (then {c = c} a r) =

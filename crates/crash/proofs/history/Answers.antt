@@ -1,9 +1,9 @@
 -- Each call answers what the theorem gives: by cases on the call's move. Assumes nothing.
+use Rattle.std.specs.Prelude.{Option, Some, None}
 use mathlib.Core.Path.{◌≡◌, refl, ap, ◌∙◌, sym}
 use mathlib.Core.Logic.{◌⊎◌, inl, inr}
 use mathlib.Core.Bool.{true, false, ◌&&◌}
 use mathlib.Core.List.{List, [], ◌∷◌}
-use mathlib.Core.Option.{Option, some}
 use Prim.Native.Nat.{ℕ, ◌+◌, ◌-◌, ◌<◌, min}
 use native.Mathlib.Omega.{arith}
 use native.Mathlib.Decide.{ℕ_discrete}
@@ -17,16 +17,13 @@ use Rattle.image.specs.Image.{log_of}
 use Rattle.image.specs.declared.Sizes.{Sizes}
 use Rattle.lane_log.specs.Log.{complete_in, latest_in, hits_from, hits}
 use Rattle.lane_log.specs.inner.LatestLaws.{latest-none}
-use Rattle.lane_log.specs.declared.Timestamp.{Timestamp}
-use Rattle.lane_log.specs.declared.Timestamp.TheVariants.{None, At}
 use Rattle.record.specs.Record.{lane_at, is_logged, logged_in, part_length, bound_of, drained_lane}
-use Rattle.record.specs.declared.Lock.TheVariants.{Held}
 use Rattle.record.specs.declared.Locked.{Locked}
 use Rattle.store.specs.Machine.{Machine, Step, said}
 use Rattle.store.specs.Calls.{drained, writes_on, is_stale, entries_match, matches}
-use Rattle.store.specs.declared.Answer.{Answer}
-use Rattle.store.specs.declared.Answer.TheVariants.{Refused}
-use Rattle.store.specs.declared.Answer.TheVariants as answer
+use Rattle.store.specs.Answers.{Answer}
+use Rattle.store.specs.Answers.{Refused}
+use Rattle.store.specs.Answers as answer
 use Rattle.crash.specs.Events.{Call, log_by, redo, validate_by, mark, lock, proceed, lane_of, call_step}
 use Rattle.crash.specs.History.{Newest, unset, newest_stamp, History, page_at, after_drain, least_floor_of}
 use Rattle.crash.specs.History.{writes_logged, same_olds, commit_above, slots_by, left_after, progress, taken_answer}
@@ -55,10 +52,10 @@ same-olds (v ∷ vs) (w ∷ ws) t =
     rw (c, d, same-olds vs ws b)
 
 -- nothing is hit where nothing is found
-hits-none : (N k n : ℕ) (b : Timestamp) → hits N k n b [] ≡ false
+hits-none : (N k n : ℕ) (b : Option ℕ) → hits N k n b [] ≡ false
 unfolding hits hits_from
 hits-none N k n None = refl
-hits-none N k n (At b) = refl
+hits-none N k n (Some b) = refl
 
 number-drains : {z : Sizes} {m : Machine} {c : Call} {a : Answer} → Drains z m c a → (said a).number ≡ 0
 unfolding said
@@ -69,7 +66,7 @@ number-drains (idling L f e) = refl
 
 -- ---- what Continue answers
 -- a part is logged already exactly where more is logged than written
-pub part-logged : {z : Sizes} {base : ℕ} {h : History} {m : Machine} (b : Book z base h m) (k : Locked) → m.state.lock ≡ Held k
+pub part-logged : {z : Sizes} {base : ℕ} {h : History} {m : Machine} (b : Book z base h m) (k : Locked) → m.state.lock ≡ Some k
     → (k.logged ≡ k.written → ⊥) → k.logged ≡ k.written + part_length k
 part-logged {z} {base} {h} {m} b k e d = go (in-range z base h m b k e).logged
   where
@@ -77,12 +74,12 @@ part-logged {z} {base} {h} {m} b k e d = go (in-range z base h m b k e).logged
     go (inl p) = absurd (d p)
     go (inr p) = p
 
-progress-parts : (k : Locked) (f : List ℕ) (y : Option Holder) → y ≡ some (holder_of k f) → k.logged ≡ k.written
+progress-parts : (k : Locked) (f : List ℕ) (y : Option Holder) → y ≡ Some (holder_of k f) → k.logged ≡ k.written
     → answer.Locked (record { left = k.count - k.written; stamp = k.stamp }) ≡ progress y
 unfolding progress holder_of
 progress-parts k f y e t = rw (e, le-ltb k.written k.logged (omega arith))
 
-progress-writes : (k : Locked) (f : List ℕ) (y : Option Holder) → y ≡ some (holder_of k f) → k.written < k.count → k.logged ≡ k.written + part_length k
+progress-writes : (k : Locked) (f : List ℕ) (y : Option Holder) → y ≡ Some (holder_of k f) → k.written < k.count → k.logged ≡ k.written + part_length k
     → answer.Locked (record { left = k.count - (k.written + part_length k); stamp = k.stamp }) ≡ progress y
 unfolding progress holder_of left_after part_length
 progress-writes k f y e l t =

@@ -1,9 +1,9 @@
 -- The book's part is kept by every move, given what the logs say: cached words, clocks, floors, ranges, held transactions. Assumes nothing.
+use Rattle.std.specs.Prelude.{Option, Some, None}
 use mathlib.Core.Path.{◌≡◌, refl, ap, ◌∙◌, sym, subst}
 use mathlib.Core.Logic.{◌≢◌}
 use mathlib.Core.Bool.{true, false}
 use mathlib.Core.List.{List, [], ◌∷◌, append-nil}
-use mathlib.Core.Option.{Option, none, some}
 use Prim.Native.Nat.{ℕ, ◌+◌, ◌%◌, ◌≤◌, ◌<◌}
 use native.Mathlib.Omega.{arith}
 use native.Mathlib.Nat.{le_trans, le_refl}
@@ -23,17 +23,12 @@ use Rattle.image.specs.declared.Sizes.{Sizes}
 use Rattle.lane_log.specs.Log.{latest_in}
 use Rattle.lane_log.specs.Append.{advance}
 use Rattle.lane_log.specs.inner.AppendLaws.{advance-within}
-use Rattle.lane_log.specs.declared.Timestamp.{Timestamp}
-use Rattle.lane_log.specs.declared.Timestamp.TheVariants.{None, At}
-use Rattle.record.specs.Record.{lane_at, cursor_of, is_logged, logged_in, lock_length, is_held, stamp_ok, floor_ok, phase_ok, lock_ok, floor_after_append}
+use Rattle.record.specs.Record.{lane_at, cursor_of, is_logged, logged_in, lock_length, is_held, stamp_ok, floor_ok, phase_ok, lock_ok, floor_after_append, Phase}
 use Rattle.record.specs.Record.{with_lane, with_clock, with_last, drained_lane, appended_lane, idle_lane, pairs_of}
 use Rattle.record.specs.inner.RecordLaws.{pairs-cut, LaneIn}
 use Rattle.record.specs.declared.Logged.{Logged}
 use Rattle.record.specs.declared.Pair.{Pair}
-use Rattle.record.specs.declared.Phase.{Phase}
-use Rattle.record.specs.declared.Phase.TheVariants.{Idle, Holds}
 use Rattle.record.specs.declared.Lane.{Lane}
-use Rattle.record.specs.declared.Lock.TheVariants.{Held}
 use Rattle.record.specs.declared.Locked.{Locked}
 use Rattle.store.specs.Machine.{Machine}
 use Rattle.store.specs.Calls.{drained, changed, writes_on, appended, marked, logged, committed, is_stale, redo_pairs}
@@ -79,13 +74,13 @@ pub record Moved (z : Sizes) (base : ℕ) (L : ℕ) (h k : History) (m n : Machi
   pub range : LaneIn z k.clock lane
   pub floor : lane.floor ≡ page.floor
   pub held : is_logged lane.phase ≡ is_some page.held
-  pub newest : (s : ℕ) → newest_stamp page.newest ≡ At s → stamp_ok k.clock s ≡ true
-  pub holding : (g : Logged) → lane.phase ≡ Holds g → Holding z base k n L g
+  pub newest : (s : ℕ) → newest_stamp page.newest ≡ Some s → stamp_ok k.clock s ≡ true
+  pub holding : (g : Logged) → lane.phase ≡ Some g → Holding z base k n L g
   pub lock : lock_state n.state.lock ≡ holder_state k.lock
   pub lock-ok : lock_ok z n.state n.pairs n.state.lock ≡ true
-  pub locking : (x : Locked) → n.state.lock ≡ Held x → Locking z base k n x
+  pub locking : (x : Locked) → n.state.lock ≡ Some x → Locking z base k n x
 
-newest-closing : (n : Newest) (s : ℕ) → n ≡ closing_at s → newest_stamp n ≡ At s
+newest-closing : (n : Newest) (s : ℕ) → n ≡ closing_at s → newest_stamp n ≡ Some s
 unfolding newest_stamp
 newest-closing n s e = ap newest_stamp e
 
@@ -133,12 +128,12 @@ module _ (z : Sizes) (base : ℕ) (L : ℕ) (lane : L < z.lanes) (h k : History)
         upto = upto-onward z h k v.onward b.upto;
         low = le_trans b.low v.onward.clock;
         last = v.last;
-        stamps = λ M s i e. lane-cases (λ M. (s : ℕ) → M < z.lanes → newest_stamp (page_at k M).newest ≡ At s → stamp_ok k.clock s ≡ true) L
+        stamps = λ M s i e. lane-cases (λ M. (s : ℕ) → M < z.lanes → newest_stamp (page_at k M).newest ≡ Some s → stamp_ok k.clock s ≡ true) L
             (λ s i e. v.newest s (ap (λ (p : Page). newest_stamp p.newest) (sym v.pages.here) ∙ e))
             (λ M d s i e. stamp-later h.clock k.clock s v.onward.clock
             (b.stamps M s i (ap (λ (p : Page). newest_stamp p.newest) (sym (v.pages.others M d)) ∙ e)))
             M s i e;
-        holding = λ M g i e. lane-cases (λ M. (g : Logged) → M < z.lanes → (lane_at n.state M).phase ≡ Holds g → Holding z base k n M g) L
+        holding = λ M g i e. lane-cases (λ M. (g : Logged) → M < z.lanes → (lane_at n.state M).phase ≡ Some g → Holding z base k n M g) L
             (λ g i e. v.holding g (ap (λ (l : Lane). l.phase) (sym v.lanes.here) ∙ e))
             (λ M d g i e.
             let o = v.lanes.others M d in
@@ -151,23 +146,23 @@ module _ (z : Sizes) (base : ℕ) (L : ℕ) (lane : L < z.lanes) (h k : History)
       }
 
 -- ---- a drain
-drain-ok : (c : ℕ) (n : Newest) (f : Timestamp) → ((s : ℕ) → newest_stamp n ≡ At s → stamp_ok c s ≡ true) → floor_ok c f ≡ true
+drain-ok : (c : ℕ) (n : Newest) (f : Option ℕ) → ((s : ℕ) → newest_stamp n ≡ Some s → stamp_ok c s ≡ true) → floor_ok c f ≡ true
     → floor_ok c (floor_on_drain n f) ≡ true
 unfolding floor_on_drain floor_ok newest_stamp
 drain-ok c unset f h e = e
 drain-ok c (closing_at s) f h e = h s refl
 drain-ok c (mark_at s) f h e = refl
 
-newest-stamp : (c s : ℕ) (t : Timestamp) → c % 2 ≡ 0 → t ≡ At c → t ≡ At s → stamp_ok c s ≡ true
+newest-stamp : (c s : ℕ) (t : Option ℕ) → c % 2 ≡ 0 → t ≡ Some c → t ≡ Some s → stamp_ok c s ≡ true
 newest-stamp c s t e p q = let d : c ≡ s = cc in rw (sym d) (stamp-now c e)
 
-pub not-held : {A : Type 0} (p : Phase) (g : Logged) → p ≡ Idle → p ≡ Holds g → A
+pub not-held : {A : Type 0} (p : Phase) (g : Logged) → p ≡ None → p ≡ Some g → A
 not-held p g i e = absurd (let z : ◌≡◌ {A = ℕ} 0 1 = cc in omega arith)
 
-floor-after : (c : ℕ) (f : Timestamp) → c % 2 ≡ 0 → floor_ok c f ≡ true → floor_ok (c + 2) (floor_after_append (c + 2) f) ≡ true
+floor-after : (c : ℕ) (f : Option ℕ) → c % 2 ≡ 0 → floor_ok c f ≡ true → floor_ok (c + 2) (floor_after_append (c + 2) f) ≡ true
 unfolding floor_after_append floor_ok
 floor-after c None e k = stamp-now (c + 2) (omega arith)
-floor-after c (At s) e k = stamp-later c (c + 2) s (omega arith) k
+floor-after c (Some s) e k = stamp-later c (c + 2) s (omega arith) k
 
 module _ (z : Sizes) (base : ℕ) (L : ℕ) (lane : L < z.lanes) (h : History) (m : Machine) (b : Book z base h m) where
   pub in-lanes : L < length m.state.lanes
@@ -252,7 +247,7 @@ module _ (z : Sizes) (base : ℕ) (L : ℕ) (lane : L < z.lanes) (h : History) (
 
   -- ---- what follows needs the lock to be free
   module _ (free : is_held m.state.lock ≡ false) where
-    pub no-lock : h.lock ≡ none
+    pub no-lock : h.lock ≡ None
     no-lock = no-holder m.state.lock h.lock b.live.lock free
 
     pub words-free : data_of z m.cache ≡ present z h
@@ -277,14 +272,14 @@ module _ (z : Sizes) (base : ℕ) (L : ℕ) (lane : L < z.lanes) (h : History) (
     present-stamped kind held = ap (λ (cs : List Commit). replay z.words None cs h.start) (append-nil h.commits)
 
     moved-appended : (ws : List Write) (phase : Phase) (redo : List Pair) (kind : ℕ → Newest) (held : Option (List ℕ))
-        → ((s : ℕ) → newest_stamp (kind s) ≡ At s) → phase_ok z (h.clock + 2) redo phase ≡ true → is_logged phase ≡ is_some held
-        → ((g : Logged) → phase ≡ Holds g → Holding z base (stamped L kind held [] h) (appended z L ws phase redo m) L g)
+        → ((s : ℕ) → newest_stamp (kind s) ≡ Some s) → phase_ok z (h.clock + 2) redo phase ≡ true → is_logged phase ≡ is_some held
+        → ((g : Logged) → phase ≡ Some g → Holding z base (stamped L kind held [] h) (appended z L ws phase redo m) L g)
         → Moved z base L h (stamped L kind held [] h) m (appended z L ws phase redo m)
     unfolding stamped appended changed appended_lane with_lane with_clock
     moved-appended ws phase redo kind held stamps ranged both holds =
         record {
           lane = appended_lane (m.state.clock + 2) (advance z.slots (length ws + 1) (cursor_of (lane_at m.state L))) phase redo (lane_at m.state L);
-          page = record { held = held; newest = kind (h.clock + 2); floor = floor_or (page_at h L).floor (At (h.clock + 2)) };
+          page = record { held = held; newest = kind (h.clock + 2); floor = floor_or (page_at h L).floor (Some (h.clock + 2)) };
           lanes = lane-appended z L m in-lanes ws phase redo;
           pages = page-stamped L h in-pages kind held [];
           given = h.clock;
@@ -317,14 +312,14 @@ module _ (z : Sizes) (base : ℕ) (L : ℕ) (lane : L < z.lanes) (h : History) (
     stamped-upto kind held = rw (append-nil h.commits) b.upto
 
     below_next : (kind : ℕ → Newest) (held : Option (List ℕ))
-        → words_below z (At (h.clock + 2)) (stamped L kind held [] h) ≡ present z (stamped L kind held [] h)
+        → words_below z (Some (h.clock + 2)) (stamped L kind held [] h) ≡ present z (stamped L kind held [] h)
     unfolding words_below present
     below_next kind held =
         replay-all z.words (h.clock + 2) (stamped L kind held [] h).start (All-map (λ c i. omega (arith, i)) (stamped-upto kind held))
 
     pub book-appended : (ws : List Write) (phase : Phase) (redo : List Pair) (kind : ℕ → Newest) (held : Option (List ℕ))
-        → ((s : ℕ) → newest_stamp (kind s) ≡ At s) → phase_ok z (h.clock + 2) redo phase ≡ true → is_logged phase ≡ is_some held
-        → ((g : Logged) → phase ≡ Holds g → Holding z base (stamped L kind held [] h) (appended z L ws phase redo m) L g)
+        → ((s : ℕ) → newest_stamp (kind s) ≡ Some s) → phase_ok z (h.clock + 2) redo phase ≡ true → is_logged phase ≡ is_some held
+        → ((g : Logged) → phase ≡ Some g → Holding z base (stamped L kind held [] h) (appended z L ws phase redo m) L g)
         → Book z base (stamped L kind held [] h) (appended z L ws phase redo m)
     book-appended ws phase redo kind held stamps ranged both holds =
         book-moved z base L lane h (stamped L kind held [] h) m (appended z L ws phase redo m) b
@@ -343,32 +338,32 @@ module _ (z : Sizes) (base : ℕ) (L : ℕ) (lane : L < z.lanes) (h : History) (
       unfolding writes_on
       writes-few = few-writes former max_writes z.words f (data_of z m.cache) ok
 
-      logged-ranged : phase_ok z (h.clock + 2) (pairs_of max_writes (writes_on z f m)) (Holds held-now) ≡ true
+      logged-ranged : phase_ok z (h.clock + 2) (pairs_of max_writes (writes_on z f m)) (Some held-now) ≡ true
       logged-ranged =
           subst (λ (s : ℕ). phase_ok z (h.clock + 2) (pairs_of max_writes (writes_on z f m))
-          (Holds (record { first = (lane_at m.state L).next; count = length (writes_on z f m); stamp = s + 2 })) ≡ true)
+          (Some (record { first = (lane_at m.state L).next; count = length (writes_on z f m); stamp = s + 2 })) ≡ true)
           (sym b.live.clock)
           (phase-logged z (h.clock + 2) (lane_at m.state L).next (writes_on z f m) (buffers-in z _ _ _ b.buffers).sizes.words-low range-now.next
           some-write writes-few (let k = even-now in omega arith) writes-low (pairs-cut (length (writes_on z f m)) max_writes (writes_on z f m) writes-few))
 
       -- what is logged now is what the history's lane has logged
-      logged-writes : writes_logged z L (stamped L closing_at (some f) [] h) ≡ writes_on z f m
+      logged-writes : writes_logged z L (stamped L closing_at (Some f) [] h) ≡ writes_on z f m
       unfolding writes_on
       logged-writes =
-          let p = page-stamped L h in-pages closing_at (some f) [] in
-          writes-held z (stamped L closing_at (some f) [] h) L f (h.clock + 2) (ap (λ (p : Page). p.held) p.here) (ap (λ (p : Page). p.newest) p.here)
-          ∙ ap (run z.words f) (below_next closing_at (some f) ∙ present-stamped closing_at (some f) ∙ sym words-free)
+          let p = page-stamped L h in-pages closing_at (Some f) [] in
+          writes-held z (stamped L closing_at (Some f) [] h) L f (h.clock + 2) (ap (λ (p : Page). p.held) p.here) (ap (λ (p : Page). p.newest) p.here)
+          ∙ ap (run z.words f) (below_next closing_at (Some f) ∙ present-stamped closing_at (Some f) ∙ sym words-free)
 
-      clock-stamped : m.state.clock ≡ h.clock → m.state.clock + 2 ≤ (stamped L closing_at (some f) [] h).clock
+      clock-stamped : m.state.clock ≡ h.clock → m.state.clock + 2 ≤ (stamped L closing_at (Some f) [] h).clock
       unfolding stamped
       clock-stamped c = omega arith
 
-      logged-holding : Holding z base (stamped L closing_at (some f) [] h) (logged z L (writes_on z f m) m) L held-now
+      logged-holding : Holding z base (stamped L closing_at (Some f) [] h) (logged z L (writes_on z f m) m) L held-now
       unfolding logged appended_lane
       logged-holding =
-          let k = stamped L closing_at (some f) [] h in
-          let p = page-stamped L h in-pages closing_at (some f) [] in
-          let a = lane-appended z L m in-lanes (writes_on z f m) (Holds held-now) (pairs_of max_writes (writes_on z f m)) in
+          let k = stamped L closing_at (Some f) [] h in
+          let p = page-stamped L h in-pages closing_at (Some f) [] in
+          let a = lane-appended z L m in-lanes (writes_on z f m) (Some held-now) (pairs_of max_writes (writes_on z f m)) in
           let c = b.live.clock in
           record {
             txn = f;
@@ -377,22 +372,22 @@ module _ (z : Sizes) (base : ℕ) (L : ℕ) (lane : L < z.lanes) (h : History) (
             newest = ap (λ (p : Page). p.newest) p.here ∙ ap (λ (s : ℕ). closing_at (s + 2)) (sym c);
             above = omega (arith, b.low, c);
             upto = clock-stamped c;
-            apart = All-map (λ d i e. omega (arith, c, i)) (stamped-upto closing_at (some f));
+            apart = All-map (λ d i e. omega (arith, c, i)) (stamped-upto closing_at (Some f));
             count = ap length (sym logged-writes);
             redo = ap (λ (l : Lane). take (length (writes_on z f m)) l.redo) a.here
                 ∙ pairs-cut (length (writes_on z f m)) max_writes (writes_on z f m) writes-few ∙ ap (pairs_of (length (writes_on z f m))) (sym logged-writes);
           }
 
-      pub book-logged : Book z base (stamped L closing_at (some f) [] h) (logged z L (writes_on z f m) m)
+      pub book-logged : Book z base (stamped L closing_at (Some f) [] h) (logged z L (writes_on z f m) m)
       unfolding logged is_logged is_some newest_stamp
       book-logged =
-          book-appended (writes_on z f m) (Holds held-now) (pairs_of max_writes (writes_on z f m)) closing_at (some f) (λ s. refl) logged-ranged refl
-          (λ g e. let q : held-now ≡ g = cc in subst (Holding z base (stamped L closing_at (some f) [] h) (logged z L (writes_on z f m) m) L) q logged-holding)
+          book-appended (writes_on z f m) (Some held-now) (pairs_of max_writes (writes_on z f m)) closing_at (Some f) (λ s. refl) logged-ranged refl
+          (λ g e. let q : held-now ≡ g = cc in subst (Holding z base (stamped L closing_at (Some f) [] h) (logged z L (writes_on z f m) m) L) q logged-holding)
 
     -- ---- Mark
-    pub book-marked : (redo : List Pair) → Book z base (stamped L mark_at none [] h) (appended z L [] Idle redo m)
+    pub book-marked : (redo : List Pair) → Book z base (stamped L mark_at None [] h) (appended z L [] None redo m)
     unfolding phase_ok is_logged is_some newest_stamp
-    book-marked redo = book-appended [] Idle redo mark_at none (λ s. refl) refl refl (λ g e. not-held Idle g refl e)
+    book-marked redo = book-appended [] None redo mark_at None (λ s. refl) refl refl (λ g e. not-held None g refl e)
 
     -- ---- a lane that is idle again
     idle-range : (c : ℕ) → h.clock ≤ c → LaneIn z c (idle_lane (lane_at m.state L))
@@ -406,7 +401,7 @@ module _ (z : Sizes) (base : ℕ) (L : ℕ) (lane : L < z.lanes) (h : History) (
     moved-released =
         record {
           lane = idle_lane (lane_at m.state L);
-          page = record { held = none; newest = (page_at h L).newest; floor = (page_at h L).floor };
+          page = record { held = None; newest = (page_at h L).newest; floor = (page_at h L).floor };
           lanes = lane-released z L m in-lanes;
           pages = page-released L h in-pages;
           given = h.clock;
@@ -427,7 +422,7 @@ module _ (z : Sizes) (base : ℕ) (L : ℕ) (lane : L < z.lanes) (h : History) (
           floor = b.live.floors L lane;
           held = refl;
           newest = λ s e. b.stamps L s lane e;
-          holding = λ g e. not-held Idle g refl e;
+          holding = λ g e. not-held None g refl e;
           lock = b.live.lock;
           lock-ok = free-ok z _ m.pairs m.state.lock (is_free m.state.lock free);
           locking = λ x e. not-locked m.state.lock x free e;
@@ -437,36 +432,36 @@ module _ (z : Sizes) (base : ℕ) (L : ℕ) (lane : L < z.lanes) (h : History) (
     book-released = book-moved z base L lane h (released L h) m (calls.released L m) b moved-released
 
     -- ---- a commit of transaction f, whose lane has a floor
-    module _ (f : List ℕ) (ok : txn_by former max_writes z.words f ≡ true) (s : ℕ) (floor : (page_at h L).floor ≡ At s) where
+    module _ (f : List ℕ) (ok : txn_by former max_writes z.words f ≡ true) (s : ℕ) (floor : (page_at h L).floor ≡ Some s) where
       abbrev its : List Write
       its = run z.words f (data_of z m.cache)
 
-      present-commit : present z (stamped L closing_at none (f ∷ []) h) ≡ after z.words f (present z h)
+      present-commit : present z (stamped L closing_at None (f ∷ []) h) ≡ after z.words f (present z h)
       unfolding present words_below stamped is_below
       present-commit = replay_snoc z.words None h.commits (record { stamp = h.clock + 2; txn = f }) h.start
 
-      commit-free : (stamped L closing_at none (f ∷ []) h).lock ≡ none
+      commit-free : (stamped L closing_at None (f ∷ []) h).lock ≡ None
       unfolding stamped
       commit-free = no-lock
 
-      words-commit : data_of z (committed z L (pairs_of (length its) its) m).cache ≡ visible z (stamped L closing_at none (f ∷ []) h)
+      words-commit : data_of z (committed z L (pairs_of (length its) its) m).cache ≡ visible z (stamped L closing_at None (f ∷ []) h)
       unfolding after
       words-commit =
           data-committed z L its m (run-low former max_writes z.words f (data_of z m.cache) ok)
-          ∙ ap (after z.words f) words-free ∙ sym present-commit ∙ sym (visible-free z (stamped L closing_at none (f ∷ []) h) commit-free)
+          ∙ ap (after z.words f) words-free ∙ sym present-commit ∙ sym (visible-free z (stamped L closing_at None (f ∷ []) h) commit-free)
 
-      floor-stays : (t : Timestamp) → t ≡ At s → t ≡ floor_or t (At (h.clock + 2))
+      floor-stays : (t : Option ℕ) → t ≡ Some s → t ≡ floor_or t (Some (h.clock + 2))
       unfolding floor_or
       floor-stays t e = rw e
 
-      moved-committed : Moved z base L h (stamped L closing_at none (f ∷ []) h) m (committed z L (pairs_of (length its) its) m)
+      moved-committed : Moved z base L h (stamped L closing_at None (f ∷ []) h) m (committed z L (pairs_of (length its) its) m)
       unfolding stamped committed changed with_lane with_clock with_last idle_lane is_logged is_some newest_stamp
       moved-committed =
           record {
             lane = idle_lane (lane_at m.state L);
-            page = record { held = none; newest = closing_at (h.clock + 2); floor = floor_or (page_at h L).floor (At (h.clock + 2)) };
+            page = record { held = None; newest = closing_at (h.clock + 2); floor = floor_or (page_at h L).floor (Some (h.clock + 2)) };
             lanes = lane-committed z L m in-lanes (pairs_of (length its) its);
-            pages = page-stamped L h in-pages closing_at none (f ∷ []);
+            pages = page-stamped L h in-pages closing_at None (f ∷ []);
             given = h.clock;
             onward = onward-commit L f h;
             low = b.low;
@@ -485,20 +480,20 @@ module _ (z : Sizes) (base : ℕ) (L : ℕ) (lane : L < z.lanes) (h : History) (
             floor = b.live.floors L lane ∙ floor-stays (page_at h L).floor floor;
             held = refl;
             newest = λ t e. newest-stamp (h.clock + 2) t _ (let k = even-now in omega arith) refl e;
-            holding = λ g e. not-held Idle g refl e;
+            holding = λ g e. not-held None g refl e;
             lock = b.live.lock;
             lock-ok = free-ok z _ m.pairs m.state.lock (is_free m.state.lock free);
             locking = λ x e. not-locked m.state.lock x free e;
           }
 
-      pub book-committed : Book z base (stamped L closing_at none (f ∷ []) h) (committed z L (pairs_of (length its) its) m)
-      book-committed = book-moved z base L lane h (stamped L closing_at none (f ∷ []) h) m (committed z L (pairs_of (length its) its) m) b moved-committed
+      pub book-committed : Book z base (stamped L closing_at None (f ∷ []) h) (committed z L (pairs_of (length its) its) m)
+      book-committed = book-moved z base L lane h (stamped L closing_at None (f ∷ []) h) m (committed z L (pairs_of (length its) its) m) b moved-committed
 
 -- ---- the start words
 length-written : (z : Sizes) (y : Option Holder) (ws : List ℕ) → length (written z y ws) ≡ length ws
 unfolding written
-length-written z none ws = refl
-length-written z (some k) ws = length-applied _ ws
+length-written z None ws = refl
+length-written z (Some k) ws = length-applied _ ws
 
 pub start-long : (z : Sizes) (base : ℕ) (h : History) (m : Machine) → Book z base h m → length h.start ≡ z.words
 unfolding present words_below visible
@@ -508,7 +503,7 @@ start-long z base h m b =
 
 -- ---- every move: a drain, and then what the call does
 -- no commit above a timestamp that is no commit's: all are below it
-all-below : (s : ℕ) {cs : List Commit} → commit_above (At s) cs ≡ false → All (λ c. c.stamp ≢ s) cs → All (λ c. c.stamp < s) cs
+all-below : (s : ℕ) {cs : List Commit} → commit_above (Some s) cs ≡ false → All (λ c. c.stamp ≢ s) cs → All (λ c. c.stamp < s) cs
 unfolding commit_above is_above
 all-below s e nil = nil
 all-below s e (more {x = c} d ds) =
@@ -520,11 +515,11 @@ module _ (z : Sizes) (base : ℕ) (h : History) (m : Machine) (b : Book z base h
     book-drains = book-drained z base L k.lane h m b l
 
     pub book-logs : is_held m.state.lock ≡ false → (f : List ℕ) → txn_by former max_writes z.words f ≡ true → 0 < length (writes_on z f m)
-        → Book z base (stamped L closing_at (some f) [] (after_drain L h)) (logged z L (writes_on z f m) (drained z L m))
+        → Book z base (stamped L closing_at (Some f) [] (after_drain L h)) (logged z L (writes_on z f m) (drained z L m))
     unfolding drained writes_on with_lane
     book-logs free f ok some-write = book-logged z base L k.lane (after_drain L h) (drained z L m) book-drains free f ok some-write
 
-    pub book-marks : is_held m.state.lock ≡ false → Book z base (stamped L mark_at none [] (after_drain L h)) (marked z L m)
+    pub book-marks : is_held m.state.lock ≡ false → Book z base (stamped L mark_at None [] (after_drain L h)) (marked z L m)
     unfolding drained with_lane
     book-marks free = book-marked z base L k.lane (after_drain L h) (drained z L m) book-drains free (lane_at m.state L).redo
 
@@ -537,14 +532,14 @@ module _ (z : Sizes) (base : ℕ) (h : History) (m : Machine) (b : Book z base h
       abbrev it : Logged
       it = logged_in (lane_at m.state L).phase
 
-      pub floor-drained : (page_at (after_drain L h) L).floor ≡ At it.stamp
+      pub floor-drained : (page_at (after_drain L h) L).floor ≡ Some it.stamp
       unfolding floor_on_drain
       floor-drained =
           let v = holds-it z base h m b l L k.lane y.held in
           ap (λ (p : Page). p.floor) (page-drained L h (rw b.pages k.lane)).here ∙ rw v.newest
 
       pub book-validates : (f : List ℕ) → txn_by former max_writes z.words f ≡ true
-          → Book z base (stamped L closing_at none (f ∷ []) (after_drain L h))
+          → Book z base (stamped L closing_at None (f ∷ []) (after_drain L h))
           (committed z L (pairs_of (length (writes_on z f m)) (writes_on z f m)) (drained z L m))
       unfolding drained writes_on with_lane
       book-validates f ok = book-committed z base L k.lane (after_drain L h) (drained z L m) book-drains y.free f ok it.stamp floor-drained
@@ -574,7 +569,7 @@ module _ (z : Sizes) (base : ℕ) (h : History) (m : Machine) (b : Book z base h
           v.redo ∙ ap (λ (n : ℕ). pairs_of n (writes_logged z L h)) v.count ∙ ap (λ (ws : List Write). pairs_of (length ws) ws) (redo-now t)
 
       pub book-redoes : is_stale L m ≡ false
-          → Book z base (stamped L closing_at none (held_by (page_at h L).held) (after_drain L h)) (committed z L (redo_pairs L m) (drained z L m))
+          → Book z base (stamped L closing_at None (held_by (page_at h L).held) (after_drain L h)) (committed z L (redo_pairs L m) (drained z L m))
       book-redoes t =
           let v = holds-it z base h m b l L k.lane y.held in
           rw (redo-pairs t, redo-held) (book-validates v.txn v.ok)

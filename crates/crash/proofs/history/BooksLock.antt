@@ -1,9 +1,9 @@
 -- The book's part is kept by the three moves of the lock: it is taken, a part is logged, a part is written, the last one too. Assumes nothing.
+use Rattle.std.specs.Prelude.{Option, Some, None}
 use mathlib.Core.Path.{◌≡◌, refl, ap, ◌∙◌, sym, subst}
 use mathlib.Core.Logic.{inl, inr}
 use mathlib.Core.Bool.{Bool, true, false}
 use mathlib.Core.List.{List, [], ◌∷◌, ◌++◌}
-use mathlib.Core.Option.{Option, none, some}
 use Prim.Native.Nat.{ℕ, ◌+◌, ◌-◌, ◌*◌, ◌%◌, ◌≤◌, ◌<◌}
 use native.Mathlib.Omega.{arith}
 use native.Mathlib.Nat.{le_refl}
@@ -24,17 +24,11 @@ use Rattle.image.specs.Stores.{stored}
 use Rattle.image.specs.declared.Sizes.{Sizes}
 use Rattle.lane_log.specs.Append.{advance}
 use Rattle.lane_log.specs.inner.AppendLaws.{advance-within}
-use Rattle.lane_log.specs.declared.Timestamp.{Timestamp}
-use Rattle.lane_log.specs.declared.Timestamp.TheVariants.{None, At}
-use Rattle.record.specs.Record.{lane_at, cursor_of, is_logged, pairs_from, is_held, part_length, stamp_ok, floor_ok, pairs_ok, phase_ok, lock_ok, floor_after_append}
+use Rattle.record.specs.Record.{lane_at, cursor_of, is_logged, pairs_from, is_held, part_length, stamp_ok, floor_ok, pairs_ok, phase_ok, lock_ok, floor_after_append, Phase, Lock}
 use Rattle.record.specs.Record.{with_lane, with_clock, with_last, with_lock, appended_lane, pairs_of, words_of_pairs}
 use Rattle.record.specs.inner.RecordLaws.{LaneIn, stamp-in}
 use Rattle.record.specs.declared.Logged.{Logged}
-use Rattle.record.specs.declared.Phase.{Phase}
-use Rattle.record.specs.declared.Phase.TheVariants.{Idle, Holds}
 use Rattle.record.specs.declared.Lane.{Lane}
-use Rattle.record.specs.declared.Lock.{Lock}
-use Rattle.record.specs.declared.Lock.TheVariants.{Free, Held}
 use Rattle.record.specs.declared.Locked.{Locked}
 use Rattle.record.specs.declared.Pair.{Pair}
 use Rattle.record.specs.declared.Record.{Record}
@@ -57,17 +51,17 @@ use Rattle.crash.proofs.history.Parts.{in-range, its_writes, part_count, part_lo
 use Rattle.crash.proofs.history.Books.{Moved, book-moved, range-now, even-now, last-now, words-free, in-pages, in-lanes, phase-drained, book-drains}
 
 -- ---- the lock in record and history
-state-held : (k : Locked) (f : List ℕ) (l : Lock) (y : Option Holder) → l ≡ Held k → y ≡ some (holder_of k f) → lock_state l ≡ holder_state y
+state-held : (k : Locked) (f : List ℕ) (l : Lock) (y : Option Holder) → l ≡ Some k → y ≡ Some (holder_of k f) → lock_state l ≡ holder_state y
 unfolding lock_state holder_state holder_of
 state-held k f l y e d = rw (e, d)
 
-pub not-logged : {A : Type 0} (p : Phase) (g : Logged) → is_logged p ≡ false → p ≡ Holds g → A
+pub not-logged : {A : Type 0} (p : Phase) (g : Logged) → is_logged p ≡ false → p ≡ Some g → A
 unfolding is_logged
 not-logged p g i e = absurd (let d = ap is_logged e in let z : ◌≡◌ {A = ℕ} 0 1 = cc in omega arith)
 
 -- of a lock that is held as k says, what is claimed of k is claimed of any that it is
-locking-of : (z : Sizes) (base : ℕ) (h : History) (m : Machine) (k : Locked) → m.state.lock ≡ Held k → Locking z base h m k
-    → (x : Locked) → m.state.lock ≡ Held x → Locking z base h m x
+locking-of : (z : Sizes) (base : ℕ) (h : History) (m : Machine) (k : Locked) → m.state.lock ≡ Some k → Locking z base h m k
+    → (x : Locked) → m.state.lock ≡ Some x → Locking z base h m x
 locking-of z base h m k e v x d = let q : k ≡ x = cc in subst (Locking z base h m) q v
 
 -- ---- what Continue leaves where it writes a part
@@ -83,7 +77,7 @@ with_some k f h =
       commits = h.commits;
       pages = h.pages;
       lag = h.lag;
-      lock = some (record { lane = k.lane; txn = f; stamp = k.stamp; left = left_after (holder_of k f); ready = false });
+      lock = Some (record { lane = k.lane; txn = f; stamp = k.stamp; left = left_after (holder_of k f); ready = false });
     }
 
 -- and where it is
@@ -95,7 +89,7 @@ with_all k f h =
       commits = h.commits ++ (record { stamp = k.stamp; txn = f } ∷ []);
       pages = h.pages;
       lag = h.lag;
-      lock = none;
+      lock = None;
     }
 
 module _ (k : Locked) where
@@ -105,7 +99,7 @@ module _ (k : Locked) where
 
   module _ (d : k.written + part_length k ≡ k.count → ⊥) where
     pub some-machine : (m : Machine)
-        → store.part_written k m ≡ changed k.lane (pair_stores (part_of k m.pairs)) (with_lock m.state (Held (more_written k))) m
+        → store.part_written k m ≡ changed k.lane (pair_stores (part_of k m.pairs)) (with_lock m.state (Some (more_written k))) m
     unfolding store.part_written part_written_state
     some-machine m = rw (ne_eqb (k.written + part_length k) k.count d)
 
@@ -116,7 +110,7 @@ module _ (k : Locked) where
 
   module _ (d : k.written + part_length k ≡ k.count) where
     pub all-machine : (m : Machine)
-        → store.part_written k m ≡ changed k.lane (pair_stores (part_of k m.pairs)) (with_lock (with_last m.state k.stamp) Free) m
+        → store.part_written k m ≡ changed k.lane (pair_stores (part_of k m.pairs)) (with_lock (with_last m.state k.stamp) None) m
     unfolding store.part_written part_written_state
     all-machine m = rw (eq-eqb (k.written + part_length k) k.count d)
 
@@ -126,8 +120,8 @@ module _ (k : Locked) where
 
 -- the transaction is the one that the history tells
 abbrev pub txn-in : Option Holder → List ℕ
-txn-in none = []
-txn-in (some y) = y.txn
+txn-in None = []
+txn-in (Some y) = y.txn
 
 module _ (z : Sizes) (base : ℕ) (h : History) (m : Machine) (b : Book z base h m) where
   -- lane and page of a move that leaves them
@@ -135,7 +129,7 @@ module _ (z : Sizes) (base : ℕ) (h : History) (m : Machine) (b : Book z base h
     range-later : LaneIn z c (lane_at m.state L)
     range-later = lane-later z h.clock c (lane_at m.state L) later (range-now z base L lane h m b)
 
-    newest-later : (s : ℕ) → newest_stamp (page_at h L).newest ≡ At s → stamp_ok c s ≡ true
+    newest-later : (s : ℕ) → newest_stamp (page_at h L).newest ≡ Some s → stamp_ok c s ≡ true
     newest-later s e = stamp-later h.clock c s later (b.stamps L s lane e)
 
   -- ---- the lock is taken
@@ -150,13 +144,13 @@ module _ (z : Sizes) (base : ℕ) (h : History) (m : Machine) (b : Book z base h
     abbrev after-lock : Machine
     after-lock = locked L (writes_on z f m) m
 
-    holder-now : taken.lock ≡ some (holder_of held-now f)
+    holder-now : taken.lock ≡ Some (holder_of held-now f)
     unfolding lock_taken holder_of
     holder-now =
         let n = length (writes_on z f m) in
         let e : n ≡ n - 0 = omega arith in
-        ap (λ (s : ℕ). some (record { lane = L; txn = f; stamp = s + 2; left = n; ready = false })) (sym b.live.clock)
-        ∙ ap (λ (i : ℕ). some (record { lane = L; txn = f; stamp = m.state.clock + 2; left = i; ready = false })) e
+        ap (λ (s : ℕ). Some (record { lane = L; txn = f; stamp = s + 2; left = n; ready = false })) (sym b.live.clock)
+        ∙ ap (λ (i : ℕ). Some (record { lane = L; txn = f; stamp = m.state.clock + 2; left = i; ready = false })) e
 
     present-taken : present z taken ≡ present z h
     unfolding present words_below lock_taken
@@ -256,7 +250,7 @@ module _ (z : Sizes) (base : ℕ) (h : History) (m : Machine) (b : Book z base h
     book-locked = book-moved z base L lane h taken m after-lock b moved-locked
 
   -- ---- the lock is held
-  module _ (k : Locked) (e : m.state.lock ≡ Held k) where
+  module _ (k : Locked) (e : m.state.lock ≡ Some k) where
     abbrev it : Locking z base h m k
     it = b.locking k e
 
@@ -292,18 +286,18 @@ module _ (z : Sizes) (base : ℕ) (h : History) (m : Machine) (b : Book z base h
       abbrev its-lane : Lane
       its-lane =
           let l = lane_at m.state k.lane in
-          appended_lane k.stamp (advance z.slots (length ws + 1) (cursor_of l)) Idle l.redo l
+          appended_lane k.stamp (advance z.slots (length ws + 1) (cursor_of l)) None l.redo l
 
       lanes-parted : LaneTo m.state after-part.state k.lane its-lane
       unfolding store.part_logged changed with_lock lane_at
       lanes-parted =
-          let a = lane-to (with_lock m.state (Held more-logged)) k.lane its-lane (in-lanes z base k.lane ranged.lane h m b) in
+          let a = lane-to (with_lock m.state (Some more-logged)) k.lane its-lane (in-lanes z base k.lane ranged.lane h m b) in
           record { here = a.here; others = a.others; lanes = a.lanes }
 
       abbrev its-page : Page
       its-page =
           let p = page_at h k.lane in
-          record { held = p.held; newest = closing_at k.stamp; floor = floor_or p.floor (At k.stamp) }
+          record { held = p.held; newest = closing_at k.stamp; floor = floor_or p.floor (Some k.stamp) }
 
       pages-parted : PageTo h parted k.lane its-page
       unfolding part_logged holder_of page_at
@@ -314,10 +308,10 @@ module _ (z : Sizes) (base : ℕ) (h : History) (m : Machine) (b : Book z base h
             pages = length-set h.pages k.lane _;
           }
 
-      holder-parted : parted.lock ≡ some (holder_of more-logged it.txn)
+      holder-parted : parted.lock ≡ Some (holder_of more-logged it.txn)
       unfolding part_logged holder_of
       holder-parted =
-          ap (λ (r : Bool). some (record { lane = k.lane; txn = it.txn; stamp = k.stamp; left = k.count - k.written; ready = r }))
+          ap (λ (r : Bool). Some (record { lane = k.lane; txn = it.txn; stamp = k.stamp; left = k.count - k.written; ready = r }))
           (sym (lt-ltb k.written (k.logged + length ws) (omega (arith, ws-some))))
 
       all-parted : (f : List ℕ) → all_writes z f h ≡ all_writes z f parted
@@ -338,10 +332,10 @@ module _ (z : Sizes) (base : ℕ) (h : History) (m : Machine) (b : Book z base h
           ∙ sym (visible-held z parted more-logged it.txn holder-parted (it.count ∙ ap length (all-parted it.txn))
           (let l = ranged.left in omega arith))
 
-      floor-part : (c s : ℕ) (t : Timestamp) → stamp_ok c s ≡ true → floor_ok c t ≡ true → floor_ok c (floor_after_append s t) ≡ true
+      floor-part : (c s : ℕ) (t : Option ℕ) → stamp_ok c s ≡ true → floor_ok c t ≡ true → floor_ok c (floor_after_append s t) ≡ true
       unfolding floor_after_append floor_ok
       floor-part c s None p q = p
-      floor-part c s (At u) p q = q
+      floor-part c s (Some u) p q = q
 
       range-part : LaneIn z h.clock its-lane
       unfolding appended_lane cursor_of phase_ok
@@ -363,7 +357,7 @@ module _ (z : Sizes) (base : ℕ) (h : History) (m : Machine) (b : Book z base h
       unfolding part_length
       length_part x p q = rw (p, q)
 
-      lock-part : after-part.state.lock ≡ Held more-logged
+      lock-part : after-part.state.lock ≡ Some more-logged
       unfolding store.part_logged changed with_lane with_lock
       lock-part = refl
 
@@ -428,7 +422,7 @@ module _ (z : Sizes) (base : ℕ) (h : History) (m : Machine) (b : Book z base h
             last_ok = last-now z base k.lane ranged.lane h m b;
             range = range-part;
             floor = appended-floor k.stamp (lane_at m.state k.lane).floor
-                ∙ ap (λ (t : Timestamp). floor_or t (At k.stamp)) (b.live.floors k.lane ranged.lane);
+                ∙ ap (λ (t : Option ℕ). floor_or t (Some k.stamp)) (b.live.floors k.lane ranged.lane);
             held = sym ranged.idle ∙ b.live.held k.lane ranged.lane;
             newest = λ s q. let d : k.stamp ≡ s = cc in subst (λ (s : ℕ). stamp_ok h.clock s ≡ true) d stamp-ok;
             holding = λ g q. absurd (let z : ◌≡◌ {A = ℕ} 0 1 = cc in omega arith);
@@ -459,16 +453,16 @@ module _ (z : Sizes) (base : ℕ) (h : History) (m : Machine) (b : Book z base h
         more-written = more_written k
 
         abbrev after-some : Machine
-        after-some = changed k.lane (pair_stores (part_of k m.pairs)) (with_lock m.state (Held more-written)) m
+        after-some = changed k.lane (pair_stores (part_of k m.pairs)) (with_lock m.state (Some more-written)) m
 
         abbrev with-some : History
         with-some = with_some k it.txn h
 
-        holder-some : with-some.lock ≡ some (holder_of more-written it.txn)
+        holder-some : with-some.lock ≡ Some (holder_of more-written it.txn)
         unfolding holder_of
         holder-some =
-            ap (λ (n : ℕ). some (record { lane = k.lane; txn = it.txn; stamp = k.stamp; left = n; ready = false })) (left-after k it.txn)
-            ∙ ap (λ (r : Bool). some (record { lane = k.lane; txn = it.txn; stamp = k.stamp; left = k.count - upto; ready = r }))
+            ap (λ (n : ℕ). Some (record { lane = k.lane; txn = it.txn; stamp = k.stamp; left = n; ready = false })) (left-after k it.txn)
+            ∙ ap (λ (r : Bool). Some (record { lane = k.lane; txn = it.txn; stamp = k.stamp; left = k.count - upto; ready = r }))
             (sym (le-ltb upto k.logged (omega arith)))
 
         all-some : (f : List ℕ) → all_writes z f h ≡ all_writes z f with-some
@@ -481,7 +475,7 @@ module _ (z : Sizes) (base : ℕ) (h : History) (m : Machine) (b : Book z base h
 
         words-some : data_of z after-some.cache ≡ visible z with-some
         words-some =
-            words-written (with_lock m.state (Held more-written))
+            words-written (with_lock m.state (Some more-written))
             ∙ ap (applied (take upto its)) present-some
             ∙ ap (λ (l : List Write). applied (take upto l) (present z with-some)) (all-some it.txn)
             ∙ sym (visible-held z with-some more-written it.txn holder-some (it.count ∙ ap length (all-some it.txn)) (part-within k ranged.left))
@@ -490,7 +484,7 @@ module _ (z : Sizes) (base : ℕ) (h : History) (m : Machine) (b : Book z base h
         unfolding part_length
         sixteen d w = omega arith
 
-        lock-some : after-some.state.lock ≡ Held more-written
+        lock-some : after-some.state.lock ≡ Some more-written
         unfolding changed with_lock
         lock-some = refl
 
@@ -568,7 +562,7 @@ module _ (z : Sizes) (base : ℕ) (h : History) (m : Machine) (b : Book z base h
       -- ---- the last one
       module _ (d : upto ≡ k.count) where
         abbrev after-all : Machine
-        after-all = changed k.lane (pair_stores (part_of k m.pairs)) (with_lock (with_last m.state k.stamp) Free) m
+        after-all = changed k.lane (pair_stores (part_of k m.pairs)) (with_lock (with_last m.state k.stamp) None) m
 
         abbrev its-commit : Commit
         its-commit = record { stamp = k.stamp; txn = it.txn }
@@ -583,7 +577,7 @@ module _ (z : Sizes) (base : ℕ) (h : History) (m : Machine) (b : Book z base h
         words-all : data_of z after-all.cache ≡ visible z with-all
         unfolding after all_writes
         words-all =
-            words-written (with_lock (with_last m.state k.stamp) Free)
+            words-written (with_lock (with_last m.state k.stamp) None)
             ∙ ap (λ (l : List Write). applied l (present z h)) (take_all upto its (let c = it.count in omega arith))
             ∙ sym present-all
             ∙ sym (visible-free z with-all refl)
@@ -619,8 +613,8 @@ module _ (z : Sizes) (base : ℕ) (h : History) (m : Machine) (b : Book z base h
               newest = newest-later k.lane ranged.lane h.clock (le_refl h.clock);
               holding = λ g q. not-logged (lane_at m.state k.lane).phase g ranged.idle q;
               lock = refl;
-              lock-ok = free-ok z _ m.pairs Free refl;
-              locking = λ x q. not-locked Free x refl q;
+              lock-ok = free-ok z _ m.pairs None refl;
+              locking = λ x q. not-locked None x refl q;
             }
 
         book-all : Book z base with-all after-all
@@ -634,17 +628,17 @@ module _ (z : Sizes) (base : ℕ) (h : History) (m : Machine) (b : Book z base h
 
 -- ---- every move: a drain, and then what the call does
 -- one transaction only
-pub same-txn : (k : Locked) (f g : List ℕ) (y : Option Holder) → y ≡ some (holder_of k f) → y ≡ some (holder_of k g) → f ≡ g
+pub same-txn : (k : Locked) (f g : List ℕ) (y : Option Holder) → y ≡ Some (holder_of k f) → y ≡ Some (holder_of k g) → f ≡ g
 unfolding holder_of
 same-txn k f g y p q = ap txn-in (sym p ∙ q)
 
 -- what Continue makes of the history: its next part is logged, or written
-pub next-logs : (k : Locked) (f : List ℕ) (y : Option Holder) (h : History) → y ≡ some (holder_of k f) → k.logged ≡ k.written
+pub next-logs : (k : Locked) (f : List ℕ) (y : Option Holder) (h : History) → y ≡ Some (holder_of k f) → k.logged ≡ k.written
     → next_part y h ≡ part_logged (holder_of k f) h
 unfolding next_part holder_of
 next-logs k f y h e t = rw (e, le-ltb k.written k.logged (omega arith))
 
-pub next-writes : (k : Locked) (f : List ℕ) (y : Option Holder) (h : History) → y ≡ some (holder_of k f) → k.written < k.count
+pub next-writes : (k : Locked) (f : List ℕ) (y : Option Holder) (h : History) → y ≡ Some (holder_of k f) → k.written < k.count
     → k.logged ≡ k.written + part_length k → next_part y h ≡ part_written (holder_of k f) h
 unfolding next_part holder_of
 next-writes k f y h e l t = rw (e, lt-ltb k.written k.logged (let p = part-some k l in omega arith))
@@ -660,11 +654,11 @@ module _ (z : Sizes) (base : ℕ) (h : History) (m : Machine) (b : Book z base h
     book-locks =
         book-locked z base (after_drain L h) (drained z L m) (book-drains z base h m b l L known) L known.lane f ok idle-drained free some-write
 
-  module _ (k : Locked) (known : Known z m k.lane) (e : m.state.lock ≡ Held k) where
+  module _ (k : Locked) (known : Known z m k.lane) (e : m.state.lock ≡ Some k) where
     abbrev pub then-book : Book z base (after_drain k.lane h) (drained z k.lane m)
     then-book = book-drains z base h m b l k.lane known
 
-    pub lock-drained : (drained z k.lane m).state.lock ≡ Held k
+    pub lock-drained : (drained z k.lane m).state.lock ≡ Some k
     unfolding drained with_lane
     lock-drained = e
 

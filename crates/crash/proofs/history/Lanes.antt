@@ -1,9 +1,9 @@
 -- The record's lanes and the history's pages after each move: lane L becomes another, the rest stay; the lanes of a start;
 -- and the least floor of both. Assumes nothing.
+use Rattle.std.specs.Prelude.{Option, Some, None}
 use mathlib.Core.Path.{◌≡◌, refl, ap₂, sym, subst}
 use mathlib.Core.Logic.{◌≢◌}
 use mathlib.Core.List.{List, [], ◌∷◌}
-use mathlib.Core.Option.{Option, none}
 use Prim.Native.Nat.{ℕ, zero, suc, ◌+◌, ◌≤◌, ◌<◌}
 use native.Mathlib.Omega.{arith}
 use native.Mathlib.Decide.{ℕ_discrete}
@@ -15,18 +15,16 @@ use Rattle.image.specs.Image.{max_lanes}
 use Rattle.image.specs.declared.Sizes.{Sizes}
 use Rattle.lane_log.specs.Log.{latest_in}
 use Rattle.lane_log.specs.Append.{advance}
-use Rattle.lane_log.specs.declared.Timestamp.{Timestamp}
-use Rattle.lane_log.specs.declared.Timestamp.TheVariants.{None, At}
 use Rattle.record.specs.Record.{no_lane, lane_at, cursor_of, lesser, least_floor, bound_of, floor_after_append}
 use Rattle.record.specs.Record.{with_lane, with_clock, with_last, drained_lane, appended_lane, idle_lane, start_lane, start_record}
 use Rattle.record.specs.declared.Pair.{Pair}
-use Rattle.record.specs.declared.Phase.{Phase}
 use Rattle.record.specs.declared.Lane.{Lane}
 use Rattle.record.specs.declared.Record.{Record}
 use Rattle.store.specs.Machine.{Machine}
 use Rattle.store.specs.Calls.{drained, changed, appended, committed}
 use Rattle.store.specs.Calls as calls
 use Rattle.crash.specs.History.{Newest, Page, History, blank_page, page_at, floor_or, floor_on_drain, after_drain, stamped, released, least_floor_of}
+use Rattle.record.specs.Record.{Phase}
 
 -- ---- one lane
 -- in record s, made from r, lane L has become l and the others are as they were
@@ -98,7 +96,7 @@ module _ (L : ℕ) (h : History) (i : L < length h.pages) where
 
   pub page-stamped : (kind : ℕ → Newest) (held : Option (List ℕ)) (txns : List (List ℕ))
       → PageTo h (stamped L kind held txns h) L
-      (record { held = held; newest = kind (h.clock + 2); floor = floor_or (page_at h L).floor (At (h.clock + 2)) })
+      (record { held = held; newest = kind (h.clock + 2); floor = floor_or (page_at h L).floor (Some (h.clock + 2)) })
   unfolding stamped page_at
   page-stamped kind held txns =
       record {
@@ -107,7 +105,7 @@ module _ (L : ℕ) (h : History) (i : L < length h.pages) where
         pages = length-set h.pages L _;
       }
 
-  pub page-released : PageTo h (released L h) L (record { held = none; newest = (page_at h L).newest; floor = (page_at h L).floor })
+  pub page-released : PageTo h (released L h) L (record { held = None; newest = (page_at h L).newest; floor = (page_at h L).floor })
   unfolding released page_at
   page-released =
       record {
@@ -117,10 +115,10 @@ module _ (L : ℕ) (h : History) (i : L < length h.pages) where
       }
 
 -- ---- floors
-pub appended-floor : (s : ℕ) (floor : Timestamp) → floor_after_append s floor ≡ floor_or floor (At s)
+pub appended-floor : (s : ℕ) (floor : Option ℕ) → floor_after_append s floor ≡ floor_or floor (Some s)
 unfolding floor_after_append floor_or
 appended-floor s None = refl
-appended-floor s (At f) = refl
+appended-floor s (Some f) = refl
 
 -- the least floor of the first n lanes is that of n pages
 pub least-floors : (n : ℕ) (lanes : List Lane) (pages : List Page) → n ≤ length lanes → length pages ≡ n

@@ -1,9 +1,9 @@
 -- The history goes on: a call adds commits not below the clock and above what was given before, at the end, and what stood below stays. Assumes nothing.
+use Rattle.std.specs.Prelude.{Option, Some, None}
 use mathlib.Core.Path.{◌≡◌, refl, ap, ◌∙◌, sym}
 use mathlib.Core.Logic.{◌≢◌}
 use mathlib.Core.Bool.{cond}
 use mathlib.Core.List.{List, [], ◌∷◌, ◌++◌, append-nil}
-use mathlib.Core.Option.{Option, none, some}
 use Prim.Native.Nat.{ℕ, ◌+◌, ◌-◌, ◌≤◌, ◌<◌}
 use native.Mathlib.Omega.{arith}
 use native.Mathlib.Nat.{le_refl}
@@ -11,8 +11,6 @@ use lib.ListN.{length, take}
 use Rattle.laws.specs.inner.Lists.{All, none as nil, more, All-append, All-map}
 use Rattle.txn.specs.Txn.{run, after}
 use Rattle.image.specs.declared.Sizes.{Sizes}
-use Rattle.lane_log.specs.declared.Timestamp.{Timestamp}
-use Rattle.lane_log.specs.declared.Timestamp.TheVariants.{At}
 use Rattle.record.specs.Record.{lane_at, pairs_of}
 use Rattle.record.specs.inner.RecordLaws.{stamp-in}
 use Rattle.record.specs.declared.Logged.{Logged}
@@ -23,7 +21,7 @@ use Rattle.crash.proofs.recovery.Data.{Rising, last, then, replay-none}
 use Rattle.crash.proofs.history.Agree.{last_of, Holding, Book}
 
 -- ---- commits at the end
-pub replay-append : (W : ℕ) (b : Timestamp) (cs ds : List Commit) (ws : List ℕ) → replay W b (cs ++ ds) ws ≡ replay W b ds (replay W b cs ws)
+pub replay-append : (W : ℕ) (b : Option ℕ) (cs ds : List Commit) (ws : List ℕ) → replay W b (cs ++ ds) ws ≡ replay W b ds (replay W b cs ws)
 unfolding replay
 replay-append W b [] ds ws = refl
 replay-append W b (c ∷ cs) ds ws = replay-append W b cs ds (cond (is_below b c.stamp) (after W c.txn ws) ws)
@@ -40,8 +38,8 @@ rising-append clock last nil r f = r
 rising-append clock (then {c = c} a q) (more h hs) r f = then (All-append a (All-map (λ d k. omega arith) f)) (rising-append clock q hs r f)
 
 -- ---- the writes that a lane has logged
-pub writes-held : (z : Sizes) (h : History) (L : ℕ) (f : List ℕ) (s : ℕ) → (page_at h L).held ≡ some f → (page_at h L).newest ≡ closing_at s
-    → writes_logged z L h ≡ run z.words f (words_below z (At s) h)
+pub writes-held : (z : Sizes) (h : History) (L : ℕ) (f : List ℕ) (s : ℕ) → (page_at h L).held ≡ Some f → (page_at h L).newest ≡ closing_at s
+    → writes_logged z L h ≡ run z.words f (words_below z (Some s) h)
 unfolding writes_logged newest_stamp
 writes-held z h L f s p q = rw (p, writes_logged) (ap (λ (n : Newest). run z.words f (words_below z (newest_stamp n) h)) q)
 
@@ -61,7 +59,7 @@ pub record Onward (given : ℕ) (h k : History) : Type 0 where
 -- but for the newest of lane L, no timestamp of the history is above `given`
 pub record Earlier (z : Sizes) (L : ℕ) (h : History) (given : ℕ) : Type 0 where
   pub commits : All (λ c. c.stamp ≤ given) h.commits
-  pub others : (M s : ℕ) → M < z.lanes → M ≢ L → newest_stamp (page_at h M).newest ≡ At s → s ≤ given
+  pub others : (M s : ℕ) → M < z.lanes → M ≢ L → newest_stamp (page_at h M).newest ≡ Some s → s ≤ given
 
 -- none is above the clock
 pub earlier-clock : (z : Sizes) (base : ℕ) (h : History) (m : Machine) → Book z base h m → (L : ℕ) → Earlier z L h h.clock
@@ -97,7 +95,7 @@ onward-stamped L kind held h =
     onward-same h (stamped L kind held [] h) refl refl (let c : h.clock ≤ h.clock + 2 = omega arith in c) (append-nil h.commits)
 
 -- a commit
-pub onward-commit : (L : ℕ) (f : List ℕ) (h : History) → Onward h.clock h (stamped L closing_at none (f ∷ []) h)
+pub onward-commit : (L : ℕ) (f : List ℕ) (h : History) → Onward h.clock h (stamped L closing_at None (f ∷ []) h)
 unfolding stamped
 onward-commit L f h =
     record {
@@ -140,11 +138,11 @@ module _ (z : Sizes) (h k : History) {given : ℕ} (o : Onward given h k) where
   upto-onward u = rw o.commits (All-append (All-map (λ c p. omega (arith, p, o.clock)) u) o.upto)
 
   -- the words below a timestamp that was given
-  pub words-onward : (s : ℕ) → s ≤ h.clock → words_below z (At s) k ≡ words_below z (At s) h
+  pub words-onward : (s : ℕ) → s ≤ h.clock → words_below z (Some s) k ≡ words_below z (Some s) h
   unfolding words_below
   words-onward s l =
-      rw (o.commits, o.start, replay-append z.words (At s) h.commits o.new h.start)
-      (replay-none z.words s (replay z.words (At s) h.commits h.start) (All-map (λ c p. omega arith) o.fresh))
+      rw (o.commits, o.start, replay-append z.words (Some s) h.commits o.new h.start)
+      (replay-none z.words s (replay z.words (Some s) h.commits h.start) (All-map (λ c p. omega arith) o.fresh))
 
   -- a transaction that another lane holds, or that is held through a drain
   pub holding-onward : (base : ℕ) (m n : Machine) (M : ℕ) (g : Logged) → Holding z base h m M g → g.stamp ≤ given

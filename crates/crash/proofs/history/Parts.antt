@@ -1,8 +1,8 @@
 -- The parts of a long transaction: the pairs beside the record are those of its writes, a part's pairs make a part's writes, and the cached words are
 -- those after the parts that are written. Assumes nothing.
+use Rattle.std.specs.Prelude.{Some, Option}
 use mathlib.Core.Path.{◌≡◌, refl, ap, ◌∙◌, sym}
 use mathlib.Core.List.{List, [], ◌∷◌}
-use mathlib.Core.Option.{Option, some}
 use Prim.Native.Nat.{ℕ, zero, suc, ◌+◌, ◌-◌, ◌*◌, ◌≤◌, ◌<◌, min}
 use native.Mathlib.Omega.{arith}
 use lib.ListN.{length, set, take, drop, length-take, length-drop}
@@ -16,7 +16,6 @@ use Rattle.image.specs.declared.Sizes.{Sizes}
 use Rattle.record.specs.Record.{pair_at, pairs_from, part_length, pairs_of, words_of_pairs}
 use Rattle.record.specs.inner.RecordLaws.{record-in, pairs-cut}
 use Rattle.record.specs.declared.Pair.{Pair}
-use Rattle.record.specs.declared.Lock.TheVariants.{Held}
 use Rattle.record.specs.declared.Locked.{Locked}
 use Rattle.store.specs.Machine.{Machine}
 use Rattle.store.specs.Locks.{part_of, pair_writes}
@@ -129,7 +128,7 @@ pub part-within : (k : Locked) → k.written < k.count → k.written + part_leng
 unfolding part_length
 part-within k h = omega arith
 
-pub visible-held : (z : Sizes) (h : History) (k : Locked) (f : List ℕ) → h.lock ≡ some (holder_of k f) → k.count ≡ length (all_writes z f h)
+pub visible-held : (z : Sizes) (h : History) (k : Locked) (f : List ℕ) → h.lock ≡ Some (holder_of k f) → k.count ≡ length (all_writes z f h)
     → k.written ≤ k.count → visible z h ≡ applied (take k.written (all_writes z f h)) (present z h)
 unfolding visible written holder_of all_writes
 visible-held z h k f e c l =
@@ -138,7 +137,7 @@ visible-held z h k f e c l =
     (let d : length (run z.words f (present z h)) - (k.count - k.written) ≡ k.written = omega arith in d)
 
 -- ---- of a store whose lock is held
-module _ (z : Sizes) (base : ℕ) (h : History) (m : Machine) (b : Book z base h m) (k : Locked) (e : m.state.lock ≡ Held k) where
+module _ (z : Sizes) (base : ℕ) (h : History) (m : Machine) (b : Book z base h m) (k : Locked) (e : m.state.lock ≡ Some k) where
   pub in-range : HeldRange z m.state m.pairs k
   in-range =
       held-range z m.state m.pairs k

@@ -1,4 +1,5 @@
 -- Every call leaves the record in its ranges: refusal 2 never happens to a store that was formatted. Assumes nothing.
+use Rattle.std.specs.Prelude.{Option, Some, None}
 use mathlib.Core.Path.{◌≡◌, refl, ap, ◌∙◌}
 use mathlib.Core.Logic.{◌⊎◌, inl, inr}
 use mathlib.Core.Bool.{Bool, true, false, not, ◌||◌}
@@ -15,19 +16,14 @@ use Rattle.laws.specs.inner.Lists.{All, none as nil, more}
 use Rattle.txn.specs.Txn.{max_writes, max_long}
 use Rattle.txn.specs.declared.Write.{Write}
 use Rattle.image.specs.declared.Sizes.{Sizes}
-use Rattle.lane_log.specs.declared.Timestamp.{Timestamp}
-use Rattle.lane_log.specs.declared.Timestamp.TheVariants.{None, At}
-use Rattle.record.specs.Record.{no_lane, lane_at, is_logged, pairs_from, part_length, stamp_ok, floor_ok, pairs_ok, phase_ok, lane_ok, lanes_ok, lag_ok}
+use Rattle.record.specs.Record.{no_lane, lane_at, is_logged, pairs_from, part_length, stamp_ok, floor_ok, pairs_ok, phase_ok, lane_ok, lanes_ok, lag_ok, Lock}
 use Rattle.record.specs.Record.{held_ok, lock_ok, record_ok, pairs_of}
 use Rattle.record.specs.inner.RecordLaws.{LaneIn, lane-in, record-in}
 use Rattle.record.specs.declared.Pair.{Pair}
-use Rattle.record.specs.declared.Phase.{Phase}
-use Rattle.record.specs.declared.Phase.TheVariants.{Idle, Holds}
 use Rattle.record.specs.declared.Lane.{Lane}
-use Rattle.record.specs.declared.Lock.{Lock}
-use Rattle.record.specs.declared.Lock.TheVariants.{Free, Held}
 use Rattle.record.specs.declared.Locked.{Locked}
 use Rattle.record.specs.declared.Record.{Record}
+use Rattle.record.specs.Record.{Phase}
 
 -- ---- a lane
 lane-ranged : (z : Sizes) (clock : ℕ) (l : Lane) → LaneIn z clock l → lane_ok z clock l ≡ true
@@ -98,11 +94,11 @@ held-ranged z r ps k h =
     either (inl e) = rw (eq-eqb k.logged k.written e)
     either (inr e) = rw (eq-eqb k.logged (k.written + part_length k) e) (or-right-true (eqb k.logged k.written))
 
-pub free-ok : (z : Sizes) (r : Record) (ps : List ℕ) (l : Lock) → l ≡ Free → lock_ok z r ps l ≡ true
+pub free-ok : (z : Sizes) (r : Record) (ps : List ℕ) (l : Lock) → l ≡ None → lock_ok z r ps l ≡ true
 unfolding lock_ok
 free-ok z r ps l e = rw e
 
-pub held-ok : (z : Sizes) (r : Record) (ps : List ℕ) (l : Lock) (k : Locked) → l ≡ Held k → lock_ok z r ps l ≡ held_ok z r ps k
+pub held-ok : (z : Sizes) (r : Record) (ps : List ℕ) (l : Lock) (k : Locked) → l ≡ Some k → lock_ok z r ps l ≡ held_ok z r ps k
 unfolding lock_ok
 held-ok z r ps l k e = rw e
 
@@ -110,8 +106,8 @@ held-ok z r ps l k e = rw e
 pub lock-stays : (z : Sizes) (r s : Record) (ps : List ℕ) (l : Lock) → s.clock ≡ r.clock
     → ((M : ℕ) → is_logged (lane_at s M).phase ≡ is_logged (lane_at r M).phase) → lock_ok z r ps l ≡ true → lock_ok z s ps l ≡ true
 unfolding lock_ok
-lock-stays z r s ps Free c f h = refl
-lock-stays z r s ps (Held k) c f h =
+lock-stays z r s ps None c f h = refl
+lock-stays z r s ps (Some k) c f h =
     let v = held-range z r ps k h in
     held-ranged z s ps k
     (record {
@@ -176,15 +172,15 @@ pub stamp-now : (s : ℕ) → s % 2 ≡ 0 → stamp_ok s s ≡ true
 unfolding stamp_ok
 stamp-now s e = rw (eq-eqb (s % 2) 0 e, le-leb s s (omega arith))
 
-floor-later : (c d : ℕ) (f : Timestamp) → c ≤ d → floor_ok c f ≡ true → floor_ok d f ≡ true
+floor-later : (c d : ℕ) (f : Option ℕ) → c ≤ d → floor_ok c f ≡ true → floor_ok d f ≡ true
 unfolding floor_ok
 floor-later c d None h e = refl
-floor-later c d (At s) h e = stamp-later c d s h e
+floor-later c d (Some s) h e = stamp-later c d s h e
 
 phase-later : (z : Sizes) (c d : ℕ) (redo : List Pair) (p : Phase) → c ≤ d → phase_ok z c redo p ≡ true → phase_ok z d redo p ≡ true
 unfolding phase_ok
-phase-later z c d redo Idle h e = refl
-phase-later z c d redo (Holds g) h e =
+phase-later z c d redo None h e = refl
+phase-later z c d redo (Some g) h e =
     let e₁ = and_right (ltb g.first z.slots) _ e in
     let e₂ = and_right (leb 1 g.count) _ e₁ in
     let e₃ = and_right (leb g.count max_writes) _ e₂ in
@@ -210,7 +206,7 @@ pairs-low W (suc n) pos (more {x = w} h hs) = and_both (ltb w.word W) _ (lt-ltb 
 
 pub phase-logged : (z : Sizes) (clock first : ℕ) (ws : List Write) → 0 < z.words → first < z.slots → 1 ≤ length ws → length ws ≤ max_writes → clock % 2 ≡ 0
     → All (λ w. w.word < z.words) ws → take (length ws) (pairs_of max_writes ws) ≡ pairs_of (length ws) ws
-    → phase_ok z clock (pairs_of max_writes ws) (Holds (record { first = first; count = length ws; stamp = clock })) ≡ true
+    → phase_ok z clock (pairs_of max_writes ws) (Some (record { first = first; count = length ws; stamp = clock })) ≡ true
 unfolding phase_ok
 phase-logged z clock first ws pos f lo hi even low e =
     rw (lt-ltb first z.slots f, le-leb 1 (length ws) lo, le-leb (length ws) max_writes hi, stamp-now clock even, e) (pairs-low z.words (length ws) pos low)

@@ -1,8 +1,8 @@
 -- A call's refusal is the one that the theorem gives: causes 1 and 2 do not hold, and the others are the same tests, of machine or history. Assumes nothing.
+use Rattle.std.specs.Prelude.{Option, Some, None}
 use mathlib.Core.Path.{◌≡◌, refl, ap, ◌∙◌, sym}
 use mathlib.Core.Bool.{Bool, true, false, cond, not, ◌&&◌, and-false}
 use mathlib.Core.List.{List, [], ◌∷◌, ◌++◌}
-use mathlib.Core.Option.{Option, none, some}
 use Prim.Native.Nat.{ℕ, zero, suc, ◌+◌, ◌-◌, ◌^◌, ◌<◌}
 use lib.Dec.{eqb, leb}
 use lib.ListN.{length}
@@ -13,11 +13,7 @@ use Rattle.txn.specs.Txn.{Rule, run}
 use Rattle.image.specs.Image.{buffers_ok}
 use Rattle.image.specs.declared.Sizes.{Sizes}
 use Rattle.lane_log.specs.Log.{Complete, complete_in, back, ahead, overlaps, hits_from, hits}
-use Rattle.lane_log.specs.declared.Timestamp.{Timestamp}
-use Rattle.lane_log.specs.declared.Timestamp.TheVariants.{None, At}
 use Rattle.record.specs.Record.{lane_at, is_logged, lock_length, is_held, locked_in, record_ok, spent, bound_of, lag_passed}
-use Rattle.record.specs.declared.Lock.{Lock}
-use Rattle.record.specs.declared.Lock.TheVariants.{Free, Held}
 use Rattle.store.specs.Machine.{Machine, Step, Cause, first_cause, unless, said}
 use Rattle.store.specs.Calls.{bad_buffers, bad_record, bad_lane, bad_txn, already_logged, not_logged, lock_held, clock_spent, drained}
 use Rattle.store.specs.Calls.{would_hit, would_lag, writes_on, drain_refusal, drain_step}
@@ -29,6 +25,7 @@ use Rattle.crash.specs.History as book
 use Rattle.crash.specs.History.{Holder, History, is_some, held_elsewhere, after_drain, least_floor_of, writes_now, holds_one, causes_by, slots_by}
 use Rattle.crash.specs.Theorem.{Progress, lock_state, holder_state, Live, is_full, refusal_by}
 use Rattle.crash.proofs.induction.Moves.{refusal_of, unless-by}
+use Rattle.record.specs.Record.{Lock}
 
 -- causes 1 and 2 do not hold
 pub record Fine (z : Sizes) (m : Machine) : Type 0 where
@@ -58,10 +55,10 @@ unfolding hits_from
 from_nothing N k b [] = refl
 from_nothing N k b (q ∷ qs) = rw (over_nothing N k q.slot (length q.entries), and-false (leb b q.stamp), from_nothing N k b qs)
 
-hits-nothing : (N k : ℕ) (b : Timestamp) (qs : List Complete) → hits N k 0 b qs ≡ false
+hits-nothing : (N k : ℕ) (b : Option ℕ) (qs : List Complete) → hits N k 0 b qs ≡ false
 unfolding hits
 hits-nothing N k None qs = refl
-hits-nothing N k (At b) qs = from_nothing N k b qs
+hits-nothing N k (Some b) qs = from_nothing N k b qs
 
 -- the first two causes of a list do not hold, and where the third does not, the rest are the same
 pub past_two : (a b c : Bool) (n : ℕ) (cs ds : List Cause) → a ≡ true → b ≡ true → (c ≡ false → first_cause cs ≡ first_cause ds)
@@ -74,24 +71,24 @@ past_two a b false n cs ds p q f = rw (p, q) (f refl)
 -- ---- the lock
 held_same : (l : Lock) (y : Option Holder) → lock_state l ≡ holder_state y → is_held l ≡ is_some y
 unfolding lock_state holder_state is_held is_some
-held_same Free none e = refl
-held_same Free (some k) e = absurd (let z : ◌≡◌ {A = ℕ} 0 1 = cc in omega arith)
-held_same (Held k) none e = absurd (let z : ◌≡◌ {A = ℕ} 0 1 = cc in omega arith)
-held_same (Held k) (some y) e = refl
+held_same None None e = refl
+held_same None (Some k) e = absurd (let z : ◌≡◌ {A = ℕ} 0 1 = cc in omega arith)
+held_same (Some k) None e = absurd (let z : ◌≡◌ {A = ℕ} 0 1 = cc in omega arith)
+held_same (Some k) (Some y) e = refl
 
 abbrev lane-in : Option Progress → ℕ
-lane-in none = 0
-lane-in (some p) = p.lane
+lane-in None = 0
+lane-in (Some p) = p.lane
 
 -- no lock, or another lane's
 proceed-same : (l : Lock) (y : Option Holder) (L : ℕ) → lock_state l ≡ holder_state y
     → first_cause (record { number = 7; holds = not (is_held l) } ∷ record { number = 11; holds = not (eqb (locked_in l).lane L) } ∷ [])
     ≡ first_cause (record { number = 7; holds = not (is_some y) } ∷ record { number = 11; holds = held_elsewhere L y } ∷ [])
 unfolding lock_state holder_state is_held is_some locked_in held_elsewhere first_cause
-proceed-same Free none L e = refl
-proceed-same Free (some k) L e = absurd (let z : ◌≡◌ {A = ℕ} 0 1 = cc in omega arith)
-proceed-same (Held k) none L e = absurd (let z : ◌≡◌ {A = ℕ} 0 1 = cc in omega arith)
-proceed-same (Held k) (some y) L e = let d : k.lane ≡ y.lane = ap lane-in e in rw d
+proceed-same None None L e = refl
+proceed-same None (Some k) L e = absurd (let z : ◌≡◌ {A = ℕ} 0 1 = cc in omega arith)
+proceed-same (Some k) None L e = absurd (let z : ◌≡◌ {A = ℕ} 0 1 = cc in omega arith)
+proceed-same (Some k) (Some y) L e = let d : k.lane ≡ y.lane = ap lane-in e in rw d
 
 -- ---- the tests that machine and history share
 module _ (z : Sizes) (h : History) (m : Machine) (v : Live z h m) where
@@ -115,7 +112,7 @@ module _ (z : Sizes) (h : History) (m : Machine) (v : Live z h m) where
     same-hit : (L n : ℕ) → L < z.lanes
         → would_hit z L n m ≡ hits z.slots (lane_at m.state L).next n (least_floor_of (after_drain L h).pages) (complete_in z m.cache L)
     unfolding would_hit
-    same-hit L n l = ap (λ (b : Timestamp). hits z.slots (lane_at m.state L).next n b (complete_in z m.cache L)) (bound L l)
+    same-hit L n l = ap (λ (b : Option ℕ). hits z.slots (lane_at m.state L).next n b (complete_in z m.cache L)) (bound L l)
 
     -- a timestamp further above that floor than the lag limit
     same-lag : (L : ℕ) → L < z.lanes → would_lag z L m ≡ book.would_lag L h

@@ -1,4 +1,5 @@
 -- A start, by Format or a finished recovery: the book's part; and the image that Format makes. Assumes nothing.
+use Rattle.std.specs.Prelude.{Some, None}
 use mathlib.Core.Path.{◌≡◌, refl, ap, ◌∙◌, sym, subst}
 use mathlib.Core.Bool.{true}
 use mathlib.Core.List.{List, ◌∷◌, ◌++◌}
@@ -12,13 +13,10 @@ use Rattle.image.specs.Image.{max_lanes, sizes_ok, former_length, trailer, image
 use Rattle.image.specs.inner.ImageLaws.{sizes-in, get_or-log, length-log, log-fits}
 use Rattle.image.specs.inner.BulkLaws.{get_or-zeros}
 use Rattle.image.specs.declared.Sizes.{Sizes}
-use Rattle.lane_log.specs.declared.Timestamp.TheVariants.{At}
 use Rattle.record.specs.Record.{start_lane, start_record, lane_at, is_logged, lock_length, no_pairs, is_held, floor_ok, phase_ok, lag_ok, record_ok}
 use Rattle.record.specs.inner.RecordLaws.{LaneIn}
-use Rattle.record.specs.declared.Phase.TheVariants.{Idle, Holds}
 use Rattle.record.specs.declared.Lane.{Lane}
 use Rattle.record.specs.declared.Logged.{Logged}
-use Rattle.record.specs.declared.Lock.TheVariants.{Free}
 use Rattle.store.specs.Calls.{started, start_image}
 use Rattle.store.specs.inner.Checked.{body_of}
 use Rattle.store.specs.inner.FormatLaws.{length-body, body-trailer, length-start_image}
@@ -56,17 +54,17 @@ module _ (z : Sizes) (lag base : ℕ) (image words : List ℕ) (ok : sizes_ok z 
         last = stamp-now base even;
         lag = in-lag;
         lanes = λ M i. subst (LaneIn z base) (sym (lane-start z lag base eight M i)) start-range;
-        lock = free-ok z (start_record lag base) no_pairs Free refl;
+        lock = free-ok z (start_record lag base) no_pairs None refl;
       }
 
   in-range : record_ok z (start_record lag base) no_pairs ≡ true
   in-range = record-ranged z (start_record lag base) no_pairs (rw eight-lanes eight) ranges-start
 
-  idle-start : (M : ℕ) → M < z.lanes → (lane_at (start_record lag base) M).phase ≡ Idle
+  idle-start : (M : ℕ) → M < z.lanes → (lane_at (start_record lag base) M).phase ≡ None
   unfolding start_lane
   idle-start M i = ap (λ (l : Lane). l.phase) (lane-start z lag base eight M i)
 
-  pub none-held : {A : Type 0} (M : ℕ) (g : Logged) → M < z.lanes → (lane_at (started lag base image).state M).phase ≡ Holds g → A
+  pub none-held : {A : Type 0} (M : ℕ) (g : Logged) → M < z.lanes → (lane_at (started lag base image).state M).phase ≡ Some g → A
   unfolding started
   none-held M g i e = absurd (let d = idle-start M i in let z : ◌≡◌ {A = ℕ} 0 1 = cc in omega arith)
 
@@ -78,7 +76,7 @@ module _ (z : Sizes) (lag base : ℕ) (image words : List ℕ) (ok : sizes_ok z 
   unfolding start_lane is_logged is_some
   held_start M i = rw (lane-start z lag base eight M i, page-start M i)
 
-  no-stamp : {A : Type 0} (M s : ℕ) → M < z.lanes → newest_stamp (page_at (opened z lag words base) M).newest ≡ At s → A
+  no-stamp : {A : Type 0} (M s : ℕ) → M < z.lanes → newest_stamp (page_at (opened z lag words base) M).newest ≡ Some s → A
   unfolding newest_stamp
   no-stamp M s i e =
       absurd (let d = ap (λ (p : Page). newest_stamp p.newest) (page-start M i) in let z : ◌≡◌ {A = ℕ} 0 1 = cc in omega arith)
@@ -112,7 +110,7 @@ module _ (z : Sizes) (lag base : ℕ) (image words : List ℕ) (ok : sizes_ok z 
         last = refl;
         stamps = λ M s i e. no-stamp M s i e;
         holding = λ M g i e. none-held M g i e;
-        locking = λ k e. not-locked Free k refl e;
+        locking = λ k e. not-locked None k refl e;
       }
 
 -- ---- the image of Format

@@ -18,9 +18,9 @@ use Rattle.slot.specs.Slot.{entry_of, stamp_of}
 use Rattle.slot.specs.declared.Slot.{Slot}
 use Rattle.record.specs.Record.{pairs_of, lane_at, logged_in}
 use Rattle.record.specs.declared.Pair.{Pair}
-use Rattle.record.specs.declared.Phase.{Phase}
 use Rattle.store.specs.Machine.{Machine}
 use Rattle.store.specs.Calls.{changed, appended, pair_stores, commit_stores, committed}
+use Rattle.record.specs.Record.{Phase}
 
 module _ (z : Sizes) (L : ℕ) where
   data-slot : (j : ℕ) (s : Slot) (rest : List Store) (image : List ℕ) → ((i : List ℕ) → data_of z (stored rest i) ≡ data_of z i)

@@ -1,8 +1,8 @@
 -- What the history does with each move, which calls are taken, and that none changes a length: one equation a move. Assumes nothing.
+use Rattle.std.specs.Prelude.{Some, None}
 use mathlib.Core.Path.{◌≡◌, refl}
 use mathlib.Core.Bool.{true, false, not}
 use mathlib.Core.List.{List, [], ◌∷◌}
-use mathlib.Core.Option.{none, some}
 use Prim.Native.Nat.{ℕ, ◌+◌, ◌-◌, ◌≤◌, ◌<◌}
 use lib.ListN.{length}
 use borrow.Author.Tests.{eq-eqb, le-leb, lt-leb}
@@ -12,14 +12,13 @@ use Rattle.image.specs.inner.FlushLaws.{length-drained_nvm}
 use Rattle.image.specs.declared.Sizes.{Sizes}
 use Rattle.record.specs.Record.{lane_at, is_logged, lock_length, is_held, pairs_of}
 use Rattle.record.specs.declared.Locked.{Locked}
-use Rattle.record.specs.declared.Lock.TheVariants.{Held}
 use Rattle.store.specs.Machine.{Machine, Step, first_cause, unless, said}
 use Rattle.store.specs.Calls.{bad_buffers, bad_record, bad_lane, drained, changed, writes_on, appended, marked, logged}
 use Rattle.store.specs.Calls.{committed, is_stale, redo_pairs, matches, drain_refusal, drain_step}
 use Rattle.store.specs.Calls as calls
 use Rattle.store.specs.Locks.{slots_counted, locked, part_logged, part_written}
-use Rattle.store.specs.declared.Answer.{Answer}
-use Rattle.store.specs.declared.Answer.TheVariants.{Refused, Done}
+use Rattle.store.specs.Answers.{Answer}
+use Rattle.store.specs.Answers.{Refused, Done}
 use Rattle.crash.specs.Events.{Call, drain, lane_of, call_step, vandzulge, is_taken}
 use Rattle.crash.specs.History.{closing_at, mark_at, History, page_at, after_drain, stamped, released, held_by}
 use Rattle.crash.specs.History.{lock_taken, next_part, is_counted, taken, after_call}
@@ -45,24 +44,24 @@ pub record Steps (z : Sizes) (Inv : Machine → History → Type 0) : Type 0 whe
   pub logs : (m : Machine) (h : History) (L : ℕ) (f : List ℕ) → Inv m h → Known z m L → txn_by former max_writes z.words f ≡ true
       → is_logged (lane_at m.state L).phase ≡ false → is_held m.state.lock ≡ false → 0 < length (writes_on z f m)
       → Room z m L (length (writes_on z f m) + 1)
-      → Inv (logged z L (writes_on z f m) (drained z L m)) (stamped L closing_at (some f) [] (after_drain L h))
+      → Inv (logged z L (writes_on z f m) (drained z L m)) (stamped L closing_at (Some f) [] (after_drain L h))
   pub redoes : (m : Machine) (h : History) (L : ℕ) → Inv m h → Known z m L → Ready m L → is_stale L m ≡ false
-      → Inv (committed z L (redo_pairs L m) (drained z L m)) (stamped L closing_at none (held_by (page_at h L).held) (after_drain L h))
+      → Inv (committed z L (redo_pairs L m) (drained z L m)) (stamped L closing_at None (held_by (page_at h L).held) (after_drain L h))
   pub validates : (m : Machine) (h : History) (L : ℕ) (f : List ℕ) → Inv m h → Known z m L → txn_by former max_writes z.words f ≡ true
       → Ready m L → matches z L (writes_on z f m) m ≡ true
-      → Inv (committed z L (pairs_of (length (writes_on z f m)) (writes_on z f m)) (drained z L m)) (stamped L closing_at none (f ∷ []) (after_drain L h))
+      → Inv (committed z L (pairs_of (length (writes_on z f m)) (writes_on z f m)) (drained z L m)) (stamped L closing_at None (f ∷ []) (after_drain L h))
   pub gives_up : (m : Machine) (h : History) (L : ℕ) (f : List ℕ) → Inv m h → Known z m L → txn_by former max_writes z.words f ≡ true
       → Ready m L → matches z L (writes_on z f m) m ≡ false
       → Inv (calls.released L (drained z L m)) (released L (after_drain L h))
   pub marks : (m : Machine) (h : History) (L : ℕ) → Inv m h → Known z m L → is_held m.state.lock ≡ false → Room z m L 1
-      → Inv (marked z L m) (stamped L mark_at none [] (after_drain L h))
+      → Inv (marked z L m) (stamped L mark_at None [] (after_drain L h))
   pub locks : (m : Machine) (h : History) (L : ℕ) (f : List ℕ) → Inv m h → Known z m L → txn_by current max_long z.words f ≡ true
       → is_logged (lane_at m.state L).phase ≡ false → is_held m.state.lock ≡ false → slots_counted f ≤ z.slots - 17
       → 0 < length (writes_on z f m) → Room z m L (slots_counted f)
       → Inv (locked L (writes_on z f m) (drained z L m)) (lock_taken L f (length (writes_on z f m)) (after_drain L h))
-  pub parts : (m : Machine) (h : History) (k : Locked) → Inv m h → Known z m k.lane → m.state.lock ≡ Held k → k.logged ≡ k.written
+  pub parts : (m : Machine) (h : History) (k : Locked) → Inv m h → Known z m k.lane → m.state.lock ≡ Some k → k.logged ≡ k.written
       → Inv (part_logged z k (drained z k.lane m)) (next_part h.lock (after_drain k.lane h))
-  pub makes : (m : Machine) (h : History) (k : Locked) → Inv m h → Known z m k.lane → m.state.lock ≡ Held k → (k.logged ≡ k.written → ⊥)
+  pub makes : (m : Machine) (h : History) (k : Locked) → Inv m h → Known z m k.lane → m.state.lock ≡ Some k → (k.logged ≡ k.written → ⊥)
       → Inv (part_written k (drained z k.lane m)) (next_part h.lock (after_drain k.lane h))
 
 module _ (z : Sizes) (Inv : Machine → History → Type 0) (steps : Steps z Inv) where

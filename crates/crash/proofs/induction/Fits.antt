@@ -1,9 +1,9 @@
 -- What a call that is taken tells of the lock, by the answers that the theorem gives: a step finds it free, and Continue finds it held by its own lane.
 -- Assumes nothing.
+use Rattle.std.specs.Prelude.{Option, Some, None}
 use mathlib.Core.Path.{◌≡◌, refl, subst}
 use mathlib.Core.Bool.{true, false, not}
 use mathlib.Core.List.{List, [], ◌∷◌}
-use mathlib.Core.Option.{Option, none, some}
 use Prim.Native.Nat.{ℕ}
 use lib.Dec.{eqb}
 use borrow.Author.Tests.{eqb-true, not-false}
@@ -11,7 +11,7 @@ use Rattle.laws.specs.inner.Tests.{clash}
 use Rattle.image.specs.declared.Sizes.{Sizes}
 use Rattle.store.specs.Machine.{Machine, said}
 use Rattle.store.specs.Calls.{bad_lane, bad_txn}
-use Rattle.store.specs.declared.Answer.{Answer}
+use Rattle.store.specs.Answers.{Answer}
 use Rattle.crash.specs.Events.{Call, log_by, redo, validate_by, mark, drain, lock, proceed, call, System, live, down}
 use Rattle.crash.specs.Events.{Reply, answered, recovered, failed, ignored}
 use Rattle.crash.specs.History.{Holder, History, is_some, not_held, lock_held, held_elsewhere, causes_by}
@@ -20,20 +20,20 @@ use Rattle.crash.specs.Corollaries.{is_done}
 use Rattle.crash.proofs.induction.Moves.{none-holds, cond-by}
 
 abbrev pub Fits : Call → History → Type 0
-Fits (log_by r L f) h = h.lock ≡ none
-Fits (redo L) h = h.lock ≡ none
-Fits (validate_by r L f) h = h.lock ≡ none
-Fits (mark L) h = h.lock ≡ none
+Fits (log_by r L f) h = h.lock ≡ None
+Fits (redo L) h = h.lock ≡ None
+Fits (validate_by r L f) h = h.lock ≡ None
+Fits (mark L) h = h.lock ≡ None
 Fits (drain L) h = Unit {0}
-Fits (lock L f) h = h.lock ≡ none
-Fits (proceed L) h = (k : Holder) → h.lock ≡ some k → k.lane ≡ L
+Fits (lock L f) h = h.lock ≡ None
+Fits (proceed L) h = (k : Holder) → h.lock ≡ Some k → k.lane ≡ L
 
-free : (x : Option Holder) → is_some x ≡ false → x ≡ none
+free : (x : Option Holder) → is_some x ≡ false → x ≡ None
 unfolding is_some
-free none e = refl
-free (some k) e = clash true refl e
+free None e = refl
+free (Some k) e = clash true refl e
 
-own : (L : ℕ) (x : Option Holder) → held_elsewhere L x ≡ false → (k : Holder) → x ≡ some k → k.lane ≡ L
+own : (L : ℕ) (x : Option Holder) → held_elsewhere L x ≡ false → (k : Holder) → x ≡ Some k → k.lane ≡ L
 unfolding held_elsewhere
 own L x e k p = eqb-true k.lane L (not-false _ (subst (λ (y : Option Holder). held_elsewhere L y ≡ false) p e))
 

@@ -1,9 +1,9 @@
 -- The crash theorem from an invariant of the logs: the book's part and the recovery half put in. What is left are the fields of `LogLaws`. Assumes nothing.
+use Rattle.std.specs.Prelude.{Some, None}
 use mathlib.Core.Path.{◌≡◌, refl, sym, subst}
 use mathlib.Core.Logic.{inl, inr}
 use mathlib.Core.Bool.{true, false}
 use mathlib.Core.List.{List, [], ◌∷◌}
-use mathlib.Core.Option.{none, some}
 use Prim.Native.Nat.{ℕ, ◌+◌, ◌-◌, ◌*◌, ◌%◌, ◌≤◌, ◌<◌}
 use native.Mathlib.Omega.{arith}
 use lib.ListN.{length, replicate}
@@ -14,7 +14,6 @@ use Rattle.image.specs.inner.FlushLaws.{length-written_back}
 use Rattle.image.specs.declared.Sizes.{Sizes}
 use Rattle.record.specs.Record.{lane_at, is_logged, is_held, part_length, lag_ok, pairs_of}
 use Rattle.record.specs.declared.Locked.{Locked}
-use Rattle.record.specs.declared.Lock.TheVariants.{Held}
 use Rattle.store.specs.Machine.{Machine}
 use Rattle.store.specs.Calls.{started, start_image, drained, writes_on, marked, logged, committed, is_stale, redo_pairs, matches}
 use Rattle.store.specs.Calls as calls
@@ -69,30 +68,30 @@ pub record LogLaws (z : Sizes) (G : ℕ → Machine → History → Type 0) : Ty
       → txn_by former max_writes z.words f ≡ true
       → is_logged (lane_at m.state L).phase ≡ false → is_held m.state.lock ≡ false → 0 < length (writes_on z f m)
       → Room z m L (length (writes_on z f m) + 1)
-      → G base (logged z L (writes_on z f m) (drained z L m)) (stamped L closing_at (some f) [] (after_drain L h))
+      → G base (logged z L (writes_on z f m) (drained z L m)) (stamped L closing_at (Some f) [] (after_drain L h))
   pub redoes : (base : ℕ) (m : Machine) (h : History) (L : ℕ) → Book z base h m → G base m h → Known z m L → Ready m L → is_stale L m ≡ false
-      → G base (committed z L (redo_pairs L m) (drained z L m)) (stamped L closing_at none (held_by (page_at h L).held) (after_drain L h))
+      → G base (committed z L (redo_pairs L m) (drained z L m)) (stamped L closing_at None (held_by (page_at h L).held) (after_drain L h))
   pub validates : (base : ℕ) (m : Machine) (h : History) (L : ℕ) (f : List ℕ) → Book z base h m → G base m h → Known z m L
       → txn_by former max_writes z.words f ≡ true
       → Ready m L → matches z L (writes_on z f m) m ≡ true
-      → G base (committed z L (pairs_of (length (writes_on z f m)) (writes_on z f m)) (drained z L m)) (stamped L closing_at none (f ∷ []) (after_drain L h))
+      → G base (committed z L (pairs_of (length (writes_on z f m)) (writes_on z f m)) (drained z L m)) (stamped L closing_at None (f ∷ []) (after_drain L h))
   pub gives_up : (base : ℕ) (m : Machine) (h : History) (L : ℕ) (f : List ℕ) → Book z base h m → G base m h → Known z m L
       → txn_by former max_writes z.words f ≡ true
       → Ready m L → matches z L (writes_on z f m) m ≡ false
       → G base (calls.released L (drained z L m)) (released L (after_drain L h))
   pub marks : (base : ℕ) (m : Machine) (h : History) (L : ℕ) → Book z base h m → G base m h → Known z m L → is_held m.state.lock ≡ false
       → Room z m L 1
-      → G base (marked z L m) (stamped L mark_at none [] (after_drain L h))
+      → G base (marked z L m) (stamped L mark_at None [] (after_drain L h))
   -- the lock is taken, the next part is logged, it is written
   pub locks : (base : ℕ) (m : Machine) (h : History) (L : ℕ) (f : List ℕ) → Book z base h m → G base m h → Known z m L
       → txn_by current max_long z.words f ≡ true → is_logged (lane_at m.state L).phase ≡ false → is_held m.state.lock ≡ false
       → slots_counted f ≤ z.slots - 17 → 0 < length (writes_on z f m) → Room z m L (slots_counted f)
       → G base (locked L (writes_on z f m) (drained z L m)) (lock_taken L f (length (writes_on z f m)) (after_drain L h))
   pub parts : (base : ℕ) (m : Machine) (h : History) (k : Locked) (b : Book z base h m) → G base m h → Known z m k.lane
-      → (e : m.state.lock ≡ Held k) → k.logged ≡ k.written
+      → (e : m.state.lock ≡ Some k) → k.logged ≡ k.written
       → G base (store.part_logged z k (drained z k.lane m)) (part_logged (holder_of k (b.locking k e).txn) (after_drain k.lane h))
   pub makes : (base : ℕ) (m : Machine) (h : History) (k : Locked) (b : Book z base h m) → G base m h → Known z m k.lane
-      → (e : m.state.lock ≡ Held k) → k.logged ≡ k.written + part_length k
+      → (e : m.state.lock ≡ Some k) → k.logged ≡ k.written + part_length k
       → G base (store.part_written k (drained z k.lane m)) (part_written (holder_of k (b.locking k e).txn) (after_drain k.lane h))
 
 -- ---- the whole invariant

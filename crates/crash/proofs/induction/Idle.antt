@@ -1,10 +1,10 @@
 -- A lane that is marked and drained and then stays idle has no floor, so the boundary is not below the least floor of the other lanes: of every store of
 -- which the crash theorem holds. Assumes nothing.
+use Rattle.std.specs.Prelude.{Option, Some, None}
 use mathlib.Core.Path.{◌≡◌, refl, ap, subst, sym, ◌∙◌}
 use mathlib.Core.Logic.{◌≢◌, inl}
 use mathlib.Core.Bool.{Bool, true, false, cond, not, ◌||◌}
 use mathlib.Core.List.{List, [], ◌∷◌, ◌++◌}
-use mathlib.Core.Option.{Option, none}
 use Prim.Native.Nat.{ℕ, zero, suc, ◌+◌}
 use native.Mathlib.Decide.{ℕ_discrete}
 use lib.Dec.{eqb}
@@ -15,8 +15,6 @@ use Rattle.laws.specs.inner.Tests.{clash, and_left, and_right}
 use Rattle.laws.specs.inner.Lists.{All, none as nil, more}
 use Rattle.image.specs.Image.{trailer}
 use Rattle.image.specs.declared.Sizes.{Sizes}
-use Rattle.lane_log.specs.declared.Timestamp.{Timestamp}
-use Rattle.lane_log.specs.declared.Timestamp.TheVariants.{None, At}
 use Rattle.record.specs.Record.{lesser}
 use Rattle.store.specs.Machine.{Machine, Said, said}
 use Rattle.crash.specs.Events.{Call, log_by, redo, validate_by, mark, drain, lock, proceed, lane_of, live, Design, happens}
@@ -103,16 +101,16 @@ done-call P z c (recovered r) found h done i = clash false done refl
 done-call P z c (failed d) found h done i = clash false done refl
 done-call P z c ignored found h done i = clash false done refl
 
-marks : (held : Option (List ℕ)) (s : ℕ) (floor : Timestamp) → Marked (record { held = held; newest = mark_at s; floor = floor })
+marks : (held : Option (List ℕ)) (s : ℕ) (floor : Option ℕ) → Marked (record { held = held; newest = mark_at s; floor = floor })
 unfolding Marked floor_on_drain
 marks held s floor = refl
 
-stamp-marks : (L : ℕ) (h : History) → Marked (page_at (stamped L mark_at none [] h) L)
+stamp-marks : (L : ℕ) (h : History) → Marked (page_at (stamped L mark_at None [] h) L)
 unfolding stamped page_at
 stamp-marks L h =
     let s : ℕ = h.clock + 2 in
-    let p : Page = record { held = none; newest = mark_at s; floor = floor_or (page_at h L).floor (At s) } in
-    page-set Marked blank-marked L h.pages p (marks none s p.floor)
+    let p : Page = record { held = None; newest = mark_at s; floor = floor_or (page_at h L).floor (Some s) } in
+    page-set Marked blank-marked L h.pages p (marks None s p.floor)
 
 mark-marks : (x : Call) → is_mark x ≡ true → (t : Said) (h : History) → Marked (page_at (taken x t h) (lane_of x))
 unfolding is_mark taken lane_of

@@ -1,4 +1,5 @@
 -- A recovery keeps every commit below the least floor: the boundary is not below that. Assumes nothing.
+use Rattle.std.specs.Prelude.{Option}
 use mathlib.Core.Path.{◌≡◌, refl}
 use mathlib.Core.Bool.{true}
 use mathlib.Core.List.{List, [], ◌∷◌}
@@ -7,23 +8,22 @@ use native.Mathlib.Omega.{arith}
 use borrow.Author.Tests.{ltb-true, lt-ltb}
 use Rattle.image.specs.Image.{trailer}
 use Rattle.image.specs.declared.Sizes.{Sizes}
-use Rattle.lane_log.specs.declared.Timestamp.{Timestamp}
 use Rattle.recovery.specs.Recovery.{boundary}
-use Rattle.recovery.specs.declared.Recovered.{Recovered}
-use Rattle.recovery.specs.declared.Recovered.TheVariants.{Refused, Cut, Finished}
+use Rattle.recovery.specs.Answers.{Recovered}
+use Rattle.recovery.specs.Answers.{Refused, Cut, Finished}
 use Rattle.crash.specs.Events.{recover, Junk, System, live, down, Design, happens, Reply, answered, recovered, failed, ignored}
 use Rattle.crash.specs.History.{History, is_below, least_floor_of}
 use Rattle.crash.specs.Theorem.{NotBelow, no_boundary, at_least, Finishes, Replied, Holds}
 use Rattle.crash.specs.Corollaries.{World, KeptBy, Kept}
 
 -- what is below the floor is below the boundary
-pub not-below : {f b : Timestamp} → NotBelow f b → (s : ℕ) → is_below f s ≡ true → is_below b s ≡ true
+pub not-below : {f b : Option ℕ} → NotBelow f b → (s : ℕ) → is_below f s ≡ true → is_below b s ≡ true
 unfolding is_below
 not-below no_boundary s e = refl
 not-below (at_least {f = f} {b = b} l) s e = lt-ltb s b (omega (arith, ltb-true s f e))
 
 -- what is below `kept` is below the least floor
-module _ (z : Sizes) (h : History) (kept : Timestamp) (low : (s : ℕ) → is_below kept s ≡ true → is_below (least_floor_of h.pages) s ≡ true)
+module _ (z : Sizes) (h : History) (kept : Option ℕ) (low : (s : ℕ) → is_below kept s ≡ true → is_below (least_floor_of h.pages) s ≡ true)
     (found : List ℕ) where
   kept-by : (y : System) (r : Recovered) → Finishes z h found y r → KeptBy z h kept y r
   kept-by y (Refused n) v = tt
@@ -38,7 +38,7 @@ module _ (z : Sizes) (h : History) (kept : Timestamp) (low : (s : ℕ) → is_be
   kept-reply lag limit j was y (failed d) v = tt
   kept-reply lag limit j was y ignored v = tt
 
-pub recovery-keeps : (d : Design) (z : Sizes) (w : World) (kept : Timestamp)
+pub recovery-keeps : (d : Design) (z : Sizes) (w : World) (kept : Option ℕ)
     → ((s : ℕ) → is_below kept s ≡ true → is_below (least_floor_of w.history.pages) s ≡ true)
     → (lag limit : ℕ) (j : Junk) → Holds d z (trailer z) w.system w.history (recover lag limit j ∷ [])
     → let r = happens d z w.system (recover lag limit j) in Kept z w.history kept r.system r.reply

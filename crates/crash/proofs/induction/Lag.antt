@@ -1,10 +1,10 @@
 -- A limit on lost work: a Log or a Lock that is taken finds the least floor at most the lag limit below its timestamp, and floors rise, end, or are set
 -- at timestamps to come. Of every store of which the crash theorem holds. Assumes nothing.
+use Rattle.std.specs.Prelude.{Option, Some, None}
 use mathlib.Core.Path.{◌≡◌, refl, sym, subst, ◌∙◌}
 use mathlib.Core.Logic.{inr}
 use mathlib.Core.Bool.{true, false, cond, ◌&&◌}
 use mathlib.Core.List.{List, [], ◌∷◌, ◌++◌}
-use mathlib.Core.Option.{none}
 use Prim.Native.Nat.{ℕ, zero, suc, ◌+◌, ◌-◌, ◌≤◌, ◌<◌}
 use native.Mathlib.Omega.{arith}
 use native.Mathlib.Nat.{le_refl}
@@ -14,17 +14,15 @@ use borrow.Author.Tests.{ltb-true, ltb-false, lt-ltb, le-leb}
 use Rattle.laws.specs.inner.Tests.{split, clash}
 use Rattle.image.specs.Image.{trailer}
 use Rattle.image.specs.declared.Sizes.{Sizes}
-use Rattle.lane_log.specs.declared.Timestamp.{Timestamp}
-use Rattle.lane_log.specs.declared.Timestamp.TheVariants.{None, At}
 use Rattle.record.specs.Record.{lag_ok, lag_passed}
 use Rattle.store.specs.Machine.{Machine, said}
 use Rattle.store.specs.Calls.{bad_lane, bad_txn}
-use Rattle.store.specs.declared.Answer.{Answer}
-use Rattle.store.specs.declared.Answer.TheVariants as answer
+use Rattle.store.specs.Answers.{Answer}
+use Rattle.store.specs.Answers as answer
 use Rattle.recovery.specs.Recovery.{boundary, undo_stores, torn_in, recovery_stores, all_made}
 use Rattle.recovery.specs.declared.Finished.{Finished as Done}
-use Rattle.recovery.specs.declared.Recovered.{Recovered}
-use Rattle.recovery.specs.declared.Recovered.TheVariants.{Refused, Cut, Finished}
+use Rattle.recovery.specs.Answers.{Recovered}
+use Rattle.recovery.specs.Answers.{Refused, Cut, Finished}
 use Rattle.crash.specs.Events.{Call, log_by, redo, validate_by, mark, drain, lock, proceed, lane_of}
 use Rattle.crash.specs.Events.{Event, format, call, recover, System, live, down, nvm_of, Design, happens, after_recovery, found_or}
 use Rattle.crash.specs.History.{History, is_below, after_drain}
@@ -41,13 +39,13 @@ use Rattle.crash.proofs.induction.Safe.{Rising, rising-keeping, rising-after, ah
 
 -- ---- timestamps
 -- a timestamp that does not pass the limit: the bound is above whatever is further below
-not-passed : (lag s : ℕ) (b : Timestamp) → lag_passed lag s b ≡ false → (u : ℕ) → u + lag < s → is_below b u ≡ true
+not-passed : (lag s : ℕ) (b : Option ℕ) → lag_passed lag s b ≡ false → (u : ℕ) → u + lag < s → is_below b u ≡ true
 unfolding lag_passed is_below
 not-passed lag s None e u l = refl
-not-passed lag s (At f) e u l = lt-ltb u f (omega (arith, ltb-false (f + lag) s e))
+not-passed lag s (Some f) e u l = lt-ltb u f (omega (arith, ltb-false (f + lag) s e))
 
 -- and it does not pass it over a boundary that is not below such a bound
-near-boundary : (lag s : ℕ) {f b : Timestamp} → NotBelow f b → ((u : ℕ) → u + lag < s → is_below f u ≡ true) → lag_passed lag s b ≡ false
+near-boundary : (lag s : ℕ) {f b : Option ℕ} → NotBelow f b → ((u : ℕ) → u + lag < s → is_below f u ≡ true) → lag_passed lag s b ≡ false
 unfolding lag_passed is_below
 near-boundary lag s no_boundary low = refl
 near-boundary lag s (at_least {f = f} {b = b} l) low =
@@ -93,7 +91,7 @@ module _ (z : Sizes) (h : History) (s : ℕ) where
   near (drain L) m b e t = clash false b refl
   near (proceed L) m b e t = clash false b refl
 
-  bound-free : (x : Call) → is_bound x ≡ true → Fits x h → h.lock ≡ none
+  bound-free : (x : Call) → is_bound x ≡ true → Fits x h → h.lock ≡ None
   unfolding is_bound
   bound-free (log_by q L f) b i = i
   bound-free (redo L) b i = i
@@ -104,18 +102,18 @@ module _ (z : Sizes) (h : History) (s : ℕ) where
   bound-free (proceed L) b i = clash false b refl
 
   -- the floors that it leaves are above whatever is further below its timestamp than the lag limit
-  module _ (r : Rising h) (free : h.lock ≡ none) (L u : ℕ) (l : u + h.lag < h.clock + 2) (e : would_lag L h ≡ false) where
+  module _ (r : Rising h) (free : h.lock ≡ None) (L u : ℕ) (l : u + h.lag < h.clock + 2) (e : would_lag L h ≡ false) where
     above-drained : AllAbove u (after_drain L h)
     unfolding would_lag after_drain
     above-drained =
         above_from u (after_drain L h) (rising-keeping.drains L h r) (ahead-free u (after_drain L h) free (omega arith))
         (not-passed h.lag (h.clock + 2) (least_floor_of (after_drain L h).pages) e u l)
 
-    drained-free : (after_drain L h).lock ≡ none
+    drained-free : (after_drain L h).lock ≡ None
     unfolding after_drain
     drained-free = free
 
-  above-bound : (x : Call) (g : History) → is_bound x ≡ true → Rising h → h.lock ≡ none → would_lag (lane_of x) h ≡ false → Stamps z h s x g
+  above-bound : (x : Call) (g : History) → is_bound x ≡ true → Rising h → h.lock ≡ None → would_lag (lane_of x) h ≡ false → Stamps z h s x g
       → (u : ℕ) → u + h.lag < s → AllAbove u g
   above-bound x g b r free e (stamping t kind kinds held txns o q) u l =
       let i : u + h.lag < h.clock + 2 = omega arith in
@@ -130,7 +128,7 @@ module _ (z : Sizes) (h : History) (s : ℕ) where
   above-bound x g b r free e (parting k p t y o own q) u l = clash (is_bound x) b o
   above-bound x g b r free e (writing k p t y o own q) u l = clash (is_bound x) b o
 
-further : (lag s u : ℕ) → is_below (At (s - lag)) u ≡ true → u + lag < s
+further : (lag s u : ℕ) → is_below (Some (s - lag)) u ≡ true → u + lag < s
 unfolding is_below
 further lag s u e = omega (arith, ltb-true u (s - lag) e)
 
@@ -181,6 +179,6 @@ lag-from d theorem z lag start m h ok es fs x s bound stamps goes =
     (after-keeps (AllAbove y) (λ M. Unit {0}) (above-keeping y) d z (trailer z) b fs (v fs).1 (any_step fs) (inr goes)
     (above-bound z a.history s x b.history bound r free n t.leaves y l)) in (
       near-boundary a.history.lag s (cut-floors d z (trailer z) c.system c.history (u (finishing z c.system))) low,
-      λ lag₁ limit j. recovery-keeps d z c (At (s - a.history.lag)) (λ y p. low y (further a.history.lag s y p)) lag₁ limit j
+      λ lag₁ limit j. recovery-keeps d z c (Some (s - a.history.lag)) (λ y p. low y (further a.history.lag s y p)) lag₁ limit j
           (u (recover lag₁ limit j)),
     )

@@ -1,4 +1,5 @@
 -- Every call is one of eleven moves, with the facts that it has checked: an invariant goes by cases on the move and opens no step. Assumes nothing.
+use Rattle.std.specs.Prelude.{Some, None}
 use mathlib.Core.Path.{◌≡◌, refl, subst}
 use mathlib.Core.Bool.{Bool, true, false, cond, not, ◌&&◌}
 use mathlib.Core.List.{List, [], ◌∷◌}
@@ -12,9 +13,7 @@ use Rattle.txn.specs.Txn.{max_writes, max_long, Rule, current, former, txn_by}
 use Rattle.txn.specs.inner.CheckLaws.{txn-former}
 use Rattle.image.specs.Image.{buffers_ok}
 use Rattle.image.specs.declared.Sizes.{Sizes}
-use Rattle.record.specs.Record.{lane_at, is_logged, lock_length, is_held, locked_in, part_length, record_ok, spent, pairs_of}
-use Rattle.record.specs.declared.Lock.{Lock}
-use Rattle.record.specs.declared.Lock.TheVariants.{Free, Held}
+use Rattle.record.specs.Record.{lane_at, is_logged, lock_length, is_held, locked_in, part_length, record_ok, spent, pairs_of, Lock}
 use Rattle.record.specs.declared.Locked.{Locked}
 use Rattle.store.specs.Machine.{Machine, Step, Cause, first_cause, unless}
 use Rattle.store.specs.Calls.{bad_buffers, bad_record, bad_lane, bad_txn, already_logged, not_logged, lock_held, clock_spent, drained, would_hit, writes_on}
@@ -22,9 +21,9 @@ use Rattle.store.specs.Calls.{marked, logged, committed, is_stale, redo_pairs, m
 use Rattle.store.specs.Calls.{log_txn_refusal_by, log_txn_step_by, settle_refusal, settle_step, log_refusal_by, log_step_by, redo_refusal, redo_step}
 use Rattle.store.specs.Calls.{validate_refusal_by, validate_step_by, mark_refusal, mark_step}
 use Rattle.store.specs.Locks.{slots_counted, lock_refusal, locked, lock_step, proceed_refusal, part_logged, part_written, next_step, proceed_step}
-use Rattle.store.specs.declared.Answer.{Answer}
-use Rattle.store.specs.declared.Answer.TheVariants as answer
-use Rattle.store.specs.declared.Answer.TheVariants.{Refused, Done, NoWrites, Logged, Settled, Committed, Stale, Changed, Marked}
+use Rattle.store.specs.Answers.{Answer}
+use Rattle.store.specs.Answers as answer
+use Rattle.store.specs.Answers.{Refused, Done, NoWrites, Logged, Settled, Committed, Stale, Changed, Marked}
 use Rattle.crash.specs.Events.{Call, log_by, redo, validate_by, mark, drain, lock, proceed, lane_of, call_step}
 
 -- ---- what a call has checked
@@ -103,14 +102,14 @@ pub data Move (z : Sizes) (m : Machine) : Call → Step → Type 0 where
         machine = locked L (writes_on z f m) (drained z L m);
       })
   -- the lane that holds the lock logs its next part
-  parting : (k : Locked) → Known z m k.lane → m.state.lock ≡ Held k → k.logged ≡ k.written
+  parting : (k : Locked) → Known z m k.lane → m.state.lock ≡ Some k → k.logged ≡ k.written
       → Move z m (proceed k.lane)
       (record {
         answer = answer.Locked (record { left = k.count - k.written; stamp = k.stamp });
         machine = part_logged z k (drained z k.lane m);
       })
   -- it writes the part that is logged
-  writing : (k : Locked) → Known z m k.lane → m.state.lock ≡ Held k → (k.logged ≡ k.written → ⊥)
+  writing : (k : Locked) → Known z m k.lane → m.state.lock ≡ Some k → (k.logged ≡ k.written → ⊥)
       → Move z m (proceed k.lane)
       (record {
         answer = answer.Locked (record { left = k.count - (k.written + part_length k); stamp = k.stamp });
@@ -141,15 +140,15 @@ pub positive : (n : ℕ) → (n ≡ 0 → ⊥) → 0 < n
 positive n h = omega arith
 
 -- ---- the lock
-pub is-locked : (l : Lock) → is_held l ≡ true → l ≡ Held (locked_in l)
+pub is-locked : (l : Lock) → is_held l ≡ true → l ≡ Some (locked_in l)
 unfolding is_held locked_in
-is-locked Free e = absurd (let z : ◌≡◌ {A = ℕ} 0 1 = cc in omega arith)
-is-locked (Held k) e = refl
+is-locked None e = absurd (let z : ◌≡◌ {A = ℕ} 0 1 = cc in omega arith)
+is-locked (Some k) e = refl
 
-pub is_free : (l : Lock) → is_held l ≡ false → l ≡ Free
+pub is_free : (l : Lock) → is_held l ≡ false → l ≡ None
 unfolding is_held
-is_free Free e = refl
-is_free (Held k) e = absurd (let z : ◌≡◌ {A = ℕ} 0 1 = cc in omega arith)
+is_free None e = refl
+is_free (Some k) e = absurd (let z : ◌≡◌ {A = ℕ} 0 1 = cc in omega arith)
 
 -- ---- each call
 module _ (z : Sizes) (m : Machine) (L : ℕ) where

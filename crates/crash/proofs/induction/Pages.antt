@@ -1,11 +1,11 @@
 -- What an event does to the history is made of drains, timestamps, releases, starts, and what long transactions do: the lock taken, a part logged, a part
 -- written. A property of histories that these keep is kept by every event that is replied to as the theorem says.
 -- Assumes nothing.
+use Rattle.std.specs.Prelude.{Option, Some, None}
 use mathlib.Core.Path.{◌≡◌, refl, ap, sym, subst}
 use mathlib.Core.Logic.{◌⊎◌, inl, inr}
 use mathlib.Core.Bool.{Bool, true, false, cond, not, ◌||◌}
 use mathlib.Core.List.{List, [], ◌∷◌}
-use mathlib.Core.Option.{Option, none, some}
 use Prim.Native.Nat.{ℕ, ◌≤◌}
 use native.Mathlib.Omega.{arith}
 use native.Mathlib.Decide.{ℕ_discrete}
@@ -16,12 +16,10 @@ use borrow.Author.Tests.{ltb-true, ltb-false, not-true}
 use Rattle.laws.specs.inner.Tests.{split, clash, and_left, and_right}
 use Rattle.laws.specs.inner.Lists.{All, none as nil, more}
 use Rattle.image.specs.declared.Sizes.{Sizes}
-use Rattle.lane_log.specs.declared.Timestamp.{Timestamp}
-use Rattle.lane_log.specs.declared.Timestamp.TheVariants.{At}
 use Rattle.store.specs.Machine.{Said, said}
-use Rattle.store.specs.declared.Answer.{Answer}
+use Rattle.store.specs.Answers.{Answer}
 use Rattle.recovery.specs.Recovery.{boundary, new_base, told}
-use Rattle.recovery.specs.declared.Recovered.{Recovered}
+use Rattle.recovery.specs.Answers.{Recovered}
 use Rattle.crash.specs.Events.{Call, log_by, redo, validate_by, mark, drain, lock, proceed, lane_of, System, Design, happens}
 use Rattle.crash.specs.Events.{Event, format, write_back, call, recover, fails, fails_in_drain, fails_after_drain, fails_in_recovery}
 use Rattle.crash.specs.Events.{Reply, answered, recovered, failed, ignored}
@@ -35,7 +33,7 @@ use Rattle.crash.proofs.induction.Fits.{Fits, replied-fits}
 
 -- ---- pages
 -- a second drain leaves the floor
-pub drained-twice : (n : Newest) (f : Timestamp) → floor_on_drain n (floor_on_drain n f) ≡ floor_on_drain n f
+pub drained-twice : (n : Newest) (f : Option ℕ) → floor_on_drain n (floor_on_drain n f) ≡ floor_on_drain n f
 unfolding floor_on_drain
 drained-twice unset f = refl
 drained-twice (closing_at s) f = refl
@@ -75,43 +73,43 @@ module _ (P : Page → Type 0) (blank : P blank_page) where
 
 -- ---- the lock: of a transaction that holds it
 abbrev pub OfLock : (Holder → Type 0) → Option Holder → Type 0
-OfLock P none = Unit {0}
-OfLock P (some k) = P k
+OfLock P None = Unit {0}
+OfLock P (Some k) = P k
 
 -- once the part that is logged is written
 abbrev pub onward : Holder → Holder
 onward k = record { lane = k.lane; txn = k.txn; stamp = k.stamp; left = left_after k; ready = false }
 
 module _ (P : Holder → Type 0) where
-  pub free-lock : (x : Option Holder) → x ≡ none → OfLock P x
+  pub free-lock : (x : Option Holder) → x ≡ None → OfLock P x
   free-lock x e = subst (OfLock P) (sym e) tt
 
-  pub of-holder : (x : Option Holder) (k : Holder) → x ≡ some k → OfLock P x → P k
+  pub of-holder : (x : Option Holder) (k : Holder) → x ≡ Some k → OfLock P x → P k
   of-holder x k e i = subst (OfLock P) e i
 
-  passed-by : (b : Bool) (k : Holder) → P k → OfLock P (cond b none (some k))
+  passed-by : (b : Bool) (k : Holder) → P k → OfLock P (cond b None (Some k))
   passed-by true k i = tt
   passed-by false k i = i
 
   -- freed by the last part, or handed on
-  pub passed_on : (k : Holder) → P (onward k) → OfLock P (cond (eqb (left_after k) 0) none (some (onward k)))
+  pub passed_on : (k : Holder) → P (onward k) → OfLock P (cond (eqb (left_after k) 0) None (Some (onward k)))
   passed_on k i = passed-by (eqb (left_after k) 0) (onward k) i
 
 pub lock-map : (P Q : Holder → Type 0) (x : Option Holder) → ((k : Holder) → P k → Q k) → OfLock P x → OfLock Q x
-lock-map P Q none f i = tt
-lock-map P Q (some k) f i = f k i
+lock-map P Q None f i = tt
+lock-map P Q (Some k) f i = f k i
 
 -- ---- histories
 -- kept by a drain of any lane, and of the lanes that may step: by timestamps, releases and the lock taken, all of which find it free, and by a part logged
 -- or written of the transaction that holds it
 pub record Keeping (P : History → Type 0) (may : ℕ → Type 0) : Type 0 where
   pub drains : (M : ℕ) (h : History) → P h → P (after_drain M h)
-  pub stamps : (M : ℕ) → may M → (kind : ℕ → Newest) → ((n : ℕ) → newest_stamp (kind n) ≡ At n) → (held : Option (List ℕ)) (txns : List (List ℕ))
-      → (h : History) → h.lock ≡ none → P h → P (stamped M kind held txns h)
-  pub releases : (M : ℕ) → may M → (h : History) → h.lock ≡ none → P h → P (released M h)
-  pub locks : (M : ℕ) → may M → (f : List ℕ) (n : ℕ) (h : History) → h.lock ≡ none → P h → P (lock_taken M f n h)
-  pub logs : (k : Holder) → may k.lane → (h : History) → h.lock ≡ some k → k.ready ≡ false → P h → P (part_logged k h)
-  pub writes : (k : Holder) → may k.lane → (h : History) → h.lock ≡ some k → k.ready ≡ true → P h → P (part_written k h)
+  pub stamps : (M : ℕ) → may M → (kind : ℕ → Newest) → ((n : ℕ) → newest_stamp (kind n) ≡ Some n) → (held : Option (List ℕ)) (txns : List (List ℕ))
+      → (h : History) → h.lock ≡ None → P h → P (stamped M kind held txns h)
+  pub releases : (M : ℕ) → may M → (h : History) → h.lock ≡ None → P h → P (released M h)
+  pub locks : (M : ℕ) → may M → (f : List ℕ) (n : ℕ) (h : History) → h.lock ≡ None → P h → P (lock_taken M f n h)
+  pub logs : (k : Holder) → may k.lane → (h : History) → h.lock ≡ Some k → k.ready ≡ false → P h → P (part_logged k h)
+  pub writes : (k : Holder) → may k.lane → (h : History) → h.lock ≡ Some k → k.ready ≡ true → P h → P (part_written k h)
 
 -- of an event: a step that is called is of a lane that may, and a start has the property
 abbrev pub MayStep : (ℕ → Type 0) → Event → Type 0
@@ -129,11 +127,11 @@ fitting z end h e was y found r v c p =
 abbrev Starts : (History → Type 0) → Sizes → Event → Reply → Type 0
 Starts P z e r = starts_anew e r ≡ true → (lag : ℕ) (start : List ℕ) (clock : ℕ) → P (opened z lag start clock)
 
-pub closes : (n : ℕ) → newest_stamp (closing_at n) ≡ At n
+pub closes : (n : ℕ) → newest_stamp (closing_at n) ≡ Some n
 unfolding newest_stamp
 closes n = refl
 
-pub marks : (n : ℕ) → newest_stamp (mark_at n) ≡ At n
+pub marks : (n : ℕ) → newest_stamp (mark_at n) ≡ Some n
 unfolding newest_stamp
 marks n = refl
 
@@ -143,10 +141,10 @@ module _ (P : History → Type 0) (may : ℕ → Type 0) (k : Keeping P may) whe
   one_of false h g i j = j
 
   -- the transaction that holds the lock goes on
-  next-part : (M : ℕ) → may M → (x : Option Holder) (h : History) → h.lock ≡ x → ((k : Holder) → x ≡ some k → k.lane ≡ M) → P h → P (next_part x h)
+  next-part : (M : ℕ) → may M → (x : Option Holder) (h : History) → h.lock ≡ x → ((k : Holder) → x ≡ Some k → k.lane ≡ M) → P h → P (next_part x h)
   unfolding next_part
-  next-part M m none h e own d = d
-  next-part M m (some j) h e own d =
+  next-part M m None h e own d = d
+  next-part M m (Some j) h e own d =
       let l : may j.lane = subst may (sym (own j refl)) m in
       split j.ready
       (λ t. subst (λ (b : Bool). P (cond b (part_written j h) (part_logged j h))) (sym t) (k.writes j l h e t d))
@@ -155,13 +153,13 @@ module _ (P : History → Type 0) (may : ℕ → Type 0) (k : Keeping P may) whe
   -- a call that drains, or whose lane may step: a property that its lane's drain leaves
   pub taken-from : (c : Call) → (is_drain c ≡ false → may (lane_of c)) → (t : Said) (h : History) → Fits c h → P (after_drain (lane_of c) h) → P (taken c t h)
   unfolding taken is_drain lane_of after_drain
-  taken-from (log_by r M []) m t h e d = k.stamps M (m refl) mark_at marks none [] (after_drain M h) e d
+  taken-from (log_by r M []) m t h e d = k.stamps M (m refl) mark_at marks None [] (after_drain M h) e d
   taken-from (log_by r M (w ∷ f)) m t h e d =
-      one_of (is_counted t.count) _ _ (k.stamps M (m refl) closing_at closes (some (w ∷ f)) [] (after_drain M h) e d) d
-  taken-from (redo M) m t h e d = one_of t.stale _ _ d (k.stamps M (m refl) closing_at closes none (held_by (page_at h M).held) (after_drain M h) e d)
+      one_of (is_counted t.count) _ _ (k.stamps M (m refl) closing_at closes (Some (w ∷ f)) [] (after_drain M h) e d) d
+  taken-from (redo M) m t h e d = one_of t.stale _ _ d (k.stamps M (m refl) closing_at closes None (held_by (page_at h M).held) (after_drain M h) e d)
   taken-from (validate_by r M f) m t h e d =
-      one_of t.changed _ _ (k.releases M (m refl) (after_drain M h) e d) (k.stamps M (m refl) closing_at closes none (f ∷ []) (after_drain M h) e d)
-  taken-from (mark M) m t h e d = k.stamps M (m refl) mark_at marks none [] (after_drain M h) e d
+      one_of t.changed _ _ (k.releases M (m refl) (after_drain M h) e d) (k.stamps M (m refl) closing_at closes None (f ∷ []) (after_drain M h) e d)
+  taken-from (mark M) m t h e d = k.stamps M (m refl) mark_at marks None [] (after_drain M h) e d
   taken-from (drain M) m t h e d = d
   taken-from (lock M f) m t h e d = one_of (is_counted t.left) _ _ (k.locks M (m refl) f (get_or t.left 0 0) (after_drain M h) e d) d
   taken-from (proceed M) m t h e d = next-part M (m refl) h.lock (after_drain M h) refl e d

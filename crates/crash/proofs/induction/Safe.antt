@@ -1,10 +1,10 @@
 -- A commit that can no longer be lost: floors rise, end, or are set at timestamps to come, so the least floor stays above one that it has passed. Of every
 -- store of which the crash theorem holds. Assumes nothing.
+use Rattle.std.specs.Prelude.{Option, Some, None}
 use mathlib.Core.Path.{◌≡◌, refl, ap, sym, subst, ◌∙◌}
 use mathlib.Core.Logic.{inl, inr}
 use mathlib.Core.Bool.{true}
 use mathlib.Core.List.{List, [], ◌∷◌, ◌++◌}
-use mathlib.Core.Option.{Option, none, some}
 use Prim.Native.Nat.{ℕ, zero, suc, ◌+◌, ◌≤◌, ◌<◌, min}
 use native.Mathlib.Omega.{arith}
 use native.Mathlib.Nat.{le_trans}
@@ -15,8 +15,6 @@ use Rattle.laws.specs.inner.Lists.{All, none as nil, more}
 use Rattle.image.specs.Image.{trailer}
 use Rattle.image.specs.declared.Sizes.{Sizes}
 use Rattle.lane_log.specs.inner.LogLaws.{at_one}
-use Rattle.lane_log.specs.declared.Timestamp.{Timestamp}
-use Rattle.lane_log.specs.declared.Timestamp.TheVariants.{None, At}
 use Rattle.record.specs.Record.{lesser, lag_ok}
 use Rattle.store.specs.Machine.{Machine, said}
 use Rattle.store.specs.Calls.{bad_lag, format_refusal}
@@ -33,30 +31,30 @@ use Rattle.crash.proofs.induction.Pages.{OfLock, free-lock, of-holder, passed_on
 use Rattle.crash.proofs.induction.Kept.{recovery-keeps}
 
 -- ---- timestamps
-not_at : {A : Type 0} {a : ℕ} → None ≡ At a → A
+not_at : {A : Type 0} {a : ℕ} → None ≡ Some a → A
 not_at p = absurd (let z : ◌≡◌ {A = ℕ} 0 1 = cc in omega arith)
 
-below-lesser : (a b : Timestamp) (s : ℕ) → is_below (lesser a b) s ≡ true → (is_below a s ≡ true) × (is_below b s ≡ true)
+below-lesser : (a b : Option ℕ) (s : ℕ) → is_below (lesser a b) s ≡ true → (is_below a s ≡ true) × (is_below b s ≡ true)
 unfolding lesser is_below
 below-lesser None b s e = (refl, e)
-below-lesser (At a) None s e = (e, refl)
-below-lesser (At a) (At b) s e =
+below-lesser (Some a) None s e = (e, refl)
+below-lesser (Some a) (Some b) s e =
     let l = ltb-true s (min a b) e in
     (lt-ltb s a (omega arith), lt-ltb s b (omega arith))
 
-lesser-below : (a b : Timestamp) (s : ℕ) → is_below a s ≡ true → is_below b s ≡ true → is_below (lesser a b) s ≡ true
+lesser-below : (a b : Option ℕ) (s : ℕ) → is_below a s ≡ true → is_below b s ≡ true → is_below (lesser a b) s ≡ true
 unfolding lesser is_below
 lesser-below None b s e f = f
-lesser-below (At a) None s e f = e
-lesser-below (At a) (At b) s e f = lt-ltb s (min a b) (omega (arith, ltb-true s a e, ltb-true s b f))
+lesser-below (Some a) None s e f = e
+lesser-below (Some a) (Some b) s e f = lt-ltb s (min a b) (omega (arith, ltb-true s a e, ltb-true s b f))
 
 -- an earlier one is below too
-pub below-earlier : (b : Timestamp) (s t : ℕ) → t ≤ s → is_below b s ≡ true → is_below b t ≡ true
+pub below-earlier : (b : Option ℕ) (s t : ℕ) → t ≤ s → is_below b s ≡ true → is_below b t ≡ true
 unfolding is_below
 below-earlier None s t l e = refl
-below-earlier (At b) s t l e = lt-ltb t b (omega (arith, ltb-true s b e))
+below-earlier (Some b) s t l e = lt-ltb t b (omega (arith, ltb-true s b e))
 
-pub up_to : (s t : ℕ) → is_below (At (s + 1)) t ≡ true → t ≤ s
+pub up_to : (s t : ℕ) → is_below (Some (s + 1)) t ≡ true → t ≤ s
 unfolding is_below
 up_to s t e = omega (arith, ltb-true t (s + 1) e)
 
@@ -74,7 +72,7 @@ least_above (p ∷ ps) s f = lesser-below p.floor (least_floor_of ps) s (f 0) (l
 
 -- ---- one page
 -- what a drain makes of the floor under a new timestamp t, closing_at entries or a mark's, is not below t
-new-drained : (n : Newest) (floor : Timestamp) (s t : ℕ) → newest_stamp n ≡ At t → s < t → is_below (floor_on_drain n floor) s ≡ true
+new-drained : (n : Newest) (floor : Option ℕ) (s t : ℕ) → newest_stamp n ≡ Some t → s < t → is_below (floor_on_drain n floor) s ≡ true
 unfolding newest_stamp floor_on_drain is_below
 new-drained unset floor s t e l = not_at e
 new-drained (closing_at u) floor s t e l = let q : u ≡ t = at_one e in lt-ltb s u (omega arith)
@@ -82,7 +80,7 @@ new-drained (mark_at u) floor s t e l = refl
 
 -- a page's floor and newest timestamp are not above the clock, and a drain does not lower its floor
 pub record Rises (clock : ℕ) (p : Page) : Type 0 where
-  pub floor-low : (a : ℕ) → p.floor ≡ At a → a ≤ clock
+  pub floor-low : (a : ℕ) → p.floor ≡ Some a → a ≤ clock
   pub newest-low : (t : ℕ) → p.newest ≡ closing_at t → t ≤ clock
   pub rises : (s : ℕ) → is_below p.floor s ≡ true → is_below (floor_on_drain p.newest p.floor) s ≡ true
 
@@ -94,7 +92,7 @@ rises-later : (a b : ℕ) (p : Page) → a ≤ b → Rises a p → Rises b p
 rises-later a b p l r =
     record { floor-low = λ x e. le_trans (r.floor-low x e) l; newest-low = λ t e. le_trans (r.newest-low t e) l; rises = r.rises }
 
-drained-low : (n : Newest) (f : Timestamp) (c a : ℕ) → ((x : ℕ) → f ≡ At x → x ≤ c) → ((t : ℕ) → n ≡ closing_at t → t ≤ c) → floor_on_drain n f ≡ At a → a ≤ c
+drained-low : (n : Newest) (f : Option ℕ) (c a : ℕ) → ((x : ℕ) → f ≡ Some x → x ≤ c) → ((t : ℕ) → n ≡ closing_at t → t ≤ c) → floor_on_drain n f ≡ Some a → a ≤ c
 unfolding floor_on_drain
 drained-low unset f c a g h e = g a e
 drained-low (closing_at t) f c a g h e = let q : t ≡ a = at_one e in let k = h t refl in omega arith
@@ -108,21 +106,21 @@ rises-drain clock p r =
       rises = λ s e. rw (drained-twice p.newest p.floor) e;
     }
 
-or-low : (f : Timestamp) (c t a : ℕ) → c ≤ t → ((x : ℕ) → f ≡ At x → x ≤ c) → floor_or f (At t) ≡ At a → a ≤ t
+or-low : (f : Option ℕ) (c t a : ℕ) → c ≤ t → ((x : ℕ) → f ≡ Some x → x ≤ c) → floor_or f (Some t) ≡ Some a → a ≤ t
 unfolding floor_or
 or-low None c t a l g e = let q : t ≡ a = at_one e in omega arith
-or-low (At b) c t a l g e = let q : b ≡ a = at_one e in let k = g b refl in omega arith
+or-low (Some b) c t a l g e = let q : b ≡ a = at_one e in let k = g b refl in omega arith
 
-or-below : (f : Timestamp) (c t s : ℕ) → c ≤ t → ((x : ℕ) → f ≡ At x → x ≤ c) → is_below (floor_or f (At t)) s ≡ true → s < t
+or-below : (f : Option ℕ) (c t s : ℕ) → c ≤ t → ((x : ℕ) → f ≡ Some x → x ≤ c) → is_below (floor_or f (Some t)) s ≡ true → s < t
 unfolding floor_or is_below
 or-below None c t s l g e = ltb-true s t e
-or-below (At b) c t s l g e = let k = g b refl in omega (arith, ltb-true s b e)
+or-below (Some b) c t s l g e = let k = g b refl in omega (arith, ltb-true s b e)
 
-stamp-one : (n : Newest) (t u : ℕ) → newest_stamp n ≡ At t → n ≡ closing_at u → u ≤ t
+stamp-one : (n : Newest) (t u : ℕ) → newest_stamp n ≡ Some t → n ≡ closing_at u → u ≤ t
 unfolding newest_stamp
-stamp-one n t u e p = let q : At u ≡ At t = sym (ap newest_stamp p) ∙ e in let r : u ≡ t = at_one q in omega arith
+stamp-one n t u e p = let q : Some u ≡ Some t = sym (ap newest_stamp p) ∙ e in let r : u ≡ t = at_one q in omega arith
 
-rises-stamp : (c t : ℕ) (p q : Page) → c ≤ t → Rises c p → newest_stamp q.newest ≡ At t → q.floor ≡ floor_or p.floor (At t) → Rises t q
+rises-stamp : (c t : ℕ) (p q : Page) → c ≤ t → Rises c p → newest_stamp q.newest ≡ Some t → q.floor ≡ floor_or p.floor (Some t) → Rises t q
 rises-stamp c t p q l r n f =
     record {
       floor-low = λ a e. or-low p.floor c t a l r.floor-low (sym f ∙ e);
@@ -136,10 +134,10 @@ pub record Rising (h : History) : Type 0 where
   pub lock : OfLock (λ k. k.stamp ≡ h.clock) h.lock
 
 -- a part logged with the clock's timestamp
-rises-part : (c s : ℕ) (p : Page) → s ≡ c → Rises c p → Rises c (record { held = p.held; newest = closing_at s; floor = floor_or p.floor (At s) })
+rises-part : (c s : ℕ) (p : Page) → s ≡ c → Rises c p → Rises c (record { held = p.held; newest = closing_at s; floor = floor_or p.floor (Some s) })
 rises-part c s p e r =
     rises-later s c _ (omega arith)
-    (rises-stamp c s p (record { held = p.held; newest = closing_at s; floor = floor_or p.floor (At s) }) (omega arith) r (closes s) refl)
+    (rises-stamp c s p (record { held = p.held; newest = closing_at s; floor = floor_or p.floor (Some s) }) (omega arith) r (closes s) refl)
 
 pub rising-keeping : Keeping Rising (λ M. Unit {0})
 unfolding after_drain stamped released lock_taken part_logged part_written page_at
@@ -155,7 +153,7 @@ rising-keeping =
           record {
             pages = page-all (Rises (h.clock + 2)) (rises-blank (h.clock + 2)) h.pages M _
                 (rises-stamp h.clock (h.clock + 2) (get_or h.pages M blank_page)
-                (record { held = held; newest = kind (h.clock + 2); floor = floor_or (get_or h.pages M blank_page).floor (At (h.clock + 2)) })
+                (record { held = held; newest = kind (h.clock + 2); floor = floor_or (get_or h.pages M blank_page).floor (Some (h.clock + 2)) })
                 (omega arith) (f.pages M) (ks (h.clock + 2)) refl)
                 (λ L. rises-later h.clock (h.clock + 2) _ (omega arith) (f.pages L));
             lock = free-lock (λ k. k.stamp ≡ h.clock + 2) h.lock e;
@@ -191,10 +189,10 @@ above-blank : (s : ℕ) → Above s blank_page
 unfolding floor_on_drain is_below
 above-blank s = record { floor = refl; drained = refl }
 
-or_above : (f : Timestamp) (t s : ℕ) → s < t → is_below f s ≡ true → is_below (floor_or f (At t)) s ≡ true
+or_above : (f : Option ℕ) (t s : ℕ) → s < t → is_below f s ≡ true → is_below (floor_or f (Some t)) s ≡ true
 unfolding floor_or is_below
 or_above None t s l e = lt-ltb s t l
-or_above (At b) t s l e = e
+or_above (Some b) t s l e = e
 
 -- and one whose floor a drain leaves so
 unfoldable pub Reaches : ℕ → Page → Type 0
@@ -204,7 +202,7 @@ pub reaches-blank : (s : ℕ) → Reaches s blank_page
 unfolding Reaches
 reaches-blank s = (above-blank s).drained
 
-pub reaches-stamped : (n : Newest) (held : Option (List ℕ)) (floor : Timestamp) (s t : ℕ) → newest_stamp n ≡ At t → s < t
+pub reaches-stamped : (n : Newest) (held : Option (List ℕ)) (floor : Option ℕ) (s t : ℕ) → newest_stamp n ≡ Some t → s < t
     → Reaches s (record { held = held; newest = n; floor = floor })
 unfolding Reaches
 reaches-stamped n held floor s t e l = new-drained n floor s t e l
@@ -217,11 +215,11 @@ reaches-drained s p e = record { floor = e; drained = rw (drained-twice p.newest
 unfoldable pub Ahead : ℕ → History → Type 0
 Ahead s h = (s < h.clock + 2) × OfLock (λ k. s < k.stamp) h.lock
 
-pub ahead-free : (s : ℕ) (h : History) → h.lock ≡ none → s < h.clock + 2 → Ahead s h
+pub ahead-free : (s : ℕ) (h : History) → h.lock ≡ None → s < h.clock + 2 → Ahead s h
 unfolding Ahead
 ahead-free s h e l = (l, free-lock (λ k. s < k.stamp) h.lock e)
 
-pub ahead-held : (s : ℕ) (h : History) (k : Holder) → h.lock ≡ some k → k.stamp ≤ h.clock → s < k.stamp → Ahead s h
+pub ahead-held : (s : ℕ) (h : History) (k : Holder) → h.lock ≡ Some k → k.stamp ≤ h.clock → s < k.stamp → Ahead s h
 unfolding Ahead
 ahead-held s h k e c l = (omega arith, subst (OfLock (λ x. s < x.stamp)) (sym e) l)
 
@@ -230,9 +228,9 @@ unfoldable pub LaneHas : ℕ → (Page → Type 0) → ℕ → History → Type 
 LaneHas s P L h = Ahead s h × P (page_at h L)
 
 module _ (s : ℕ) (P : Page → Type 0) (blank : P blank_page) (drains : (p : Page) → P p → P (on_drain p))
-    (stamps : (p : Page) (n : Newest) (held : Option (List ℕ)) (t : ℕ) → newest_stamp n ≡ At t → s < t → P p
-    → P (record { held = held; newest = n; floor = floor_or p.floor (At t) }))
-    (releases : (p : Page) → P p → P (record { held = none; newest = p.newest; floor = p.floor })) (L : ℕ) where
+    (stamps : (p : Page) (n : Newest) (held : Option (List ℕ)) (t : ℕ) → newest_stamp n ≡ Some t → s < t → P p
+    → P (record { held = held; newest = n; floor = floor_or p.floor (Some t) }))
+    (releases : (p : Page) → P p → P (record { held = None; newest = p.newest; floor = p.floor })) (L : ℕ) where
   here : (h : History) (M : ℕ) → M ≡ L → P (get_or h.pages L blank_page) → P (get_or h.pages M blank_page)
   here h M e i = subst (λ x. P (get_or h.pages x blank_page)) (sym e) i
 
@@ -263,13 +261,13 @@ pub reaches-keeping : (s L : ℕ) → Keeping (LaneHas s (Reaches s) L) (λ M. U
 unfolding Reaches
 reaches-keeping s =
     lane-keeping s (Reaches s) (reaches-blank s) (λ p e. (reaches-drained s p e).drained)
-    (λ p n held t e l i. reaches-stamped n held (floor_or p.floor (At t)) s t e l) (λ p e. e)
+    (λ p n held t e l i. reaches-stamped n held (floor_or p.floor (Some t)) s t e l) (λ p e. e)
 
 pub floor-keeping : (s L : ℕ) → Keeping (LaneHas s (Above s) L) (λ M. Unit {0})
 unfolding Reaches
 floor-keeping s =
     lane-keeping s (Above s) (above-blank s) (λ p e. reaches-drained s p e.drained)
-    (λ p n held t e l i. record { floor = or_above p.floor t s l i.floor; drained = new-drained n (floor_or p.floor (At t)) s t e l })
+    (λ p n held t e l i. record { floor = or_above p.floor t s l i.floor; drained = new-drained n (floor_or p.floor (Some t)) s t e l })
     (λ p e. record { floor = e.floor; drained = e.drained })
 
 -- the lane's drain makes the one the other
@@ -279,13 +277,13 @@ lane-drained s L h i =
     (i.0, page-set (Above s) (above-blank s) L h.pages (on_drain (get_or h.pages L blank_page)) (reaches-drained s (get_or h.pages L blank_page) i.1))
 
 -- a timestamp above s makes the lane reach s: a new one
-pub lane-stamped : (s L : ℕ) (kind : ℕ → Newest) → ((n : ℕ) → newest_stamp (kind n) ≡ At n) → (held : Option (List ℕ)) (txns : List (List ℕ)) (h : History)
+pub lane-stamped : (s L : ℕ) (kind : ℕ → Newest) → ((n : ℕ) → newest_stamp (kind n) ≡ Some n) → (held : Option (List ℕ)) (txns : List (List ℕ)) (h : History)
     → Ahead s h → LaneHas s (Reaches s) L (stamped L kind held txns h)
 unfolding LaneHas Ahead stamped page_at
 lane-stamped s L kind kinds held txns h l = (
   (omega (arith, l.0), l.1),
   page-set (Reaches s) (reaches-blank s) L h.pages
-      (record { held = held; newest = kind (h.clock + 2); floor = floor_or (page_at h L).floor (At (h.clock + 2)) })
+      (record { held = held; newest = kind (h.clock + 2); floor = floor_or (page_at h L).floor (Some (h.clock + 2)) })
       (reaches-stamped (kind (h.clock + 2)) held _ s (h.clock + 2) (kinds (h.clock + 2)) l.0),
 )
 
@@ -345,8 +343,8 @@ formatted d z lag start m h ok v = let t = format-words z lag start m ok in rw (
 -- what is below every commit to come, where the lock's timestamp is the clock
 ahead-by : (s : ℕ) (h : History) (x : Option Holder) → h.lock ≡ x → OfLock (λ k. k.stamp ≡ h.clock) x → s < next_commit x h.clock → Ahead s h
 unfolding next_commit
-ahead-by s h none e i l = ahead-free s h e l
-ahead-by s h (some k) e i l = ahead-held s h k e (omega arith) l
+ahead-by s h None e i l = ahead-free s h e l
+ahead-by s h (Some k) e i l = ahead-held s h k e (omega arith) l
 
 -- the floors rise from Format on
 pub rising-after : (d : Design) → CrashTheorem d → (z : Sizes) (lag : ℕ) (start : List ℕ) (m : Machine) (h : History) → format_refusal z lag start m ≡ 0
@@ -371,5 +369,5 @@ safe-from d theorem z lag start m h ok es fs s low above goes lag₁ limit j =
     let r : Rising a.history = rising-after d theorem z lag start m h ok es in
     let i : AllAbove s b.history = after-keeps (AllAbove s) (λ M. Unit {0}) (above-keeping s) d z (trailer z) a fs (v fs) (any_step fs)
     (inr goes) (above_from s a.history r (ahead-by s a.history a.history.lock refl r.lock low) above) in
-    recovery-keeps d z b (At (s + 1)) (λ t e. below-earlier _ s t (up_to s t e) (above-least s b.history i)) lag₁ limit j
+    recovery-keeps d z b (Some (s + 1)) (λ t e. below-earlier _ s t (up_to s t e) (above-least s b.history i)) lag₁ limit j
     (holds_after d z (trailer z) a fs (recover lag₁ limit j ∷ []) (v (fs ++ (recover lag₁ limit j ∷ []))))

@@ -1,10 +1,10 @@
 -- A lane that is settled: a call has answered a timestamp that it has appended, and the lane is drained later, so that its floor is not below that
 -- timestamp or there is none. Of every store of which the crash theorem holds. Assumes nothing.
+use Rattle.std.specs.Prelude.{Some, Option, None}
 use mathlib.Core.Path.{◌≡◌, refl, sym, subst}
 use mathlib.Core.Logic.{inl, inr}
 use mathlib.Core.Bool.{Bool, true, false, cond, not, ◌&&◌, ◌||◌}
 use mathlib.Core.List.{List, [], ◌∷◌, ◌++◌, map}
-use mathlib.Core.Option.{Option, none, some}
 use Prim.Native.Nat.{ℕ, ◌+◌, ◌≤◌, ◌<◌}
 use native.Mathlib.Omega.{arith}
 use native.Mathlib.Decide.{ℕ_discrete}
@@ -17,7 +17,6 @@ use Rattle.laws.specs.inner.Tests.{split, clash, and_left, and_right}
 use Rattle.laws.specs.inner.Lists.{All, none as nil, more, All-append, All-map}
 use Rattle.image.specs.Image.{trailer}
 use Rattle.image.specs.declared.Sizes.{Sizes}
-use Rattle.lane_log.specs.declared.Timestamp.TheVariants.{At}
 use Rattle.store.specs.Machine.{said}
 use Rattle.crash.specs.Events.{Call, lane_of, Junk, live, Design, happens}
 use Rattle.crash.specs.Events.{Event, format, write_back, call, recover, fails, fails_in_drain, fails_after_drain, fails_in_recovery}
@@ -69,7 +68,7 @@ going-drained clock commits pages M k i =
 
 -- the last part written, or another
 going-written : (clock : ℕ) (commits : List Commit) (pages : List Page) (b : Bool) (k j : Holder) (c : Commit) → Going clock commits pages k
-    → j.stamp ≡ k.stamp → j.ready ≡ false → OfLock (Going clock (cond b (commits ++ (c ∷ [])) commits) pages) (cond b none (some j))
+    → j.stamp ≡ k.stamp → j.ready ≡ false → OfLock (Going clock (cond b (commits ++ (c ∷ [])) commits) pages) (cond b None (Some j))
 going-written clock commits pages true k j c i e r = tt
 going-written clock commits pages false k j c i e r =
     record { given = rw e i.given; below = rw e i.below; newest = λ t. clash j.ready t r }
@@ -111,7 +110,7 @@ passed-opened : (z : Sizes) (lag : ℕ) (start : List ℕ) (clock : ℕ) → Pas
 unfolding opened
 passed-opened z lag start clock = record { commits = nil; lock = tt }
 
-all-below : (s : ℕ) (cs : List Commit) → All (λ (c : Commit). c.stamp < s) cs → are_below (At s) cs ≡ true
+all-below : (s : ℕ) (cs : List Commit) → All (λ (c : Commit). c.stamp < s) cs → are_below (Some s) cs ≡ true
 unfolding are_below is_below
 all-below s [] nil = refl
 all-below s (c ∷ cs) (more l i) = rw (lt-ltb c.stamp s l, all-below s cs i)
@@ -119,13 +118,13 @@ all-below s (c ∷ cs) (more l i) = rw (lt-ltb c.stamp s l, all-below s cs i)
 -- ---- a call that answers a timestamp, of such a history
 module _ (z : Sizes) (h : History) (s : ℕ) (p : Passed h) (x : Call) (g : History) where
   -- commits are below it
-  new-below : s ≡ h.clock + 2 → are_below (At s) h.commits ≡ true
+  new-below : s ≡ h.clock + 2 → are_below (Some s) h.commits ≡ true
   new-below e = all-below s h.commits (All-map (λ c l. omega arith) p.commits)
 
-  lock-below : (k : Holder) → h.lock ≡ some k → s ≡ k.stamp → are_below (At s) h.commits ≡ true
+  lock-below : (k : Holder) → h.lock ≡ Some k → s ≡ k.stamp → are_below (Some s) h.commits ≡ true
   lock-below k e t = rw t (all-below k.stamp h.commits (of-holder _ h.lock k e p.lock).below)
 
-  stamp-below : Stamps z h s x g → are_below (At s) h.commits ≡ true
+  stamp-below : Stamps z h s x g → are_below (Some s) h.commits ≡ true
   stamp-below (stamping e kind kinds held txns free q) = new-below e
   stamp-below (locking e f n o q) = new-below e
   stamp-below (parting k e t r o own q) = lock-below k e t
@@ -133,19 +132,19 @@ module _ (z : Sizes) (h : History) (s : ℕ) (p : Passed h) (x : Call) (g : Hist
 
   -- the lane reaches it, but for Lock
   module _ (j : ℕ) (l : j < s) where
-    new-reaches : (kind : ℕ → Newest) → ((n : ℕ) → newest_stamp (kind n) ≡ At n) → (held : Option (List ℕ)) (txns : List (List ℕ)) → s ≡ h.clock + 2
-        → h.lock ≡ none → LaneHas j (Reaches j) (lane_of x) (stamped (lane_of x) kind held txns (after_drain (lane_of x) h))
+    new-reaches : (kind : ℕ → Newest) → ((n : ℕ) → newest_stamp (kind n) ≡ Some n) → (held : Option (List ℕ)) (txns : List (List ℕ)) → s ≡ h.clock + 2
+        → h.lock ≡ None → LaneHas j (Reaches j) (lane_of x) (stamped (lane_of x) kind held txns (after_drain (lane_of x) h))
     unfolding after_drain
     new-reaches kind kinds held txns e free =
         lane-stamped j (lane_of x) kind kinds held txns (after_drain (lane_of x) h) (ahead-free j (after_drain (lane_of x) h) free (omega arith))
 
-    part-reaches : (k : Holder) → h.lock ≡ some k → s ≡ k.stamp → LaneHas j (Reaches j) k.lane (part_logged k (after_drain (lane_of x) h))
+    part-reaches : (k : Holder) → h.lock ≡ Some k → s ≡ k.stamp → LaneHas j (Reaches j) k.lane (part_logged k (after_drain (lane_of x) h))
     unfolding after_drain
     part-reaches k e t =
         let b = (of-holder _ h.lock k e p.lock).given in
         lane-part j k (after_drain (lane_of x) h) (omega arith) (omega arith)
 
-    written-reaches : (k : Holder) → h.lock ≡ some k → s ≡ k.stamp → k.ready ≡ true
+    written-reaches : (k : Holder) → h.lock ≡ Some k → s ≡ k.stamp → k.ready ≡ true
         → LaneHas j (Reaches j) k.lane (part_written k (after_drain (lane_of x) h))
     unfolding after_drain LaneHas page_at
     written-reaches k e t r =
@@ -258,6 +257,6 @@ settled-from d theorem z lag start m h ok es fs x s stamps =
           (stamp-reaches z a.history s p x b.history k l other (refusal-fits z a.history x t.machine t.taken) t.leaves) in
           let low = floors-above k (lane_of x) z c.history r floors in (
             not-below (cut-floors d z (trailer z) c.system c.history (u (finishing z c.system))) k low,
-            λ lag₁ limit j. recovery-keeps d z c (At (k + 1)) (λ y q. below-earlier _ k y (up_to k y q) low) lag₁ limit j (u (recover lag₁ limit j)),
+            λ lag₁ limit j. recovery-keeps d z c (Some (k + 1)) (λ y q. below-earlier _ k y (up_to k y q) low) lag₁ limit j (u (recover lag₁ limit j)),
           ),
     )

@@ -1,9 +1,9 @@
 -- The crash theorem from an invariant, by induction over the events: what the invariant must provide are the fields of `Laws`. Assumes nothing.
+use Rattle.std.specs.Prelude.{Option}
 use mathlib.Core.Path.{◌≡◌, refl, ap, ◌∙◌, sym, subst}
 use mathlib.Core.Logic.{inl, inr}
 use mathlib.Core.Bool.{true, cond, ◌&&◌}
 use mathlib.Core.List.{List, [], ◌∷◌}
-use mathlib.Core.Option.{Option}
 use Prim.Native.Nat.{ℕ, ◌+◌, ◌-◌, ◌≤◌, ◌%◌}
 use native.Mathlib.Omega.{arith}
 use lib.Dec.{eqb, leb}
@@ -20,7 +20,7 @@ use Rattle.store.specs.Machine.{Machine, Step, first_cause, unless, said}
 use Rattle.store.specs.Calls.{bad_buffers, bad_lag, started, start_image, drained, format_refusal, format_step, write_back_refusal, write_back_step}
 use Rattle.store.specs.inner.FormatLaws.{length-start_image}
 use Rattle.store.specs.inner.StoreLaws.{format-checked}
-use Rattle.store.specs.declared.Answer.TheVariants as answer
+use Rattle.store.specs.Answers as answer
 use Rattle.recovery.specs.Recovery.{boundary, new_base, recovered_nvm, Restarted, told}
 use Rattle.crash.specs.Events.{Call, drain, Junk, Event, format, write_back, call, recover, fails, fails_in_drain, fails_after_drain, fails_in_recovery}
 use Rattle.crash.specs.Events.{System, live, down, nvm_of, vandzulge, happens, lane_of, call_step, is_taken, recovery_of, fit, partly_drained}

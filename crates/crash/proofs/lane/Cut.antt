@@ -1,6 +1,7 @@
 -- One lane at a cut: its log in non-volatile memory shows the present history or that of the last drain. So all that is found there is of one of the
 -- two, the newest that is found is of one of the two and gives nothing below the lane's floor, and the sequences that stand whole are found.
 -- Assumes nothing.
+use Rattle.std.specs.Prelude.{Option, Some, None}
 use mathlib.Core.Path.{◌≡◌, refl, ap, ◌∙◌, sym, subst}
 use mathlib.Core.Logic.{◌⊎◌, inl, inr}
 use mathlib.Core.List.{List, [], ◌∷◌, ◌++◌}
@@ -14,10 +15,7 @@ use Rattle.image.specs.inner.ImageLaws.{InRange}
 use Rattle.image.specs.declared.Sizes.{Sizes}
 use Rattle.lane_log.specs.Log.{Old, Complete, sequence_of, complete_below, complete_in, latest, latest_in, contribution}
 use Rattle.lane_log.specs.inner.LatestLaws.{latest-greatest, latest-none}
-use Rattle.lane_log.specs.declared.Timestamp.TheVariants.{At}
 use Rattle.lane_log.specs.declared.Sequence.{Sequence}
-use Rattle.lane_log.specs.declared.Latest.{Latest}
-use Rattle.lane_log.specs.declared.Latest.TheVariants.{Nothing, Is}
 use Rattle.record.specs.Record.{lane_at}
 use Rattle.store.specs.Machine.{Machine}
 use Rattle.crash.specs.History.{Newest, unset, closing_at, mark_at, floor_or}
@@ -43,7 +41,7 @@ pub data CutLog (z : Sizes) (log : List ℕ) (prior hist : List Past) (priors gs
 -- a whole sequence of the present history at a cut: found; found with its logged timestamp, which then is what the lane gives; or just appended
 pub data CutFound (N L : ℕ) (qs : List Complete) (priors gs : List Seq) (g : Seq) : Type 0 where
   itself : In (found_as N L g) qs → CutFound N L qs priors gs g
-  logged : (s : ℕ) → s < g.stamp → contribution (latest qs) ≡ At s → In (found_as N L (restamped s g)) qs → CutFound N L qs priors gs g
+  logged : (s : ℕ) → s < g.stamp → contribution (latest qs) ≡ Some s → In (found_as N L (restamped s g)) qs → CutFound N L qs priors gs g
   unseen : gs ≡ g ∷ priors → CutFound N L qs priors gs g
 
 -- what lane L's log shows at a cut: the history h of the sequences gs, the present one or that of the last drain
@@ -61,7 +59,7 @@ pub record CutNewest (N L : ℕ) (qs : List Complete) (g : Seq) : Type 0 where
   pub stamp : ℕ
   pub upto : stamp ≤ g.stamp
   pub found : In (found_as N L (restamped stamp g)) qs
-  pub latest : contribution (latest qs) ≡ At stamp
+  pub latest : contribution (latest qs) ≡ Some stamp
 
 -- none of falling timestamps is above the first
 falls-top : {g : Seq} {gs : List Seq} (f : Seq) → Falls (g ∷ gs) → In f (g ∷ gs) → f.stamp ≤ g.stamp
@@ -77,10 +75,10 @@ abbrev as_seq : Complete → ℕ → Seq
 as_seq q e = record { entries = q.entries; stamp = q.stamp; end = e }
 
 -- the latest has the timestamp and kind of the sequence that it reads as
-reads_as : (qs : List Complete) (r : Sequence) (q : Complete) → latest qs ≡ Is r → sequence_of q ≡ r
+reads_as : (qs : List Complete) (r : Sequence) (q : Complete) → latest qs ≡ Some r → sequence_of q ≡ r
     → newest_of (latest qs) ≡ newest_by (length q.entries) q.stamp
 unfolding newest_of sequence_of
-reads_as qs r q l p = ap newest_of (l ∙ ap Is (sym p))
+reads_as qs r q l p = ap newest_of (l ∙ ap Some (sym p))
 
 kind-of : {f g : Seq} → f ≡ g → newest_by (length f.entries) f.stamp ≡ newest_by (length g.entries) g.stamp
 kind-of e = ap (λ (x : Seq). newest_by (length x.entries) x.stamp) e
@@ -95,9 +93,9 @@ latest-one N g qs k = go (latest qs) refl
     fits q e (inl p) = p
     fits q e (inr i) = absurd (elim i [ ])
 
-    go : (l : Latest) → latest qs ≡ l → (newest_of (latest qs) ≡ newest_by (length g.entries) g.stamp) ⊎ (newest_of (latest qs) ≡ unset)
-    go Nothing e = inr (ap newest_of e)
-    go (Is r) e =
+    go : (l : Option Sequence) → latest qs ≡ l → (newest_of (latest qs) ≡ newest_by (length g.entries) g.stamp) ⊎ (newest_of (latest qs) ≡ unset)
+    go None e = inr (ap newest_of e)
+    go (Some r) e =
         let b = latest-greatest qs r e in
         let n = In-All k b.found in
         inl (reads_as qs r b.by e b.is ∙ kind-of (fits b.by n.end (in-cases n.among)))
@@ -108,15 +106,15 @@ latest-two : (N L : ℕ) (g f : Seq) (gs : List Seq) (qs : List Complete) → Al
 unfolding sequence_of
 latest-two N L g f gs qs k fl i = go (latest qs) refl
   where
-    which : (r : Sequence) → latest qs ≡ Is r → (q : Complete) (e : ℕ) → sequence_of q ≡ r → f.stamp ≤ q.stamp → (as_seq q e ≡ g) ⊎ In (as_seq q e) (f ∷ gs)
+    which : (r : Sequence) → latest qs ≡ Some r → (q : Complete) (e : ℕ) → sequence_of q ≡ r → f.stamp ≤ q.stamp → (as_seq q e ≡ g) ⊎ In (as_seq q e) (f ∷ gs)
         → (newest_of (latest qs) ≡ newest_by (length g.entries) g.stamp) ⊎ (newest_of (latest qs) ≡ newest_by (length f.entries) f.stamp)
     which r l q e p h (inl s) = inl (reads_as qs r q l p ∙ kind-of s)
     which r l q e p h (inr j) = inr (reads_as qs r q l p ∙ falls-kind (as_seq q e) fl j h)
 
-    go : (l : Latest) → latest qs ≡ l
+    go : (l : Option Sequence) → latest qs ≡ l
         → (newest_of (latest qs) ≡ newest_by (length g.entries) g.stamp) ⊎ (newest_of (latest qs) ≡ newest_by (length f.entries) f.stamp)
-    go Nothing e = absurd (let n : qs ≡ [] = latest-none qs e in elim (subst (In (found_as N L f)) n i) [ ])
-    go (Is r) e =
+    go None e = absurd (let n : qs ≡ [] = latest-none qs e in elim (subst (In (found_as N L f)) n i) [ ])
+    go (Some r) e =
         let b = latest-greatest qs r e in
         let n = In-All k b.found in
         which r e b.by n.end b.is
@@ -136,7 +134,7 @@ module _ (z : Sizes) (r : InRange z) (log : List ℕ) (base L : ℕ) where
 
   -- where its newest is no mark, the lane gives its timestamp
   shown-gives : (h : List Past) {g : Seq} {gs : List Seq} {u : ℕ} → Shown z log h (g ∷ gs) u → Falls (g ∷ gs) → All (λ g. base < g.stamp) (g ∷ gs)
-      → length h ≤ u → 0 < length g.entries → contribution (latest qs) ≡ At g.stamp
+      → length h ≤ u → 0 < length g.entries → contribution (latest qs) ≡ Some g.stamp
   unfolding newest_in giving
   shown-gives h {g = g} s f a l i =
       contribution-is (latest qs) ∙ ap giving (shown-newest h s f a l ∙ closing-by (length g.entries) g.stamp i)
@@ -262,7 +260,7 @@ module _ (z : Sizes) (r : InRange z) (log : List ℕ) (base L : ℕ) where
 
 -- ---- the floor
 -- what a timestamp t gives is not below the floor that it was appended over, which an earlier s gave, or that it set
-above_floor : (n k t s : ℕ) → s ≤ t → NotBelow (floor_or (giving (newest_by k s)) (At t)) (giving (newest_by n t))
+above_floor : (n k t s : ℕ) → s ≤ t → NotBelow (floor_or (giving (newest_by k s)) (Some t)) (giving (newest_by n t))
 unfolding newest_by giving floor_or
 above_floor zero k t s l = no_boundary
 above_floor (suc n) zero t s l = at_least (le_refl t)
@@ -275,7 +273,7 @@ same-floor unset = no_boundary
 same-floor (closing_at s) = at_least (le_refl s)
 same-floor (mark_at s) = no_boundary
 
-over-floor : (n : Newest) (t : ℕ) → NotBelow (floor_or (giving n) (At t)) (giving n)
+over-floor : (n : Newest) (t : ℕ) → NotBelow (floor_or (giving n) (Some t)) (giving n)
 unfolding giving floor_or
 over-floor unset t = no_boundary
 over-floor (closing_at s) t = at_least (le_refl s)

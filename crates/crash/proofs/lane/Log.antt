@@ -1,5 +1,6 @@
 -- One lane's log while the store runs: its ghost history and that of its last drain, its log in cache and non-volatile memory, its cursor, floor and
 -- phase. What each call of the lane itself makes of it. Assumes nothing.
+use Rattle.std.specs.Prelude.{Option, Some, None}
 use mathlib.Core.Path.{◌≡◌, refl, ap, ◌∙◌, sym, subst}
 use mathlib.Core.List.{List, [], ◌∷◌, ◌++◌}
 use Prim.Native.Nat.{ℕ, ◌+◌, ◌-◌, ◌*◌, ◌%◌, ◌≤◌, ◌<◌}
@@ -16,14 +17,10 @@ use Rattle.image.specs.inner.StoresLaws.{stored-append, length-stored}
 use Rattle.image.specs.declared.Sizes.{Sizes}
 use Rattle.lane_log.specs.Log.{complete_in, latest_in}
 use Rattle.lane_log.specs.Append.{advance, append_stores, circular, restamp_store}
-use Rattle.lane_log.specs.declared.Timestamp.{Timestamp}
-use Rattle.lane_log.specs.declared.Timestamp.TheVariants.{At}
 use Rattle.lane_log.specs.declared.Cursor.{Cursor}
-use Rattle.record.specs.Record.{lane_at, cursor_of, logged_in, drained_lane, appended_lane, idle_lane, with_lane, with_clock, with_last}
+use Rattle.record.specs.Record.{lane_at, cursor_of, logged_in, drained_lane, appended_lane, idle_lane, with_lane, with_clock, with_last, Phase}
 use Rattle.record.specs.declared.Pair.{Pair}
 use Rattle.record.specs.declared.Logged.{Logged}
-use Rattle.record.specs.declared.Phase.{Phase}
-use Rattle.record.specs.declared.Phase.TheVariants.{Idle, Holds}
 use Rattle.record.specs.declared.Record.{Record}
 use Rattle.store.specs.Machine.{Machine}
 use Rattle.store.specs.Calls.{drained, changed, pair_stores, commit_stores, committed, released}
@@ -52,14 +49,14 @@ pub record Track : Type 0 where
 
 -- a lane that holds a logged transaction holds its newest sequence
 pub data PhaseOf (N : ℕ) : Phase → List Seq → Type 0 where
-  idle : {gs : List Seq} → PhaseOf N Idle gs
+  idle : {gs : List Seq} → PhaseOf N None gs
   holds : {x : Logged} {g : Seq} {gs : List Seq} → x.first ≡ (g.end - length g.entries) % N → x.count ≡ length g.entries → x.stamp ≡ g.stamp
-      → 0 < length g.entries → PhaseOf N (Holds x) (g ∷ gs)
+      → 0 < length g.entries → PhaseOf N (Some x) (g ∷ gs)
 
 -- a lane's floor: what its newest sequence at the last drain gives; where that is nothing, a timestamp appended since
-unfoldable pub floor_since : {prior hist : List Past} {priors gs : List Seq} → Since prior hist priors gs → Timestamp
+unfoldable pub floor_since : {prior hist : List Past} {priors gs : List Seq} → Since prior hist priors gs → Option ℕ
 floor_since (level {gs = gs}) = giving (newest_in gs)
-floor_since (grown {gs = gs} es s) = floor_or (giving (newest_in gs)) (At s)
+floor_since (grown {gs = gs} es s) = floor_or (giving (newest_in gs)) (Some s)
 floor_since (sealed {gs = gs} g c up some) = giving (newest_in (g ∷ gs))
 
 pub record LaneLog (z : Sizes) (L : ℕ) (m : Machine) (t : Track) : Type 0 where
@@ -218,7 +215,7 @@ module _ (z : Sizes) (L : ℕ) (lane : L < z.lanes) (m : Machine) (t : Track) (s
           since = grown (olds_of ws) c;
           mem = mem-stored-own z L lane (log_of z L m.cache) m.cache m.flags m.nvm s.in-cache s.in-flags s.in-nvm xs same;
           cursor = rw a.here append-cursor;
-          floor = rw a.here (appended-floor c (lane_at m.state L).floor ∙ ap (λ f. floor_or f (At c)) floor);
+          floor = rw a.here (appended-floor c (lane_at m.state L).floor ∙ ap (λ f. floor_or f (Some c)) floor);
           holding = rw a.here held;
         }
 
@@ -241,7 +238,7 @@ module _ (z : Sizes) (L : ℕ) (lane : L < z.lanes) (m : Machine) (t : Track) (s
       = sym (get_or-log z L m.cache (2 * j) (omega arith)) ∙ ap (λ (k : List ℕ). get_or k (2 * j) 0) (sym e) ∙ get_or-log z L image (2 * j) (omega arith) in
       rw d
 
-  commit-now : (x : Logged) {h : List Past} {gs : List Seq} → PhaseOf z.slots (Holds x) gs
+  commit-now : (x : Logged) {h : List Past} {gs : List Seq} → PhaseOf z.slots (Some x) gs
       → Written z (base_of m.cache) m.state.clock (log_of z L m.cache) h gs
       → (image : List ℕ) → former_length z ≤ length image → log_of z L image ≡ log_of z L m.cache
       → Written z (base_of m.cache) (m.state.clock + 2)
@@ -254,26 +251,26 @@ module _ (z : Sizes) (L : ℕ) (lane : L < z.lanes) (m : Machine) (t : Track) (s
       (written-commit z s.sizes L lane (base_of m.cache) m.state.clock s.low s.clock image len
       (subst (λ k. Written z (base_of m.cache) m.state.clock k h (g ∷ gs)) (sym same) w))
 
-  unfoldable commit-since : (c : ℕ) (x : Logged) (h : List Past) {gs : List Seq} → All (λ g. g.stamp < c) gs → PhaseOf z.slots (Holds x) gs
+  unfoldable commit-since : (c : ℕ) (x : Logged) (h : List Past) {gs : List Seq} → All (λ g. g.stamp < c) gs → PhaseOf z.slots (Some x) gs
       → Since h (seal_hist c h gs) gs (seal_gs c gs)
   unfolding seal_hist seal_gs
   commit-since c x h Rattle.laws.specs.inner.Lists.none x4 = elim x4 [ ]
   commit-since c x h (more up a) (holds {g = g} f n e some) = sealed g c up some
 
-  commit-floor : (c : ℕ) (x : Logged) (h : List Past) {gs : List Seq} (a : All (λ g. g.stamp < c) gs) (p : PhaseOf z.slots (Holds x) gs)
+  commit-floor : (c : ℕ) (x : Logged) (h : List Past) {gs : List Seq} (a : All (λ g. g.stamp < c) gs) (p : PhaseOf z.slots (Some x) gs)
       → floor_since (commit-since c x h a p) ≡ giving (newest_in gs)
   unfolding commit-since floor_since
   commit-floor c x h Rattle.laws.specs.inner.Lists.none p = elim p [ ]
   commit-floor c x h (more up a) (holds f n e some) = refl
 
-  module _ (ps : List Pair) (low : All (λ p. p.word < z.words) ps) (x : Logged) (held : (lane_at m.state L).phase ≡ Holds x) where
+  module _ (ps : List Pair) (low : All (λ p. p.word < z.words) ps) (x : Logged) (held : (lane_at m.state L).phase ≡ Some x) where
     committed-base : base_of (stored (commit_stores z L ps m) m.cache) ≡ base_of m.cache
     committed-base = stored-base m.cache (commit-past z m s L lane ps low)
 
     pairs-log : log_of z L (stored (pair_stores ps) m.cache) ≡ log_of z L m.cache
     pairs-log = stored-log z L m.cache (All-map (λ y h. data-apart z L y.at h.1) (pairs-data z.words low))
 
-    its : PhaseOf z.slots (Holds x) t.gs
+    its : PhaseOf z.slots (Some x) t.gs
     its = rw held at l.holding
 
     commit-level : LaneLog z L (committed z L ps m) (restamped_by z L m (m.state.clock + 2) t)
@@ -314,7 +311,7 @@ module _ (z : Sizes) (L : ℕ) (lane : L < z.lanes) (m : Machine) (t : Track) (s
       ∙ ap (◌% z.slots) (let e : length t.hist ≡ length t.hist + n - n = omega arith in e)
 
   -- Redo and Validate that commit
-  pub lane-commits : (ps : List Pair) → All (λ p. p.word < z.words) ps → (x : Logged) → (lane_at m.state L).phase ≡ Holds x
+  pub lane-commits : (ps : List Pair) → All (λ p. p.word < z.words) ps → (x : Logged) → (lane_at m.state L).phase ≡ Some x
       → LaneLog z L (committed z L ps (drained z L m)) (restamped_by z L m (m.state.clock + 2) t)
   unfolding drained drained_lane with_lane
   lane-commits ps low x held =

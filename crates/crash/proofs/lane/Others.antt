@@ -1,4 +1,5 @@
 -- One lane's log through the calls of the other lanes, stores to data words and write-backs: its ghosts stay. Assumes nothing.
+use Rattle.std.specs.Prelude.{Some}
 use mathlib.Core.Path.{◌≡◌}
 use mathlib.Core.Logic.{◌≢◌}
 use mathlib.Core.List.{List}
@@ -17,7 +18,6 @@ use Rattle.lane_log.proofs.SearchLaws.{circular-low}
 use Rattle.record.specs.Record.{lane_at, cursor_of, logged_in, with_lane, with_clock, with_last}
 use Rattle.record.specs.declared.Pair.{Pair}
 use Rattle.record.specs.declared.Logged.{Logged}
-use Rattle.record.specs.declared.Phase.TheVariants.{Holds}
 use Rattle.record.specs.declared.Record.{Record}
 use Rattle.store.specs.Machine.{Machine}
 use Rattle.store.specs.Calls.{drained, changed, commit_stores, committed, released}
@@ -33,10 +33,10 @@ use Rattle.crash.proofs.lane.Log.{Track, PhaseOf, holds, LaneLog}
 
 -- where a lane's commit puts the new timestamp: inside its log
 module _ (z : Sizes) (M : ℕ) (m : Machine) (s : Shape z m) where
-  pub commit-low : {t : Track} → LaneLog z M m t → (x : Logged) → (lane_at m.state M).phase ≡ Holds x → circular z.slots (x.first + x.count) < z.slots
+  pub commit-low : {t : Track} → LaneLog z M m t → (x : Logged) → (lane_at m.state M).phase ≡ Some x → circular z.slots (x.first + x.count) < z.slots
   commit-low {t} l x e = circular-low z.slots (x.first + x.count) (go l.now (rw e at l.holding))
     where
-      go : {gs : List Seq} → Written z (base_of m.cache) m.state.clock (log_of z M m.cache) t.hist gs → PhaseOf z.slots (Holds x) gs
+      go : {gs : List Seq} → Written z (base_of m.cache) m.state.clock (log_of z M m.cache) t.hist gs → PhaseOf z.slots (Some x) gs
           → x.first + x.count < 2 * z.slots
       go w (holds {g = g} f c q some) =
           omega (
@@ -51,7 +51,7 @@ module _ (z : Sizes) (M : ℕ) (m : Machine) (s : Shape z m) where
   slot-inside : (j : ℕ) → j < z.slots → Inside z M (log_start z M + 2 * j + 1)
   slot-inside j h = (omega arith, omega arith)
 
-  commit-apart : (L : ℕ) → L ≢ M → (ps : List Pair) → All (λ p. p.word < z.words) ps → (x : Logged) → (lane_at m.state M).phase ≡ Holds x
+  commit-apart : (L : ℕ) → L ≢ M → (ps : List Pair) → All (λ p. p.word < z.words) ps → (x : Logged) → (lane_at m.state M).phase ≡ Some x
       → circular z.slots (x.first + x.count) < z.slots → All (λ y. Apart z L y.at) (commit_stores z M ps m)
   unfolding commit_stores restamp_store logged_in
   commit-apart L d ps low x e h =
@@ -118,7 +118,7 @@ module _ (z : Sizes) (L : ℕ) (lane : L < z.lanes) (m : Machine) (t : Track) (s
         (All-map (λ x h. inside-apart z L M x.at apart h) i)
         (All-map (λ x h. le_trans (let e : 1 ≤ 1 + z.words = omega arith in e) (inside-late z M x.at h)) i) a up
 
-    pub lane-commits-other : (ps : List Pair) → All (λ p. p.word < z.words) ps → (x : Logged) → (lane_at m.state M).phase ≡ Holds x
+    pub lane-commits-other : (ps : List Pair) → All (λ p. p.word < z.words) ps → (x : Logged) → (lane_at m.state M).phase ≡ Some x
         → circular z.slots (x.first + x.count) < z.slots → LaneLog z L (committed z M ps m) t
     unfolding committed changed with_lane with_clock with_last
     lane-commits-other ps low x e h =

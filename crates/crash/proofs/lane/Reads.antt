@@ -1,5 +1,6 @@
 -- What the calls read of a lane's cached log, in the ghosts' terms: the sequence that the lane holds and its entries, slot by slot, and refusal 9.
 -- Assumes nothing.
+use Rattle.std.specs.Prelude.{Some}
 use mathlib.Core.Path.{◌≡◌, refl, ap, ◌∙◌}
 use mathlib.Core.Bool.{false}
 use mathlib.Core.List.{List, [], ◌∷◌, ◌++◌}
@@ -14,10 +15,8 @@ use Rattle.image.specs.Image.{base_of, log_of}
 use Rattle.image.specs.declared.Sizes.{Sizes}
 use Rattle.lane_log.specs.Log.{slot_at, complete_in, hits}
 use Rattle.lane_log.specs.Append.{circular}
-use Rattle.lane_log.specs.declared.Timestamp.TheVariants.{At}
 use Rattle.record.specs.Record.{lane_at, bound_of}
 use Rattle.record.specs.declared.Logged.{Logged}
-use Rattle.record.specs.declared.Phase.TheVariants.{Holds}
 use Rattle.store.specs.Machine.{Machine}
 use Rattle.store.specs.Calls.{drained, would_hit}
 use Rattle.laws.specs.inner.Members.{In, here}
@@ -54,11 +53,11 @@ pub record HeldSeq (N : ℕ) (x : Logged) (gs : List Seq) : Type 0 where
   pub stamp : x.stamp ≡ seq.stamp
   pub some : 0 < length seq.entries
 
-held_of : (N : ℕ) (x : Logged) {gs : List Seq} → PhaseOf N (Holds x) gs → HeldSeq N x gs
+held_of : (N : ℕ) (x : Logged) {gs : List Seq} → PhaseOf N (Some x) gs → HeldSeq N x gs
 held_of N x (holds {g = g} {gs = gs} f c s i) = record { seq = g; rest = gs; newest = refl; first = f; count = c; stamp = s; some = i }
 
 module _ (z : Sizes) (L : ℕ) (m : Machine) (t : Track) (s : Shape z m) (l : LaneLog z L m t) where
-  pub lane-held : (x : Logged) → (lane_at m.state L).phase ≡ Holds x → HeldSeq z.slots x t.gs
+  pub lane-held : (x : Logged) → (lane_at m.state L).phase ≡ Some x → HeldSeq z.slots x t.gs
   lane-held x e = held_of z.slots x (rw e at l.holding)
 
   -- its entries stand in the log
@@ -100,14 +99,14 @@ module _ (z : Sizes) (L : ℕ) (m : Machine) (t : Track) (s : Shape z m) (l : La
 
   -- ---- refusal 9
   -- a whole sequence at or above the lower bound has room for n slots more, and stays whole while writes and their timestamp take them
-  pub lane-room : (n b : ℕ) → would_hit z L n m ≡ false → bound_of z (drained z L m).state ≡ At b
+  pub lane-room : (n b : ℕ) → would_hit z L n m ≡ false → bound_of z (drained z L m).state ≡ Some b
       → {g : Seq} → In g t.gs → Whole z.slots t.hist g → b ≤ g.stamp → RoomFor z.slots n t.hist g
   unfolding would_hit hits complete_in
   lane-room n b e f i w k =
       written-room z s.sizes (base_of m.cache) m.state.clock (log_of z L m.cache) L l.now n b (rw (f, next-slot z L m t s l) at e) i w k
 
   pub lane-stays-whole : (ws : List Write) (b c : ℕ)
-      → would_hit z L (length ws + 1) m ≡ false → bound_of z (drained z L m).state ≡ At b → {g : Seq} → In g t.gs
+      → would_hit z L (length ws + 1) m ≡ false → bound_of z (drained z L m).state ≡ Some b → {g : Seq} → In g t.gs
       → Whole z.slots t.hist g → b ≤ g.stamp → Whole z.slots (t.hist ++ past_of (olds_of ws) c) g
   lane-stays-whole ws b c e f i w k =
       omega (arith, lane-room (length ws + 1) b e f i w k, length-new t.hist (olds_of ws) c, length-olds ws)

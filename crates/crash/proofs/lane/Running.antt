@@ -1,5 +1,6 @@
 -- All lanes' logs of a running store, and its sizes and base: they hold at a start, and every call and write-back keeps them, with
 -- the ghosts of the calling lane changed and the others' as they were. Assumes nothing.
+use Rattle.std.specs.Prelude.{Some, None}
 use mathlib.Core.Path.{◌≡◌, refl, sym, subst}
 use mathlib.Core.Logic.{◌≢◌}
 use mathlib.Core.Bool.{cond}
@@ -20,11 +21,9 @@ use Rattle.image.specs.Flush.{written_back}
 use Rattle.image.specs.Stores.{Store}
 use Rattle.image.specs.declared.Sizes.{Sizes}
 use Rattle.lane_log.specs.Append.{advance, append_stores}
-use Rattle.record.specs.Record.{start_lane, start_record, lane_at, cursor_of, drained_lane, appended_lane, pairs_of, with_lane, with_clock}
+use Rattle.record.specs.Record.{start_lane, start_record, lane_at, cursor_of, drained_lane, appended_lane, pairs_of, with_lane, with_clock, Phase}
 use Rattle.record.specs.declared.Pair.{Pair}
 use Rattle.record.specs.declared.Logged.{Logged}
-use Rattle.record.specs.declared.Phase.{Phase}
-use Rattle.record.specs.declared.Phase.TheVariants.{Idle, Holds}
 use Rattle.record.specs.declared.Record.{Record}
 use Rattle.store.specs.Machine.{Machine}
 use Rattle.store.specs.Calls.{started, drained, changed, appended, logged, committed, released}
@@ -214,10 +213,10 @@ module _ (z : Sizes) (m : Machine) (ts : ℕ → Track) (v : Running z m ts) whe
         (holds (first_slot z M lane m (ts M) v.shape mine (length (olds_of ws))) (sym (length-olds ws)) refl (omega (arith, length-olds ws)))
 
     pub running-marks : (redo : List Pair)
-        → Running z (appended z M [] Idle redo (drained z M m)) (updated M (extended z M m [] (m.state.clock + 2) (ts M)) ts)
-    running-marks redo = running-appends [] (omega arith) none Idle redo idle
+        → Running z (appended z M [] None redo (drained z M m)) (updated M (extended z M m [] (m.state.clock + 2) (ts M)) ts)
+    running-marks redo = running-appends [] (omega arith) none None redo idle
 
-    pub running-commits : (ps : List Pair) → All (λ p. p.word < z.words) ps → (x : Logged) → (lane_at m.state M).phase ≡ Holds x
+    pub running-commits : (ps : List Pair) → All (λ p. p.word < z.words) ps → (x : Logged) → (lane_at m.state M).phase ≡ Some x
         → Running z (committed z M ps (drained z M m)) (updated M (restamped_by z M m (m.state.clock + 2) (ts M)) ts)
     unfolding drained_lane
     running-commits ps low x e =
@@ -227,7 +226,7 @@ module _ (z : Sizes) (m : Machine) (ts : ℕ → Track) (v : Running z m ts) whe
         (λ L h d. lane-commits-other z L h (drained z M m) (ts L) drained-shape
         (drained-other L h d) M lane d ps low x held (commit-low z M (drained z M m) drained-shape drained-mine x held))
       where
-        held : (lane_at (drained z M m).state M).phase ≡ Holds x
+        held : (lane_at (drained z M m).state M).phase ≡ Some x
         held = rw (lane-drained z M m (le_trans lane v.shape.lanes)).here e
 
     pub running-releases : Running z (released M (drained z M m)) (updated M (levelled z M m (ts M)) ts)

@@ -1,5 +1,6 @@
 -- All lanes at a cut: the boundary is not below the least floor; what is found is of the histories; and a sequence that stands whole in a cached log is
 -- found, at or above the boundary, unless its lane has just appended it. Assumes nothing.
+use Rattle.std.specs.Prelude.{Option, Some, None}
 use mathlib.Core.Path.{◌≡◌, refl, ap, ◌∙◌, sym, subst}
 use mathlib.Core.Logic.{◌⊎◌, inl, inr}
 use mathlib.Core.List.{List, [], ◌∷◌}
@@ -11,8 +12,6 @@ use Rattle.laws.specs.inner.Lists.{All, more}
 use Rattle.image.specs.declared.Sizes.{Sizes}
 use Rattle.lane_log.specs.Log.{Complete, complete_in, latest, latest_in, contribution}
 use Rattle.lane_log.specs.inner.LogLaws.{at_one}
-use Rattle.lane_log.specs.declared.Timestamp.{Timestamp}
-use Rattle.lane_log.specs.declared.Timestamp.TheVariants.{None, At}
 use Rattle.record.specs.Record.{no_lane, lane_at, lesser, least_floor, bound_of}
 use Rattle.record.specs.declared.Lane.{Lane}
 use Rattle.store.specs.Machine.{Machine}
@@ -32,19 +31,19 @@ use Rattle.crash.proofs.lane.Cut.{lane-cut-latest, lane-cut-shows, lane-cut-floo
 use Rattle.crash.proofs.lane.Running.{Running}
 
 -- ---- the least floor is at most each
-lesser-left : (f : ℕ) (a b : Timestamp) → a ≡ At f → (c : ℕ) × (lesser a b ≡ At c) × (c ≤ f)
+lesser-left : (f : ℕ) (a b : Option ℕ) → a ≡ Some f → (c : ℕ) × (lesser a b ≡ Some c) × (c ≤ f)
 unfolding lesser
 lesser-left f None b e = absurd (let z : ◌≡◌ {A = ℕ} 0 1 = cc in omega arith)
-lesser-left f (At a) None e = (a, refl, let g : a ≡ f = at_one e in omega arith)
-lesser-left f (At a) (At b) e = (min a b, refl, let g : a ≡ f = at_one e in omega arith)
+lesser-left f (Some a) None e = (a, refl, let g : a ≡ f = at_one e in omega arith)
+lesser-left f (Some a) (Some b) e = (min a b, refl, let g : a ≡ f = at_one e in omega arith)
 
-lesser-right : (f : ℕ) (a b : Timestamp) (d : ℕ) → b ≡ At d → d ≤ f → (c : ℕ) × (lesser a b ≡ At c) × (c ≤ f)
+lesser-right : (f : ℕ) (a b : Option ℕ) (d : ℕ) → b ≡ Some d → d ≤ f → (c : ℕ) × (lesser a b ≡ Some c) × (c ≤ f)
 unfolding lesser
 lesser-right f None b d e l = (d, e, l)
-lesser-right f (At a) None d e l = absurd (let z : ◌≡◌ {A = ℕ} 0 1 = cc in omega arith)
-lesser-right f (At a) (At b) d e l = (min a b, refl, let g : b ≡ d = at_one e in omega arith)
+lesser-right f (Some a) None d e l = absurd (let z : ◌≡◌ {A = ℕ} 0 1 = cc in omega arith)
+lesser-right f (Some a) (Some b) d e l = (min a b, refl, let g : b ≡ d = at_one e in omega arith)
 
-least-below : (n : ℕ) (lanes : List Lane) (L f : ℕ) → L < n → (get_or lanes L no_lane).floor ≡ At f → (b : ℕ) × (least_floor (take n lanes) ≡ At b) × (b ≤ f)
+least-below : (n : ℕ) (lanes : List Lane) (L f : ℕ) → L < n → (get_or lanes L no_lane).floor ≡ Some f → (b : ℕ) × (least_floor (take n lanes) ≡ Some b) × (b ≤ f)
 unfolding least_floor
 least-below zero lanes L f h e = absurd (omega arith)
 least-below (suc n) [] L f h e = absurd (let z : ◌≡◌ {A = ℕ} 0 1 = cc in omega arith)
@@ -60,7 +59,7 @@ unfolding newest_in
 newest-at c {gs = []} g h u i l p = absurd (elim i [ ])
 newest-at c {gs = f ∷ gs} g h (more a u) i l p = sym (falls-kind g h i (omega arith)) ∙ closing-by (length g.entries) g.stamp p
 
-giving-closing : (s : ℕ) → giving (closing_at s) ≡ At s
+giving-closing : (s : ℕ) → giving (closing_at s) ≡ Some s
 unfolding giving
 giving-closing s = refl
 
@@ -79,7 +78,7 @@ pub record Seen (z : Sizes) (image : List ℕ) (b : ℕ) (g : Seq) : Type 0 wher
 module _ (z : Sizes) (m : Machine) (ts : ℕ → Track) (v : Running z m ts) where
   -- ---- the boundary
   -- at most what each lane gives
-  boundary-least : (b L c : ℕ) → boundary z m.nvm ≡ At b → L < z.lanes → contribution (latest_in z m.nvm L) ≡ At c → b ≤ c
+  boundary-least : (b L c : ℕ) → boundary z m.nvm ≡ Some b → L < z.lanes → contribution (latest_in z m.nvm L) ≡ Some c → b ≤ c
   boundary-least b L c e l f =
       let r = boundary-below z m.nvm L c l f in
       let g : r.stamp ≡ b = at_one (sym r.is ∙ e) in
@@ -89,23 +88,23 @@ module _ (z : Sizes) (m : Machine) (ts : ℕ → Track) (v : Running z m ts) whe
   unfolding bound_of lane_at
   cut-floors = go (boundary z m.nvm) refl
     where
-      least : (L f b : ℕ) → L < z.lanes → (get_or m.state.lanes L no_lane).floor ≡ At f → f ≤ b → NotBelow (least_floor (take z.lanes m.state.lanes)) (At b)
+      least : (L f b : ℕ) → L < z.lanes → (get_or m.state.lanes L no_lane).floor ≡ Some f → f ≤ b → NotBelow (least_floor (take z.lanes m.state.lanes)) (Some b)
       least L f b l e k = let r = least-below z.lanes m.state.lanes L f l e in rw r.1 (at_least (le_trans r.2 k))
 
-      by-lane : (L b : ℕ) → L < z.lanes → (f c : Timestamp) → (get_or m.state.lanes L no_lane).floor ≡ f → c ≡ At b → NotBelow f c
-          → NotBelow (least_floor (take z.lanes m.state.lanes)) (At b)
+      by-lane : (L b : ℕ) → L < z.lanes → (f c : Option ℕ) → (get_or m.state.lanes L no_lane).floor ≡ f → c ≡ Some b → NotBelow f c
+          → NotBelow (least_floor (take z.lanes m.state.lanes)) (Some b)
       by-lane L b l f c p q no_boundary = absurd (let z : ◌≡◌ {A = ℕ} 0 1 = cc in omega arith)
       by-lane L b l f c p q (at_least {f = x} {b = y} k) = least L x b l p (let e : y ≡ b = at_one q in omega arith)
 
-      go : (c : Timestamp) → boundary z m.nvm ≡ c → NotBelow (least_floor (take z.lanes m.state.lanes)) c
+      go : (c : Option ℕ) → boundary z m.nvm ≡ c → NotBelow (least_floor (take z.lanes m.state.lanes)) c
       go None e = no_boundary
-      go (At b) e =
+      go (Some b) e =
           let r = boundary-is z m.nvm b e in
           by-lane r.lane b r.low _ _ refl r.latest (lane-cut-floor z r.lane m (ts r.lane) v.shape (v.lanes r.lane r.low))
 
   -- a lane gives the clock's timestamp where a sequence that is no mark has it, now and at the last drain
   cut-gives : (L : ℕ) → L < z.lanes → {g : Seq} → In g (ts L).gs → In g (ts L).priors → m.state.clock ≤ g.stamp → 0 < length g.entries
-      → contribution (latest_in z m.nvm L) ≡ At g.stamp
+      → contribution (latest_in z m.nvm L) ≡ Some g.stamp
   cut-gives L l {g} i j up some =
       contribution-is (latest_in z m.nvm L) ∙ ap giving (go (lane-cut-latest z L m (ts L) v.shape (v.lanes L l))) ∙ giving-closing g.stamp
     where
@@ -123,7 +122,7 @@ module _ (z : Sizes) (m : Machine) (ts : ℕ → Track) (v : Running z m ts) whe
       let z : ◌≡◌ {A = ℕ} 0 1 = cc in
       omega arith
 
-  pub cut-clock-least : (b : ℕ) → boundary z m.nvm ≡ At b → (L : ℕ) → L < z.lanes → {g : Seq} → In g (ts L).gs → In g (ts L).priors
+  pub cut-clock-least : (b : ℕ) → boundary z m.nvm ≡ Some b → (L : ℕ) → L < z.lanes → {g : Seq} → In g (ts L).gs → In g (ts L).priors
       → m.state.clock ≤ g.stamp → 0 < length g.entries → b ≤ g.stamp
   cut-clock-least b e L l {g} i j up some = boundary-least b L g.stamp e l (cut-gives L l i j up some)
 
@@ -157,8 +156,8 @@ module _ (z : Sizes) (m : Machine) (ts : ℕ → Track) (v : Running z m ts) whe
       go L l (inr c) = All-In (complete_in z m.nvm L) (g L l c)
 
   -- ---- what is surely found
-  module _ (b : ℕ) (bound : boundary z m.nvm ≡ At b) (L : ℕ) (lane : L < z.lanes) where
-    from-latest : (s : ℕ) → contribution (latest (complete_in z m.nvm L)) ≡ At s → b ≤ s
+  module _ (b : ℕ) (bound : boundary z m.nvm ≡ Some b) (L : ℕ) (lane : L < z.lanes) where
+    from-latest : (s : ℕ) → contribution (latest (complete_in z m.nvm L)) ≡ Some s → b ≤ s
     unfolding latest_in
     from-latest s e = boundary-least b L s bound lane e
 

@@ -1,5 +1,6 @@
 -- Sizes, lengths and the end of the image, and the base timestamp, the same in cache and non-volatile memory: kept by every call and every change of
 -- memory. Assumes nothing.
+use Rattle.std.specs.Prelude.{Some}
 use mathlib.Core.Path.{◌≡◌, ◌∙◌, sym}
 use mathlib.Core.List.{List}
 use Prim.Native.Nat.{ℕ, ◌+◌, ◌%◌, ◌≤◌, ◌<◌}
@@ -21,7 +22,6 @@ use Rattle.lane_log.specs.Append.{append_stores, circular, restamp_store}
 use Rattle.record.specs.Record.{lane_at, cursor_of, logged_in, with_lane, with_clock, with_last}
 use Rattle.record.specs.declared.Pair.{Pair}
 use Rattle.record.specs.declared.Logged.{Logged}
-use Rattle.record.specs.declared.Phase.TheVariants.{Holds}
 use Rattle.record.specs.declared.Record.{Record}
 use Rattle.store.specs.Machine.{Machine}
 use Rattle.store.specs.Calls.{drained, changed, pair_stores, commit_stores, committed, released}
@@ -151,7 +151,7 @@ module _ (z : Sizes) (m : Machine) (s : Shape z m) where
     unfolding commit_stores restamp_store
     commit-past ps low = All-append (All-map (λ x h. h.0) (pairs-data z.words low)) (more (let e : 1 ≤ _ + 1 = omega arith in e) none)
 
-    commit-within : (ps : List Pair) → All (λ p. p.word < z.words) ps → (x : Logged) → (lane_at m.state L).phase ≡ Holds x
+    commit-within : (ps : List Pair) → All (λ p. p.word < z.words) ps → (x : Logged) → (lane_at m.state L).phase ≡ Some x
         → circular z.slots (x.first + x.count) < z.slots → All (λ y. y.at < former_length z) (commit_stores z L ps m)
     unfolding commit_stores restamp_store logged_in log_start
     commit-within ps low x held slot =
@@ -159,7 +159,7 @@ module _ (z : Sizes) (m : Machine) (s : Shape z m) where
         (All-append (All-map (λ y h. let f = log-fits z L lane in omega (arith, h.1)) (pairs-data z.words low))
         (more (let f = log-fits z L lane in omega arith) none))
 
-    pub shape-committed : (ps : List Pair) → All (λ p. p.word < z.words) ps → (x : Logged) → (lane_at m.state L).phase ≡ Holds x
+    pub shape-committed : (ps : List Pair) → All (λ p. p.word < z.words) ps → (x : Logged) → (lane_at m.state L).phase ≡ Some x
         → circular z.slots (x.first + x.count) < z.slots → Shape z (committed z L ps m)
     unfolding committed changed with_lane with_clock with_last
     shape-committed ps low x held slot =

@@ -1,6 +1,7 @@
 -- A log as a history of sequences wrote it: its window, timestamps that do not rise from the newest on, above the base and not above the clock. Kept by
 -- an append and by a commit; the newest sequence is whole in the window by its position, so the latest that is found has its timestamp and kind.
 -- Assumes nothing.
+use Rattle.std.specs.Prelude.{Option, Some, None}
 use mathlib.Core.Path.{◌≡◌, refl, ap, ◌∙◌, sym, subst}
 use mathlib.Core.Bool.{false}
 use mathlib.Core.List.{List, [], ◌∷◌, ◌++◌}
@@ -19,8 +20,6 @@ use Rattle.lane_log.specs.Log.{Complete, sequence_of, complete_below, ordered, f
 use Rattle.lane_log.specs.inner.LatestLaws.{latest-greatest, latest-none}
 use Rattle.lane_log.specs.Append.{append_stores, restamp_store}
 use Rattle.lane_log.specs.declared.Sequence.{Sequence}
-use Rattle.lane_log.specs.declared.Latest.{Latest}
-use Rattle.lane_log.specs.declared.Latest.TheVariants.{Nothing, Is}
 use Rattle.crash.specs.History.{Newest, unset, closing_at}
 use Rattle.laws.specs.inner.Members.{In, here, there, In-All}
 use Rattle.crash.proofs.recovery.Data.{olds_of, length-olds}
@@ -187,12 +186,12 @@ module _ (z : Sizes) (r : InRange z) (log : List ℕ) (h : List Past) (base L : 
       known : All (Listed z.slots (g ∷ gs)) qs
       known = shown-found z r.words-high r.slots-low s base L
 
-      go : (l : Latest) → latest qs ≡ l → In (found_as z.slots L g) qs → newest_of (latest qs) ≡ newest_by (length g.entries) g.stamp
-      go Nothing e i = absurd (let n : qs ≡ [] = latest-none qs e in elim (subst (In (found_as z.slots L g)) n i) [ ])
-      go (Is q) e i =
+      go : (l : Option Sequence) → latest qs ≡ l → In (found_as z.slots L g) qs → newest_of (latest qs) ≡ newest_by (length g.entries) g.stamp
+      go None e i = absurd (let n : qs ≡ [] = latest-none qs e in elim (subst (In (found_as z.slots L g)) n i) [ ])
+      go (Some q) e i =
           let t = latest-greatest qs q e in
           let k = In-All known t.found in
-          ap newest_of (e ∙ ap Is (sym t.is))
+          ap newest_of (e ∙ ap Some (sym t.is))
           ∙ falls-kind (record { entries = t.by.entries; stamp = t.by.stamp; end = k.end }) f k.among
           (let b : g.stamp ≤ t.by.stamp = rw (sym (ap (λ (s : Sequence). s.stamp) t.is)) at (t.above i) in b)
 

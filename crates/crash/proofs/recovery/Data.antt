@@ -1,4 +1,5 @@
 -- What a transaction's writes say of the words before and after it, and why undoing from b on gives the words below b. Assumes nothing.
+use Rattle.std.specs.Prelude.{Option, Some, None}
 use mathlib.Core.Path.{◌≡◌, refl, ap, ◌∙◌, sym}
 use mathlib.Core.Logic.{◌⊎◌, inl, inr}
 use mathlib.Core.Bool.{Bool, true, false, cond}
@@ -15,8 +16,6 @@ use Rattle.txn.specs.Txn.{applied, run, after}
 use Rattle.txn.specs.inner.TxnLaws.{Chain, chain-nil, chain-cons, run-chain, length-applied}
 use Rattle.txn.specs.declared.Write.{Write}
 use Rattle.lane_log.specs.Log.{Old, Complete, undone_before}
-use Rattle.lane_log.specs.declared.Timestamp.{Timestamp}
-use Rattle.lane_log.specs.declared.Timestamp.TheVariants.{None, At}
 use Rattle.crash.specs.History.{Commit, is_below, replay}
 use Rattle.laws.specs.inner.Members.{In, here, there, in-cases, In-All, All-In}
 use Rattle.lane_log.specs.inner.OrderLaws.{Falling, lowest, above, Sorted, empty, first, is-before, not-self}
@@ -70,7 +69,7 @@ pub data Rising : List Commit → Type 0 where
   last : Rising []
   then : {c : Commit} {cs : List Commit} → All (λ d. c.stamp < d.stamp) cs → Rising cs → Rising (c ∷ cs)
 
-pub length-replay : (W : ℕ) (b : Timestamp) (cs : List Commit) (ws : List ℕ) → length (replay W b cs ws) ≡ length ws
+pub length-replay : (W : ℕ) (b : Option ℕ) (cs : List Commit) (ws : List ℕ) → length (replay W b cs ws) ≡ length ws
 unfolding replay after
 length-replay W b [] ws = refl
 length-replay W b (c ∷ cs) ws = length-replay W b cs _ ∙ go (is_below b c.stamp)
@@ -80,19 +79,19 @@ length-replay W b (c ∷ cs) ws = length-replay W b cs _ ∙ go (is_below b c.st
     go false = refl
 
 -- commits at or above b do not count below b
-pub replay-none : (W b : ℕ) {cs : List Commit} (ws : List ℕ) → All (λ c. b ≤ c.stamp) cs → replay W (At b) cs ws ≡ ws
+pub replay-none : (W b : ℕ) {cs : List Commit} (ws : List ℕ) → All (λ c. b ≤ c.stamp) cs → replay W (Some b) cs ws ≡ ws
 unfolding replay is_below
 replay-none W b ws nil = refl
 replay-none W b ws (more {x = c} h hs) = rw (le-ltb c.stamp b h) (replay-none W b ws hs)
 
 -- below a timestamp above every commit, all count
-pub replay-all : (W top : ℕ) {cs : List Commit} (ws : List ℕ) → All (λ c. c.stamp < top) cs → replay W (At top) cs ws ≡ replay W None cs ws
+pub replay-all : (W top : ℕ) {cs : List Commit} (ws : List ℕ) → All (λ c. c.stamp < top) cs → replay W (Some top) cs ws ≡ replay W None cs ws
 unfolding replay is_below
 replay-all W top ws nil = refl
 replay-all W top ws (more {x = c} h hs) = rw (lt-ltb c.stamp top h) (replay-all W top (after W c.txn ws) hs)
 
 -- one commit more, above the timestamp or not
-pub replay_snoc : (W : ℕ) (b : Timestamp) (cs : List Commit) (c : Commit) (ws : List ℕ)
+pub replay_snoc : (W : ℕ) (b : Option ℕ) (cs : List Commit) (c : Commit) (ws : List ℕ)
     → replay W b (cs ++ (c ∷ [])) ws ≡ cond (is_below b c.stamp) (after W c.txn (replay W b cs ws)) (replay W b cs ws)
 unfolding replay
 replay_snoc W b [] c ws = refl
@@ -110,7 +109,7 @@ module _ (W w : ℕ) where
 
   -- all at or above b
   steady-from : (b s : ℕ) {cs : List Commit} {ws : List ℕ} → Rising cs → All (λ c. b ≤ c.stamp) cs → Untouched b s ws cs
-      → get_or (replay W (At s) cs ws) w 0 ≡ get_or ws w 0
+      → get_or (replay W (Some s) cs ws) w 0 ≡ get_or ws w 0
   unfolding replay is_below
   steady-from b s last nil stop = refl
   steady-from b s (then {c = c} a r) (more h hs) (pass {ws = ws} f u) =
@@ -120,7 +119,7 @@ module _ (W w : ℕ) where
 
   -- then the word is the same below s and below b
   pub steady-replay : (b s : ℕ) {cs : List Commit} {ws : List ℕ} → b ≤ s → Rising cs → Untouched b s ws cs
-      → get_or (replay W (At s) cs ws) w 0 ≡ get_or (replay W (At b) cs ws) w 0
+      → get_or (replay W (Some s) cs ws) w 0 ≡ get_or (replay W (Some b) cs ws) w 0
   unfolding replay is_below
   steady-replay b s l last stop = refl
   steady-replay b s l (then {c = c} a r) (pass {ws = ws} f u) =
@@ -132,7 +131,7 @@ module _ (W w : ℕ) where
 
 -- word w with the commits below s
 unfoldable pub value_below : (W w : ℕ) (start : List ℕ) (cs : List Commit) (s : ℕ) → ℕ
-value_below W w start cs s = get_or (replay W (At s) cs start) w 0
+value_below W w start cs s = get_or (replay W (Some s) cs start) w 0
 
 -- no sequence of qs that is at or above b and below s names word w
 abbrev pub NoneBetween : (w b s : ℕ) → List Complete → Type 0
@@ -220,7 +219,7 @@ module _ (W w b : ℕ) (start : List ℕ) (cs : List Commit) (order : Rising cs)
   unfolding value_below
   final x {rs} u o ctx out =
       split (any_writes rs w)
-      (λ e. firsts_of-ends w (get_or (replay W (At b) cs start) w 0) x
+      (λ e. firsts_of-ends w (get_or (replay W (Some b) cs start) w 0) x
       (each (seq-bound rs).0 (seq-bound rs).1 u.from u.falling u.sorted
       (All-In rs (λ q i. o q (u.found i) (In-All u.from i))) (λ r i l. inl (u.every i l))
       (λ s l k n. ctx s k (λ q i g h. In-All n (u.every i g) h))) e)
@@ -232,7 +231,7 @@ module _ (W w b : ℕ) (start : List ℕ) (cs : List Commit) (order : Rising cs)
       top : ℕ
       top = max b (stamp-bound cs).0
 
-      all : any_writes rs w ≡ false → get_or (replay W None cs start) w 0 ≡ get_or (replay W (At b) cs start) w 0
+      all : any_writes rs w ≡ false → get_or (replay W None cs start) w 0 ≡ get_or (replay W (Some b) cs start) w 0
       all e =
           ap (λ l. get_or l w 0) (sym (replay-all W top start (All-map (λ c h. omega (arith, h)) (stamp-bound cs).1)))
           ∙ steady-replay W w b top (omega arith) order (ctx top (omega arith) (λ q i g h. none e i g))

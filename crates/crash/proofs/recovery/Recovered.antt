@@ -1,4 +1,5 @@
 -- A finished recovery leaves the words below the boundary, if what it finds in the cut cells is right. Assumes nothing.
+use Rattle.std.specs.Prelude.{Some, None}
 use mathlib.Core.Path.{◌≡◌, ◌∙◌}
 use mathlib.Core.Bool.{true}
 use mathlib.Core.List.{List, [], ◌∷◌}
@@ -10,7 +11,6 @@ use Rattle.txn.specs.Txn.{after}
 use Rattle.image.specs.Image.{former_length, data_of}
 use Rattle.image.specs.declared.Sizes.{Sizes}
 use Rattle.lane_log.specs.Log.{Complete}
-use Rattle.lane_log.specs.declared.Timestamp.TheVariants.{None, At}
 use Rattle.recovery.specs.Recovery.{boundary, complete_of, undone}
 use Rattle.crash.specs.History.{Commit, replay}
 use Rattle.laws.specs.inner.Members.{In}
@@ -25,7 +25,7 @@ use Rattle.recovery.specs.inner.FreshLaws.{recovered-words, recovered-none}
 pub record CutAt (z : Sizes) (c start : List ℕ) (cs : List Commit) (b : ℕ) : Type 0 where
   pub size : former_length z ≤ length c
   pub words : length start ≡ z.words
-  pub bound : boundary z c ≡ At b
+  pub bound : boundary z c ≡ Some b
   pub order : Rising cs
   pub olds : (w : ℕ) → w < z.words → (q : Complete) → In q (complete_of z c z.lanes) → b ≤ q.stamp
       → OldIn w (value_below z.words w start cs) (complete_of z c z.lanes) q
@@ -35,14 +35,14 @@ pub record CutAt (z : Sizes) (c start : List ℕ) (cs : List Commit) (b : ℕ) :
   pub rest : (w : ℕ) → w < z.words → NoneFrom w b (complete_of z c z.lanes) → get_or c (1 + w) 0 ≡ get_or (replay z.words None cs start) w 0
 
 module _ (z : Sizes) (c start : List ℕ) (cs : List Commit) (b : ℕ) (k : CutAt z c start cs b) where
-  word : (w : ℕ) → w < z.words → firsts_of (undone z c) w (get_or c (1 + w) 0) ≡ get_or (replay z.words (At b) cs start) w 0
+  word : (w : ℕ) → w < z.words → firsts_of (undone z c) w (get_or c (1 + w) 0) ≡ get_or (replay z.words (Some b) cs start) w 0
   unfolding value_below
   word w h =
       final z.words w b start cs k.order (complete_of z c z.lanes) (get_or c (1 + w) 0) (undone-at z c b k.bound) (k.olds w h) (k.found w h) (k.rest w h)
 
   -- the words that a finished recovery leaves
-  pub recovered-data : data_of z (recovered_image z c) ≡ replay z.words (At b) cs start
-  recovered-data = recovered-words z c k.size (replay z.words (At b) cs start) (length-replay z.words (At b) cs start ∙ k.words) word
+  pub recovered-data : data_of z (recovered_image z c) ≡ replay z.words (Some b) cs start
+  recovered-data = recovered-words z c k.size (replay z.words (Some b) cs start) (length-replay z.words (Some b) cs start ∙ k.words) word
 
 -- ---- with a boundary or without
 pub data Shows (z : Sizes) (c start : List ℕ) (cs : List Commit) : Type 0 where
@@ -89,7 +89,7 @@ word-rest z c start cs b w (same e) n = e
 word-rest z c start cs b w (named q i l t) n = clash (writes q.entries w) t (n q i l)
 
 -- so, in these terms
-pub cut_at : (z : Sizes) (c start : List ℕ) (cs : List Commit) (b : ℕ) → former_length z ≤ length c → length start ≡ z.words → boundary z c ≡ At b → Rising cs
+pub cut_at : (z : Sizes) (c start : List ℕ) (cs : List Commit) (b : ℕ) → former_length z ≤ length c → length start ≡ z.words → boundary z c ≡ Some b → Rising cs
     → ((w : ℕ) → w < z.words → (q : Complete) → In q (complete_of z c z.lanes) → b ≤ q.stamp
     → OldIn w (value_below z.words w start cs) (complete_of z c z.lanes) q)
     → Backed z.words b (complete_of z c z.lanes) start cs

@@ -23,8 +23,8 @@ use Rattle.store.specs.inner.StoreLaws.{first-none}
 use Rattle.recovery.specs.Recovery.{boundary, undo_stores, new_base, torn_in, recovery_stores, recovered_nvm, all_made, Restarted, recovered_by}
 use Rattle.recovery.specs.Recovery.{odd_base, recover_refusal, recover_step, recover_read_refusal, recover_read_step}
 use Rattle.recovery.specs.declared.Finished.{Finished}
-use Rattle.recovery.specs.declared.Recovered.TheVariants as Recovered
-use Rattle.recovery.specs.declared.Recovered.TheVariants.{Refused, Cut}
+use Rattle.recovery.specs.Answers as Recovered
+use Rattle.recovery.specs.Answers.{Refused, Cut}
 use Rattle.crash.specs.Events.{vandzulge, is_former, recovery_of, cut_short_of, fitted}
 use Rattle.crash.specs.Theorem.{end_of, recovery_answer}
 use Rattle.recovery.specs.inner.SequenceLaws.{new_base-even}

@@ -1,10 +1,10 @@
 -- The ties are kept by an append, Log's or Mark's: the new sequence has the old values of the present words, its timestamp is above every commit's, and
 -- refusal 9 leaves the sequences of the commits at or above the least floor whole. Assumes nothing.
+use Rattle.std.specs.Prelude.{Option, Some, None}
 use mathlib.Core.Path.{◌≡◌, refl, ap, ◌∙◌, sym, subst}
 use mathlib.Core.Logic.{◌≢◌, ◌⊎◌, inl, inr}
 use mathlib.Core.Bool.{true, false}
 use mathlib.Core.List.{List, [], ◌++◌, append-nil}
-use mathlib.Core.Option.{Option, none, some}
 use Prim.Native.Nat.{ℕ, ◌+◌, ◌≤◌, ◌<◌}
 use native.Mathlib.Omega.{arith}
 use native.Mathlib.Nat.{le_trans}
@@ -19,13 +19,10 @@ use Rattle.image.specs.Flush.{flushed}
 use Rattle.image.specs.Stores.{Store}
 use Rattle.image.specs.declared.Sizes.{Sizes}
 use Rattle.lane_log.specs.Append.{append_stores}
-use Rattle.lane_log.specs.declared.Timestamp.TheVariants.{At}
-use Rattle.record.specs.Record.{lane_at, cursor_of, is_logged, is_held, appended_lane, with_lane, with_clock}
+use Rattle.record.specs.Record.{lane_at, cursor_of, is_logged, is_held, appended_lane, with_lane, with_clock, Phase}
 use Rattle.record.specs.declared.Record.{Record}
 use Rattle.record.specs.declared.Pair.{Pair}
 use Rattle.record.specs.declared.Logged.{Logged}
-use Rattle.record.specs.declared.Phase.{Phase}
-use Rattle.record.specs.declared.Phase.TheVariants.{Idle, Holds}
 use Rattle.record.specs.declared.Lane.{Lane}
 use Rattle.store.specs.Machine.{Machine}
 use Rattle.store.specs.Calls.{drained, changed, writes_on, appended, marked, logged}
@@ -136,10 +133,10 @@ module _ (z : Sizes) (base : ℕ) (h : History) (m : Machine) (b : Book z base h
     commits-was = append-nil was.commits
 
     -- the words below it are the present ones
-    words-new : words_below z (At stamp) new ≡ data_of z m.cache
+    words-new : words_below z (Some stamp) new ≡ data_of z m.cache
     unfolding words_below present stamped after_drain
     words-new =
-        ap (λ (cs : List Commit). replay z.words (At stamp) cs h.start) commits-new
+        ap (λ (cs : List Commit). replay z.words (Some stamp) cs h.start) commits-new
         ∙ replay-all z.words stamp h.start (All-map (λ c i. omega (arith, i, b.live.clock)) b.upto)
         ∙ sym (words-free z base L k.lane h m b free)
 
@@ -153,19 +150,19 @@ module _ (z : Sizes) (base : ℕ) (h : History) (m : Machine) (b : Book z base h
     unfolding TrueOf words_below
     true-new gs g ws p q c w i x n e =
         ap (λ es. first_old es w x) p ∙ chain_first w x c (ap (λ es. writes es w) (sym p) ∙ e)
-        ∙ ap (λ (vs : List ℕ). get_or vs w 0) (sym (ap (λ (s : ℕ). words_below z (At s) new) q ∙ words-new))
+        ∙ ap (λ (vs : List ℕ). get_or vs w 0) (sym (ap (λ (s : ℕ). words_below z (Some s) new) q ∙ words-new))
 
     old-now : All (TrueOf z.words new (t.ts L).gs) (t.ts L).gs
     old-now = all-onward z was new (onward-stamped L kind held was) given-was now-was
 
   -- what is logged now is what the lane's page has logged
-  pub logged-new : is_held m.state.lock ≡ false → (f : List ℕ) → writes_logged z L (stamped L closing_at (some f) [] was) ≡ writes_on z f m
+  pub logged-new : is_held m.state.lock ≡ false → (f : List ℕ) → writes_logged z L (stamped L closing_at (Some f) [] was) ≡ writes_on z f m
   unfolding writes_on
   logged-new free f =
-      let p = page-stamped L was (rw book.pages k.lane) closing_at (some f) [] in
-      writes-held z (new free closing_at (some f)) L f stamp (ap (λ (p : Page). p.held) p.here)
+      let p = page-stamped L was (rw book.pages k.lane) closing_at (Some f) [] in
+      writes-held z (new free closing_at (Some f)) L f stamp (ap (λ (p : Page). p.held) p.here)
       (ap (λ (p : Page). p.newest) p.here ∙ ap (λ (c : ℕ). closing_at (c + 2)) clock-was)
-      ∙ ap (run z.words f) (words-new free closing_at (some f))
+      ∙ ap (run z.words f) (words-new free closing_at (Some f))
 
   -- ---- one sequence more
   module _ (free : is_held m.state.lock ≡ false) (ws : List Write) (chain : Chain (data_of z m.cache) ws)
@@ -206,7 +203,7 @@ module _ (z : Sizes) (base : ℕ) (h : History) (m : Machine) (b : Book z base h
     free-end = free
 
     -- refusal 9: what is at or above the least floor stays whole
-    stays-whole : (f : ℕ) → least_floor_of was.pages ≡ At f → (g : Seq) → In g (t.ts L).gs → f ≤ g.stamp → Whole z.slots (t.ts L).hist g
+    stays-whole : (f : ℕ) → least_floor_of was.pages ≡ Some f → (g : Seq) → In g (t.ts L).gs → f ≤ g.stamp → Whole z.slots (t.ts L).hist g
         → Whole z.slots ((t.ts L).hist ++ past_of (olds_of ws) stamp) g
     stays-whole f e g i l w =
         lane-stays-whole z L m (t.ts L) t.running.shape (t.running.lanes L k.lane) ws f stamp room.slots
@@ -229,14 +226,14 @@ module _ (z : Sizes) (base : ℕ) (h : History) (m : Machine) (b : Book z base h
               (stays-whole a.stamp a.is g j a.low (room_whole z.slots (drain.ties.to_come L) (t.ts L).hist g w)),
         ))
 
-    module _ (runs : Running z end us) (entries : (x : Logged) → phase ≡ Holds x → olds_of ws ≡ olds_of (writes_logged z L (new free kind held))) where
+    module _ (runs : Running z end us) (entries : (x : Logged) → phase ≡ Some x → olds_of ws ≡ olds_of (writes_logged z L (new free kind held))) where
       moving : Moving z L was (new free kind held) from end drain.ties.ts us drain.ties.to_come (λ M. 0)
       moving =
           let a = lane-appended z L from (le_trans k.lane book.lanes) ws phase redo in
           record {
             track = extended z L m ws stamp (t.ts L);
             tracks = track-on level-tracks (track-to L (extended z L m ws stamp (t.ts L)) t.ts);
-            page = record { held = held; newest = kind (was.clock + 2); floor = floor_or (page_at was L).floor (At (was.clock + 2)) };
+            page = record { held = held; newest = kind (was.clock + 2); floor = floor_or (page_at was L).floor (Some (was.clock + 2)) };
             pages = page-stamped L was (rw book.pages k.lane) kind held [];
             given = was.clock;
             onward = onward-stamped L kind held was;
@@ -270,10 +267,10 @@ module _ (z : Sizes) (base : ℕ) (h : History) (m : Machine) (b : Book z base h
 pub ties-appends : (z : Sizes) (base : ℕ) (m : Machine) (h : History) (L : ℕ) (f : List ℕ)
     → Book z base h m → Ties z base m h → Known z m L → txn_by former max_writes z.words f ≡ true
     → is_logged (lane_at m.state L).phase ≡ false → is_held m.state.lock ≡ false → 0 < length (writes_on z f m) → Room z m L (length (writes_on z f m) + 1)
-    → Ties z base (logged z L (writes_on z f m) (drained z L m)) (stamped L closing_at (some f) [] (after_drain L h))
+    → Ties z base (logged z L (writes_on z f m) (drained z L m)) (stamped L closing_at (Some f) [] (after_drain L h))
 unfolding logged writes_on
 ties-appends z base m h L f b t k ok i free p r =
-    appended-ties z base h m b t L k free (writes_on z f m) chain r _ _ closing_at (some f)
+    appended-ties z base h m b t L k free (writes_on z f m) chain r _ _ closing_at (Some f)
     (λ s. sym (closing-by (length (olds_of (writes_on z f m))) s (omega (arith, length-olds (writes_on z f m)))))
     (running-logs z m t.ts t.running L k.lane (writes_on z f m) p
     (few-writes former max_writes z.words f (data_of z m.cache) ok) (run-low former max_writes z.words f (data_of z m.cache) ok))
@@ -284,9 +281,9 @@ ties-appends z base m h L f b t k ok i free p r =
 
 pub ties-marks : (z : Sizes) (base : ℕ) (m : Machine) (h : History) (L : ℕ) → Book z base h m → Ties z base m h → Known z m L → is_held m.state.lock ≡ false
     → Room z m L 1
-    → Ties z base (marked z L m) (stamped L mark_at none [] (after_drain L h))
+    → Ties z base (marked z L m) (stamped L mark_at None [] (after_drain L h))
 unfolding newest_by olds_of
 ties-marks z base m h L b t k free r =
-    appended-ties z base h m b t L k free [] chain-nil r Idle (lane_at m.state L).redo mark_at none (λ s. refl)
+    appended-ties z base h m b t L k free [] chain-nil r None (lane_at m.state L).redo mark_at None (λ s. refl)
     (running-marks z m t.ts t.running L k.lane (lane_at m.state L).redo)
-    (λ x e. not-held Idle x refl e)
+    (λ x e. not-held None x refl e)

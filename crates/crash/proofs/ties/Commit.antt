@@ -1,10 +1,10 @@
 -- The ties are kept by a Redo and a Validate that commit: the lane's newest sequence takes the commit's timestamp and has the old values of its writes,
 -- and the lane flushes just the words that the sequence names. Assumes nothing.
+use Rattle.std.specs.Prelude.{Some, None}
 use mathlib.Core.Path.{◌≡◌, refl, ap, ap₂, ◌∙◌, sym, subst}
 use mathlib.Core.Logic.{◌≢◌, ◌⊎◌, inl, inr}
 use mathlib.Core.Bool.{true, false, ◌||◌, or-false}
 use mathlib.Core.List.{List, [], ◌∷◌, ◌++◌}
-use mathlib.Core.Option.{none}
 use Prim.Native.Nat.{ℕ, ◌+◌, ◌≤◌, ◌<◌}
 use native.Mathlib.Omega.{arith}
 use native.Mathlib.Nat.{le_trans, le_refl}
@@ -21,10 +21,8 @@ use Rattle.image.specs.Stores.{Store, places}
 use Rattle.image.specs.inner.StoresLaws.{among, places-append, among-append}
 use Rattle.image.specs.declared.Sizes.{Sizes}
 use Rattle.lane_log.specs.Append.{restamp_store}
-use Rattle.lane_log.specs.declared.Timestamp.TheVariants.{At}
 use Rattle.record.specs.Record.{lane_at, idle_lane, drained_lane, is_held, with_lane, with_clock, with_last, pairs_of}
 use Rattle.record.specs.declared.Logged.{Logged}
-use Rattle.record.specs.declared.Phase.TheVariants.{Idle, Holds}
 use Rattle.record.specs.declared.Lane.{Lane}
 use Rattle.store.specs.Machine.{Machine}
 use Rattle.store.specs.Calls.{drained, changed, writes_on, pair_stores, commit_stores, committed, is_stale, redo_pairs, matches}
@@ -80,10 +78,10 @@ commit-named z L ws m w h = among-last (1 + w) (pair_stores (pairs_of (length ws
 
 -- ---- the words below a commit's timestamp are those before it
 pub commit-below : (z : Sizes) (L : ℕ) (f : List ℕ) (h : History) → All (λ c. c.stamp ≤ h.clock) h.commits
-    → words_below z (At (h.clock + 2)) (stamped L closing_at none (f ∷ []) h) ≡ present z h
+    → words_below z (Some (h.clock + 2)) (stamped L closing_at None (f ∷ []) h) ≡ present z h
 unfolding words_below present stamped is_below
 commit-below z L f h u =
-    replay_snoc z.words (At (h.clock + 2)) h.commits (record { stamp = h.clock + 2; txn = f }) h.start
+    replay_snoc z.words (Some (h.clock + 2)) h.commits (record { stamp = h.clock + 2; txn = f }) h.start
     ∙ rw (le-ltb (h.clock + 2) (h.clock + 2) (le_refl (h.clock + 2)))
     (replay-all z.words (h.clock + 2) h.start (All-map (λ c i. omega arith) u))
 
@@ -107,7 +105,7 @@ seal-in c s g (there i) d e = there i
 -- ---- a commit of transaction f by a lane that has just drained: the sequence that it holds names what f writes now
 module _ (z : Sizes) (base : ℕ) (h : History) (m : Machine) (b : Book z base h m) (t : Ties z base m h) (L : ℕ) (lane : L < z.lanes)
     (free : is_held m.state.lock ≡ false) (clear : (w : ℕ) → w < z.words → flushed L (get_or m.flags (1 + w) 0) ≡ false)
-    (x : Logged) (held : (lane_at m.state L).phase ≡ Holds x)
+    (x : Logged) (held : (lane_at m.state L).phase ≡ Some x)
     (f : List ℕ) (ok : txn_by former max_writes z.words f ≡ true) (same : olds_of (writes_on z f m) ≡ olds_of (writes_logged z L h))
     (us : ℕ → Track) (to : TrackTo t.ts us L (restamped_by z L m (h.clock + 2) (t.ts L)))
     (runs : Running z (committed z L (pairs_of (length (writes_on z f m)) (writes_on z f m)) m) us) where
@@ -115,7 +113,7 @@ module _ (z : Sizes) (base : ℕ) (h : History) (m : Machine) (b : Book z base h
   ws = writes_on z f m
 
   abbrev k : History
-  k = stamped L closing_at none (f ∷ []) h
+  k = stamped L closing_at None (f ∷ []) h
 
   abbrev n : Machine
   n = committed z L (pairs_of (length ws) ws) m
@@ -136,7 +134,7 @@ module _ (z : Sizes) (base : ℕ) (h : History) (m : Machine) (b : Book z base h
   unfolding writes_on
   low = run-low former max_writes z.words f (data_of z m.cache) ok
 
-  words-at : words_below z (At (h.clock + 2)) k ≡ data_of z m.cache
+  words-at : words_below z (Some (h.clock + 2)) k ≡ data_of z m.cache
   words-at = commit-below z L f h b.upto ∙ sym (words-free z base L lane h m b free)
 
   -- the sequence is true at the commit's timestamp
@@ -230,8 +228,8 @@ module _ (z : Sizes) (base : ℕ) (h : History) (m : Machine) (b : Book z base h
       record {
         track = restamped_by z L m (h.clock + 2) (t.ts L);
         tracks = to;
-        page = record { held = none; newest = closing_at (h.clock + 2); floor = floor_or (page_at h L).floor (At (h.clock + 2)) };
-        pages = page-stamped L h (rw b.pages lane) closing_at none (f ∷ []);
+        page = record { held = None; newest = closing_at (h.clock + 2); floor = floor_or (page_at h L).floor (Some (h.clock + 2)) };
+        pages = page-stamped L h (rw b.pages lane) closing_at None (f ∷ []);
         given = h.clock;
         onward = onward-commit L f h;
         earlier = earlier-clock z base h m b L;
@@ -239,7 +237,7 @@ module _ (z : Sizes) (base : ℕ) (h : History) (m : Machine) (b : Book z base h
         at_base = base_same;
         phases = λ M d. ap (λ (l : Lane). l.phase) (a.others M d);
         newest = newest-one (h.clock + 2) g it.rest it.some ∙ ap newest_in (sym sealed);
-        entries = λ y e s gs q. not-held Idle y refl (ap (λ (l : Lane). l.phase) (sym a.here) ∙ e);
+        entries = λ y e s gs q. not-held None y refl (ap (λ (l : Lane). l.phase) (sym a.here) ∙ e);
         now = all-now;
         before = all-onward z h k (onward-commit L f h) (given-now z base h m b t L lane) (t.now L lane);
         open' = λ s e. not_first (h.clock + 2) s (t.ts L).gs e;
@@ -282,10 +280,10 @@ restamped-to z L m ts vs c e p q =
     both = track-on (track-to L (levelled z L m (ts L)) ts) (track-to L (restamped_by z L m c (ts L)) ts)
 
 module _ (z : Sizes) (base : ℕ) (m : Machine) (h : History) (L : ℕ) (b : Book z base h m) (t : Ties z base m h) (k : Known z m L) where
-  pub ties-commits : is_held m.state.lock ≡ false → (x : Logged) → (lane_at m.state L).phase ≡ Holds x → (f : List ℕ)
+  pub ties-commits : is_held m.state.lock ≡ false → (x : Logged) → (lane_at m.state L).phase ≡ Some x → (f : List ℕ)
       → txn_by former max_writes z.words f ≡ true
       → olds_of (writes_on z f m) ≡ olds_of (writes_logged z L h)
-      → Ties z base (committed z L (pairs_of (length (writes_on z f m)) (writes_on z f m)) (drained z L m)) (stamped L closing_at none (f ∷ []) (after_drain L h))
+      → Ties z base (committed z L (pairs_of (length (writes_on z f m)) (writes_on z f m)) (drained z L m)) (stamped L closing_at None (f ∷ []) (after_drain L h))
   unfolding drained drained_lane writes_on after_drain with_lane
   ties-commits free x held f ok same =
       let d = drained-ties z base h m b t L k.lane in
@@ -303,7 +301,7 @@ module _ (z : Sizes) (base : ℕ) (m : Machine) (h : History) (L : ℕ) (b : Boo
 
 -- ---- Redo that is not stale, and Validate that matches
 pub ties-redoes : (z : Sizes) (base : ℕ) (m : Machine) (h : History) (L : ℕ) → Book z base h m → Ties z base m h → Known z m L → Ready m L → is_stale L m ≡ false
-    → Ties z base (committed z L (redo_pairs L m) (drained z L m)) (stamped L closing_at none (held_by (page_at h L).held) (after_drain L h))
+    → Ties z base (committed z L (redo_pairs L m) (drained z L m)) (stamped L closing_at None (held_by (page_at h L).held) (after_drain L h))
 ties-redoes z base m h L b t k y e =
     let l = ties-logs z base m h b t in
     let v = holds-it z base h m b l L k.lane y.held in
@@ -314,7 +312,7 @@ ties-redoes z base m h L b t k y e =
 pub ties-validates : (z : Sizes) (base : ℕ) (m : Machine) (h : History) (L : ℕ) (f : List ℕ)
     → Book z base h m → Ties z base m h → Known z m L → txn_by former max_writes z.words f ≡ true
     → Ready m L → matches z L (writes_on z f m) m ≡ true
-    → Ties z base (committed z L (pairs_of (length (writes_on z f m)) (writes_on z f m)) (drained z L m)) (stamped L closing_at none (f ∷ []) (after_drain L h))
+    → Ties z base (committed z L (pairs_of (length (writes_on z f m)) (writes_on z f m)) (drained z L m)) (stamped L closing_at None (f ∷ []) (after_drain L h))
 ties-validates z base m h L f b t k ok y e =
     ties-commits z base m h L b t k y.free _ (is-held (lane_at m.state L).phase y.held) f ok
     (matched z base h m b (ties-logs z base m h b t) L k.lane y.held (writes_on z f m) e)

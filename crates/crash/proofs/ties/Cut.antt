@@ -1,4 +1,5 @@
 -- What the invariant says of the cells when power fails: recovery will find the words below the boundary, which is not below the least floor. Assumes nothing.
+use Rattle.std.specs.Prelude.{Option, Some, None}
 use mathlib.Core.Path.{◌≡◌, refl, ap, ◌∙◌, sym, subst}
 use mathlib.Core.Logic.{◌⊎◌, inl, inr}
 use mathlib.Core.Bool.{true, false}
@@ -16,11 +17,7 @@ use Rattle.image.specs.Image.{former_length, data_of}
 use Rattle.image.specs.inner.ImageLaws.{get_or-data, length-data}
 use Rattle.image.specs.declared.Sizes.{Sizes}
 use Rattle.lane_log.specs.Log.{Old, Complete, complete_in}
-use Rattle.lane_log.specs.declared.Timestamp.{Timestamp}
-use Rattle.lane_log.specs.declared.Timestamp.TheVariants.{None, At}
-use Rattle.record.specs.Record.{is_held}
-use Rattle.record.specs.declared.Lock.{Lock}
-use Rattle.record.specs.declared.Lock.TheVariants.{Free, Held}
+use Rattle.record.specs.Record.{is_held, Lock}
 use Rattle.record.specs.declared.Locked.{Locked}
 use Rattle.store.specs.Machine.{Machine}
 use Rattle.recovery.specs.Recovery.{boundary, complete_of}
@@ -50,17 +47,17 @@ use Rattle.crash.proofs.ties.Ties as ties
 -- ---- commits that are backed one by one are backed in order
 module _ (W b : ℕ) (qs : List Complete) where
   -- the words before a commit are those below its timestamp
-  first-words : (c : Commit) {cs : List Commit} (ws : List ℕ) → All (λ d. c.stamp < d.stamp) cs → replay W (At c.stamp) (c ∷ cs) ws ≡ ws
+  first-words : (c : Commit) {cs : List Commit} (ws : List ℕ) → All (λ d. c.stamp < d.stamp) cs → replay W (Some c.stamp) (c ∷ cs) ws ≡ ws
   unfolding replay is_below
   first-words c ws a = rw (le-ltb c.stamp c.stamp (le_refl c.stamp)) (replay-none W c.stamp ws (All-map (λ d h. omega arith) a))
 
   later-words : (c d : Commit) (cs : List Commit) (ws : List ℕ) → c.stamp < d.stamp
-      → replay W (At d.stamp) (c ∷ cs) ws ≡ replay W (At d.stamp) cs (after W c.txn ws)
+      → replay W (Some d.stamp) (c ∷ cs) ws ≡ replay W (Some d.stamp) cs (after W c.txn ws)
   unfolding replay is_below
   later-words c d cs ws h = rw (lt-ltb c.stamp d.stamp h)
 
   backed-all : {cs : List Commit} (ws : List ℕ) → Rising cs
-      → ((c : Commit) → In c cs → b ≤ c.stamp → (w : ℕ) → w < W → txn_writes W w c.txn (replay W (At c.stamp) cs ws) ≡ true → Backing W b qs c w)
+      → ((c : Commit) → In c cs → b ≤ c.stamp → (w : ℕ) → w < W → txn_writes W w c.txn (replay W (Some c.stamp) cs ws) ≡ true → Backing W b qs c w)
       → Backed W b qs ws cs
   backed-all ws last f = finish
   backed-all ws (then {c = c} {cs = cs} a r) f =
@@ -77,7 +74,7 @@ pub record Made (z : Sizes) (m : Machine) (ts : ℕ → Track) (w : ℕ) : Type 
   pub stamp : by.stamp ≡ m.state.clock
   pub named : writes by.entries w ≡ true
 
-free-now : (l : Lock) → l ≡ Free → is_held l ≡ false
+free-now : (l : Lock) → l ≡ None → is_held l ≡ false
 unfolding is_held
 free-now l e = rw e
 
@@ -101,7 +98,7 @@ module _ (z : Sizes) (base : ℕ) (m : Machine) (h : History) (k : Book z base h
       from : (ws : List ℕ) → data_of z m.cache ≡ ws → get_or m.cache (1 + w) 0 ≡ get_or ws w 0
       from ws e = sym (get_or-data z m.cache w l) ∙ ap (λ (ws : List ℕ). get_or ws w 0) e
 
-      made : (x : Locked) (e : m.state.lock ≡ Held x) → writes (olds_of (take x.written (its_writes z base h m k x e))) w ≡ true → Made z m v.ts w
+      made : (x : Locked) (e : m.state.lock ≡ Some x) → writes (olds_of (take x.written (its_writes z base h m k x e))) w ≡ true → Made z m v.ts w
       made x e n =
           let y = k.locking x e in
           let p = (v.lock x e y.txn y.holder).written w n in
@@ -116,8 +113,8 @@ module _ (z : Sizes) (base : ℕ) (m : Machine) (h : History) (k : Book z base h
           }
 
       go : (y : Lock) → m.state.lock ≡ y → (get_or m.cache (1 + w) 0 ≡ get_or (replay z.words None h.commits h.start) w 0) ⊎ Made z m v.ts w
-      go Free e = inl (from _ (words-now z base h m k (free-now m.state.lock e)))
-      go (Held x) e =
+      go None e = inl (from _ (words-now z base h m k (free-now m.state.lock e)))
+      go (Some x) e =
           split (writes (olds_of (take x.written (its_writes z base h m k x e))) w)
           (λ n. inr (made x e n))
           (λ n. inl (from _ (words-held z base h m k x e) ∙ applied-stays w (present z h) _ n ∙ all-words z h w))
@@ -155,12 +152,12 @@ module _ (z : Sizes) (base : ℕ) (m : Machine) (h : History) (k : Book z base h
       (λ w l. let i : w < z.words = omega (arith, length-data z m.nvm size) in get_or-data z m.nvm w i ∙ all_same e w i))
 
   -- ---- a boundary
-  module _ (b : ℕ) (bound : boundary z m.nvm ≡ At b) where
+  module _ (b : ℕ) (bound : boundary z m.nvm ≡ Some b) where
     -- the boundary is not below the least floor
-    least : (f : Timestamp) → least_floor_of h.pages ≡ f → NotBelow f (boundary z m.nvm) → (a : ℕ) × (least_floor_of h.pages ≡ At a) × (a ≤ b)
+    least : (f : Option ℕ) → least_floor_of h.pages ≡ f → NotBelow f (boundary z m.nvm) → (a : ℕ) × (least_floor_of h.pages ≡ Some a) × (a ≤ b)
     least f e n = go f (boundary z m.nvm) e bound n
       where
-        go : (f c : Timestamp) → least_floor_of h.pages ≡ f → c ≡ At b → NotBelow f c → (a : ℕ) × (least_floor_of h.pages ≡ At a) × (a ≤ b)
+        go : (f c : Option ℕ) → least_floor_of h.pages ≡ f → c ≡ Some b → NotBelow f c → (a : ℕ) × (least_floor_of h.pages ≡ Some a) × (a ≤ b)
         go f c e q no_boundary = absurd (let x : ◌≡◌ {A = ℕ} 0 1 = cc in omega arith)
         go f c e q (at_least {f = a} {b = d} l) = (a, e, let x : d ≡ b = cc in omega arith)
 
@@ -204,7 +201,7 @@ module _ (z : Sizes) (base : ℕ) (m : Machine) (h : History) (k : Book z base h
 
     -- a word that a commit at or above the boundary writes is named by a sequence among those found
     backing : (c : Commit) → In c h.commits → b ≤ c.stamp → (w : ℕ) → w < z.words
-        → txn_writes z.words w c.txn (replay z.words (At c.stamp) h.commits h.start) ≡ true → Backing z.words b (complete_of z m.nvm z.lanes) c w
+        → txn_writes z.words w c.txn (replay z.words (Some c.stamp) h.commits h.start) ≡ true → Backing z.words b (complete_of z m.nvm z.lanes) c w
     unfolding ties.Backed
     backing c i l w n t =
         let a = least (least_floor_of h.pages) refl floors in
@@ -257,9 +254,9 @@ module _ (z : Sizes) (base : ℕ) (m : Machine) (h : History) (k : Book z base h
   shows : Shows z m.nvm h.start h.commits
   shows = go (boundary z m.nvm) refl
     where
-      go : (c : Timestamp) → boundary z m.nvm ≡ c → Shows z m.nvm h.start h.commits
+      go : (c : Option ℕ) → boundary z m.nvm ≡ c → Shows z m.nvm h.start h.commits
       go None e = no-boundary e
-      go (At b) e = a-boundary b e
+      go (Some b) e = a-boundary b e
 
   pub ties-cut : AtCut z m.nvm h
   ties-cut =

@@ -1,10 +1,10 @@
 -- The ties are kept by a drain and by a Validate that gives up: flushed data words reach non-volatile memory, the lane's floor rises to its newest
 -- timestamp or ends, and no sequence changes. Assumes nothing.
+use Rattle.std.specs.Prelude.{Option, Some, None}
 use mathlib.Core.Path.{◌≡◌, refl, ap, ◌∙◌, sym, subst}
 use mathlib.Core.Logic.{◌⊎◌, inl, inr}
 use mathlib.Core.Bool.{true, false}
 use mathlib.Core.List.{List, ◌∷◌}
-use mathlib.Core.Option.{none, some}
 use Prim.Native.Nat.{ℕ, ◌+◌, ◌<◌}
 use native.Mathlib.Omega.{arith}
 use native.Mathlib.Nat.{le_trans, le_refl}
@@ -14,11 +14,8 @@ use Rattle.laws.specs.inner.Tests.{clash}
 use Rattle.txn.specs.Txn.{max_writes, former, txn_by}
 use Rattle.txn.specs.declared.Write.{Write}
 use Rattle.image.specs.declared.Sizes.{Sizes}
-use Rattle.lane_log.specs.declared.Timestamp.{Timestamp}
 use Rattle.record.specs.Record.{lane_at, drained_lane, idle_lane, is_held, with_lane}
 use Rattle.record.specs.declared.Locked.{Locked}
-use Rattle.record.specs.declared.Lock.TheVariants.{Held}
-use Rattle.record.specs.declared.Phase.TheVariants.{Idle, Holds}
 use Rattle.record.specs.declared.Lane.{Lane}
 use Rattle.store.specs.Machine.{Machine}
 use Rattle.store.specs.Calls.{drained, matches, writes_on}
@@ -44,7 +41,7 @@ use Rattle.crash.proofs.ties.Laws.{AtMost, not_none, at_most, track-to, cells-dr
 use Rattle.crash.proofs.ties.Laws.{all-onward, logged-onward, given-now, given-before, Moving, TiesOf, ties-moved}
 
 -- ---- a lane's floor
-not-below : {f b : Timestamp} → NotBelow f b → (x : ℕ) → AtMost b x → AtMost f x
+not-below : {f b : Option ℕ} → NotBelow f b → (x : ℕ) → AtMost b x → AtMost f x
 not-below no_boundary x a = not_none a
 not-below (at_least {f = f} {b = b} l) x a = record { stamp = f; is = refl; low = let k = at_most b x a in omega arith }
 
@@ -82,7 +79,7 @@ module _ (z : Sizes) (base : ℕ) (h : History) (m : Machine) (b : Book z base h
         few = v.few;
       }
 
-  lock-drains : (x : Locked) → (drained z L m).state.lock ≡ Held x → (f : List ℕ) → (after_drain L h).lock ≡ some (holder_of x f)
+  lock-drains : (x : Locked) → (drained z L m).state.lock ≡ Some x → (f : List ℕ) → (after_drain L h).lock ≡ Some (holder_of x f)
       → LockTies z.slots (after x.lane) (t.to_come x.lane) x (all_writes z f (after_drain L h))
   unfolding drained with_lane after_drain all_writes present words_below
   lock-drains x e f q =
@@ -114,7 +111,7 @@ module _ (z : Sizes) (base : ℕ) (h : History) (m : Machine) (b : Book z base h
         phases = λ M d. ap (λ (l : Lane). l.phase) (a.others M d);
         newest = t.newest L lane;
         entries = λ x e g gs q.
-            let f : (lane_at m.state L).phase ≡ Holds x = ap (λ (l : Lane). l.phase) (sym a.here) ∙ e in
+            let f : (lane_at m.state L).phase ≡ Some x = ap (λ (l : Lane). l.phase) (sym a.here) ∙ e in
             t.entries L lane x f g gs q
             ∙ ap olds_of (sym (logged-onward z h (after_drain L h) (onward-drained L h) base m L x (b.holding L x lane f)
             (ap (λ (p : Page). p.held) p.here) (ap (λ (p : Page). p.newest) p.here)));
@@ -150,7 +147,7 @@ module _ (z : Sizes) (base : ℕ) (h : History) (m : Machine) (b : Book z base h
       record {
         track = t.ts L;
         tracks = record { here = refl; others = λ M d. refl };
-        page = record { held = none; newest = (page_at h L).newest; floor = (page_at h L).floor };
+        page = record { held = None; newest = (page_at h L).newest; floor = (page_at h L).floor };
         pages = page-released L h (rw b.pages lane);
         given = h.clock;
         onward = o;
@@ -159,7 +156,7 @@ module _ (z : Sizes) (base : ℕ) (h : History) (m : Machine) (b : Book z base h
         at_base = refl;
         phases = λ M d. ap (λ (l : Lane). l.phase) (a.others M d);
         newest = t.newest L lane;
-        entries = λ x e g gs q. not-held Idle x refl (ap (λ (l : Lane). l.phase) (sym a.here) ∙ e);
+        entries = λ x e g gs q. not-held None x refl (ap (λ (l : Lane). l.phase) (sym a.here) ∙ e);
         now = all-onward z h (released L h) o (given-now z base h m b t L lane) (t.now L lane);
         before = all-onward z h (released L h) o (given-before z base h m b t L lane) (t.before L lane);
         open' = λ g e. t.open' L lane g e;

@@ -1,10 +1,10 @@
 -- Laws of the ties: the least floor as floors rise, sequences and commits as the history goes on, data words and their flags under each change of
 -- memory; and what a call of one lane has to show so that they are kept, `Moving`. Assumes nothing.
+use Rattle.std.specs.Prelude.{Option, Some, None}
 use mathlib.Core.Path.{◌≡◌, refl, ap, ◌∙◌, sym, subst}
 use mathlib.Core.Logic.{◌≢◌, ◌⊎◌, inl, inr}
 use mathlib.Core.Bool.{Bool, true, false, cond, ◌||◌}
 use mathlib.Core.List.{List, [], ◌∷◌}
-use mathlib.Core.Option.{some}
 use Prim.Native.Nat.{ℕ, zero, suc, ◌+◌, ◌≤◌, ◌<◌, min}
 use native.Mathlib.Omega.{arith}
 use native.Mathlib.Nat.{le_of_suc-le-suc, zero-lt-suc}
@@ -22,13 +22,9 @@ use Rattle.image.specs.inner.FlushLaws.{flush_all-keeps, get_or-written_back, ge
 use Rattle.image.specs.Stores.{Store, stored, places}
 use Rattle.image.specs.inner.StoresLaws.{among, last_at-none, get_or-stored}
 use Rattle.image.specs.declared.Sizes.{Sizes}
-use Rattle.lane_log.specs.declared.Timestamp.{Timestamp}
-use Rattle.lane_log.specs.declared.Timestamp.TheVariants.{None, At}
 use Rattle.record.specs.Record.{lane_at, lesser}
 use Rattle.record.specs.declared.Locked.{Locked}
-use Rattle.record.specs.declared.Lock.TheVariants.{Held}
 use Rattle.record.specs.declared.Logged.{Logged}
-use Rattle.record.specs.declared.Phase.TheVariants.{Holds}
 use Rattle.record.specs.declared.Record.{Record}
 use Rattle.store.specs.Machine.{Machine}
 use Rattle.store.specs.Calls.{drained, changed}
@@ -50,38 +46,38 @@ use Rattle.crash.proofs.ties.Ties.{TrueOf, Names, Flushes, Backed, LockTies, Tie
 
 -- ---- floors
 -- a timestamp that is one, and not above x
-pub record AtMost (t : Timestamp) (x : ℕ) : Type 0 where
+pub record AtMost (t : Option ℕ) (x : ℕ) : Type 0 where
   pub stamp : ℕ
-  pub is : t ≡ At stamp
+  pub is : t ≡ Some stamp
   pub low : stamp ≤ x
 
 pub not_none : {A : Type 0} {x : ℕ} → AtMost None x → A
 not_none a = absurd (let e = a.is in let z : ◌≡◌ {A = ℕ} 0 1 = cc in omega arith)
 
-pub at_most : (s x : ℕ) → AtMost (At s) x → s ≤ x
+pub at_most : (s x : ℕ) → AtMost (Some s) x → s ≤ x
 at_most s x a = let e = a.is in let d : s ≡ a.stamp = cc in omega (arith, a.low)
 
-pub lesser-cases : (s t : Timestamp) (x : ℕ) → AtMost (lesser s t) x → (AtMost s x) ⊎ (AtMost t x)
+pub lesser-cases : (s t : Option ℕ) (x : ℕ) → AtMost (lesser s t) x → (AtMost s x) ⊎ (AtMost t x)
 unfolding lesser
 lesser-cases None t x a = inr a
-lesser-cases (At s) None x a = inl a
-lesser-cases (At s) (At t) x a =
+lesser-cases (Some s) None x a = inl a
+lesser-cases (Some s) (Some t) x a =
     let l : min s t ≤ x = at_most (min s t) x a in
     split (leb s t)
     (λ e. inl (record { stamp = s; is = refl; low = omega (arith, leb-true s t e) }))
     (λ e. inr (record { stamp = t; is = refl; low = omega (arith, leb-false s t e) }))
 
-pub lesser-left : (s t : Timestamp) (x : ℕ) → AtMost s x → AtMost (lesser s t) x
+pub lesser-left : (s t : Option ℕ) (x : ℕ) → AtMost s x → AtMost (lesser s t) x
 unfolding lesser
 lesser-left None t x a = not_none a
-lesser-left (At s) None x a = a
-lesser-left (At s) (At t) x a = record { stamp = min s t; is = refl; low = omega (arith, at_most s x a) }
+lesser-left (Some s) None x a = a
+lesser-left (Some s) (Some t) x a = record { stamp = min s t; is = refl; low = omega (arith, at_most s x a) }
 
-pub lesser-right : (s t : Timestamp) (x : ℕ) → AtMost t x → AtMost (lesser s t) x
+pub lesser-right : (s t : Option ℕ) (x : ℕ) → AtMost t x → AtMost (lesser s t) x
 unfolding lesser
 lesser-right None t x a = a
-lesser-right (At s) None x a = not_none a
-lesser-right (At s) (At t) x a = record { stamp = min s t; is = refl; low = omega (arith, at_most t x a) }
+lesser-right (Some s) None x a = not_none a
+lesser-right (Some s) (Some t) x a = record { stamp = min s t; is = refl; low = omega (arith, at_most t x a) }
 
 -- some page's floor is not above x
 pub record LowFloor (ps : List Page) (x : ℕ) : Type 0 where
@@ -116,10 +112,10 @@ least-rises h k x e f a =
     least-low h.pages x l.lane (omega (arith, l.below)) (f l.lane l.floor)
 
 -- a floor that a new timestamp leaves or sets: below that timestamp it is the old one
-pub floor-first : (f : Timestamp) (s x : ℕ) → x < s → AtMost (floor_or f (At s)) x → AtMost f x
+pub floor-first : (f : Option ℕ) (s x : ℕ) → x < s → AtMost (floor_or f (Some s)) x → AtMost f x
 unfolding floor_or
 floor-first None s x l a = absurd (let k = at_most s x a in omega arith)
-floor-first (At f) s x l a = a
+floor-first (Some f) s x l a = a
 
 -- ---- one lane's ghosts
 pub record TrackTo (ts us : ℕ → Track) (L : ℕ) (t : Track) : Type 0 where
@@ -272,12 +268,12 @@ module _ (z : Sizes) (h k : History) {given : ℕ} (o : Onward given h k) where
       record { lane = n.lane; low = n.low; by = n.by; among = stays n.lane n.by n.among n.stamp; stamp = n.stamp; named = n.named }
 
 -- the newest timestamp is that of the first
-stamp-by : (n s : ℕ) → newest_stamp (newest_by n s) ≡ At s
+stamp-by : (n s : ℕ) → newest_stamp (newest_by n s) ≡ Some s
 unfolding newest_stamp newest_by
 stamp-by zero s = refl
 stamp-by (suc n) s = refl
 
-pub stamp-first : (g : Seq) {gs : List Seq} (rest : List Seq) → gs ≡ g ∷ rest → newest_stamp (newest_in gs) ≡ At g.stamp
+pub stamp-first : (g : Seq) {gs : List Seq} (rest : List Seq) → gs ≡ g ∷ rest → newest_stamp (newest_in gs) ≡ Some g.stamp
 unfolding newest_in
 stamp-first g rest e = rw e (stamp-by (length g.entries) g.stamp)
 
@@ -296,7 +292,7 @@ pub record Moving (z : Sizes) (L : ℕ) (h k : History) (m n : Machine) (ts us :
   pub at_base : base_of n.cache ≡ base_of m.cache
   pub phases : (M : ℕ) → M ≢ L → (lane_at n.state M).phase ≡ (lane_at m.state M).phase
   pub newest : page.newest ≡ newest_in track.gs
-  pub entries : (x : Logged) → (lane_at n.state L).phase ≡ Holds x → (g : Seq) (gs : List Seq) → track.gs ≡ g ∷ gs → g.entries ≡ olds_of (writes_logged z L k)
+  pub entries : (x : Logged) → (lane_at n.state L).phase ≡ Some x → (g : Seq) (gs : List Seq) → track.gs ≡ g ∷ gs → g.entries ≡ olds_of (writes_logged z L k)
   pub now : All (TrueOf z.words k track.gs) track.gs
   pub before : All (TrueOf z.words k track.priors) track.priors
   pub open' : (g : Seq) → track.gs ≡ g ∷ track.priors → All (λ c. c.stamp ≢ g.stamp) k.commits
@@ -315,7 +311,7 @@ pub record Moving (z : Sizes) (L : ℕ) (h k : History) (m n : Machine) (ts us :
       → RoomFor z.slots (left L) track.hist g))
       ⊎ (RoomFor z.slots (left L) track.hist g)
   pub fresh : (c : Commit) → In c k.commits → (In c h.commits) ⊎ Backed z k us c
-  pub lock : (x : Locked) → n.state.lock ≡ Held x → (f : List ℕ) → k.lock ≡ some (holder_of x f)
+  pub lock : (x : Locked) → n.state.lock ≡ Some x → (f : List ℕ) → k.lock ≡ Some (holder_of x f)
       → LockTies z.slots (us x.lane) (left x.lane) x (all_writes z f k)
 
 -- the timestamps of a lane's sequences were given
@@ -365,7 +361,7 @@ module _ (z : Sizes) (base L : ℕ) (h k : History) (m n : Machine) (b : Book z 
       (c, t.room M i c.stamp c.is g j c.low)
 
   abbrev Rooms : ℕ → Type 0
-  Rooms M = M < z.lanes → (f : ℕ) → least_floor_of k.pages ≡ At f → (g : Seq) → In g (us M).gs → f ≤ g.stamp → RoomFor z.slots (left M) (us M).hist g
+  Rooms M = M < z.lanes → (f : ℕ) → least_floor_of k.pages ≡ Some f → (g : Seq) → In g (us M).gs → f ≤ g.stamp → RoomFor z.slots (left M) (us M).hist g
 
   room-new : (M : ℕ) → Rooms M
   room-new =
@@ -396,11 +392,11 @@ module _ (z : Sizes) (base L : ℕ) (h k : History) (m n : Machine) (b : Book z 
             (λ i. rw (v.pages.here, v.tracks.here) v.newest)
             (λ M d i. rw (v.pages.others M d, v.tracks.others M d) (t.newest M i));
         entries = lane-cases
-            (λ M. M < z.lanes → (x : Logged) → (lane_at n.state M).phase ≡ Holds x → (g : Seq) (gs : List Seq) → (us M).gs ≡ g ∷ gs
+            (λ M. M < z.lanes → (x : Logged) → (lane_at n.state M).phase ≡ Some x → (g : Seq) (gs : List Seq) → (us M).gs ≡ g ∷ gs
             → g.entries ≡ olds_of (writes_logged z M k)) L
             (λ i x p g gs e. v.entries x p g gs (ap (λ (t : Track). t.gs) (sym v.tracks.here) ∙ e))
             (λ M d i x p g gs e.
-            let q : (lane_at m.state M).phase ≡ Holds x = sym (v.phases M d) ∙ p in
+            let q : (lane_at m.state M).phase ≡ Some x = sym (v.phases M d) ∙ p in
             let r = v.pages.others M d in
             t.entries M i x q g gs (ap (λ (t : Track). t.gs) (sym (v.tracks.others M d)) ∙ e)
             ∙ ap olds_of

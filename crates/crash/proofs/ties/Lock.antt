@@ -1,5 +1,6 @@
 -- The ties are kept where the lock is taken: nothing is appended, and refusal 9 leaves room for all slots that are counted for the transaction. Assumes
 -- nothing.
+use Rattle.std.specs.Prelude.{Some}
 use mathlib.Core.Path.{◌≡◌, refl, ◌∙◌, sym, subst}
 use mathlib.Core.Logic.{◌≢◌, ◌⊎◌, inl, inr}
 use mathlib.Core.Bool.{true, false, cond}
@@ -19,7 +20,6 @@ use Rattle.image.specs.Flush.{flush_all}
 use Rattle.image.specs.Stores.{stored, places}
 use Rattle.image.specs.declared.Sizes.{Sizes}
 use Rattle.record.specs.Record.{lane_at, is_logged, is_held, with_clock, with_lock}
-use Rattle.record.specs.declared.Lock.TheVariants.{Held}
 use Rattle.record.specs.declared.Locked.{Locked}
 use Rattle.store.specs.Machine.{Machine}
 use Rattle.store.specs.Calls.{drained, changed, writes_on}
@@ -59,7 +59,7 @@ unfolding only
 only-others L n M d = rw (ne_eqb L M (λ e. d (sym e)))
 
 -- of a lock that is held as k says, what is claimed of k is claimed of any that it is
-pub locked-as : (P : Locked → Type 0) {k x : Locked} → Held k ≡ Held x → P k → P x
+pub locked-as : (P : Locked → Type 0) {k x : Locked} → Some k ≡ Some x → P k → P x
 locked-as P {k} {x} e v = let q : k ≡ x = cc in subst P q v
 
 -- the slots counted are enough for the writes that come

@@ -1,10 +1,10 @@
 -- The ties are kept where a part of the transaction that holds the lock is logged: it has the lock's timestamp, and old values that are those below the
 -- timestamp but for words that an earlier part names. Assumes nothing.
+use Rattle.std.specs.Prelude.{Some, None}
 use mathlib.Core.Path.{◌≡◌, refl, ap, ◌∙◌, sym, subst}
 use mathlib.Core.Logic.{◌≢◌, ◌⊎◌, inl, inr}
 use mathlib.Core.Bool.{Bool, true, false, ◌||◌}
 use mathlib.Core.List.{List, [], ◌∷◌, ◌++◌}
-use mathlib.Core.Option.{some}
 use Prim.Native.Nat.{ℕ, zero, suc, ◌+◌, ◌-◌, ◌≤◌, ◌<◌}
 use native.Mathlib.Omega.{arith}
 use native.Mathlib.Nat.{le_trans, le_refl, zero-lt-suc}
@@ -20,12 +20,9 @@ use Rattle.txn.specs.declared.Write.{Write}
 use Rattle.image.specs.Image.{base_of, data_of}
 use Rattle.image.specs.declared.Sizes.{Sizes}
 use Rattle.lane_log.specs.Append.{advance}
-use Rattle.lane_log.specs.declared.Timestamp.TheVariants.{At}
 use Rattle.record.specs.Record.{lane_at, cursor_of, part_length, appended_lane, with_lane, with_lock}
 use Rattle.record.specs.declared.Pair.{Pair}
-use Rattle.record.specs.declared.Phase.TheVariants.{Idle}
 use Rattle.record.specs.declared.Lane.{Lane}
-use Rattle.record.specs.declared.Lock.TheVariants.{Held}
 use Rattle.record.specs.declared.Locked.{Locked}
 use Rattle.record.specs.declared.Record.{Record}
 use Rattle.store.specs.Machine.{Machine}
@@ -61,7 +58,7 @@ under_low f (below l) = omega arith
 under_low f (level e p q) = omega arith
 
 -- all are below it where the newest is
-all-below : (s : ℕ) {gs : List Seq} → Falls gs → ((r : ℕ) → newest_stamp (newest_in gs) ≡ At r → r < s) → All (λ g. g.stamp < s) gs
+all-below : (s : ℕ) {gs : List Seq} → Falls gs → ((r : ℕ) → newest_stamp (newest_in gs) ≡ Some r → r < s) → All (λ g. g.stamp < s) gs
 all-below s bottom f = nil
 all-below s (onto {g = g} {gs = gs} a h) f =
     let l = f g.stamp (stamp-first g gs refl) in
@@ -108,8 +105,8 @@ slots-part k x n e t l c d = omega arith
 
 -- ---- after the drain of the lane that holds the lock
 module _ (z : Sizes) (base : ℕ) (m : Machine) (h : History) (k : Locked) (b : Book z base h m) (t : Ties z base m h) (known : Known z m k.lane)
-    (e : m.state.lock ≡ Held k) where
-  pub lock-was : (from z base h m b t k.lane known).state.lock ≡ Held k
+    (e : m.state.lock ≡ Some k) where
+  pub lock-was : (from z base h m b t k.lane known).state.lock ≡ Some k
   unfolding drained with_lane
   lock-was = e
 
@@ -124,7 +121,7 @@ module _ (z : Sizes) (base : ℕ) (m : Machine) (h : History) (k : Locked) (b : 
 
 -- ---- a part is logged
 module _ (z : Sizes) (base : ℕ) (m : Machine) (h : History) (k : Locked) (b : Book z base h m) (t : Ties z base m h) (known : Known z m k.lane)
-    (e : m.state.lock ≡ Held k) (all-written : k.logged ≡ k.written) where
+    (e : m.state.lock ≡ Some k) (all-written : k.logged ≡ k.written) where
   abbrev L : ℕ
   L = k.lane
 
@@ -184,15 +181,15 @@ module _ (z : Sizes) (base : ℕ) (m : Machine) (h : History) (k : Locked) (b : 
   abbrev its-lane : Lane
   its-lane =
       let l = lane_at m₁.state L in
-      appended_lane s (advance z.slots (length ws + 1) (cursor_of l)) Idle l.redo l
+      appended_lane s (advance z.slots (length ws + 1) (cursor_of l)) None l.redo l
 
   abbrev r : Record
-  r = with_lane (with_lock m₁.state (Held held)) L its-lane
+  r = with_lane (with_lock m₁.state (Some held)) L its-lane
 
   lanes : LaneTo m₁.state r L its-lane
   unfolding with_lock lane_at
   lanes =
-      let a = lane-to (with_lock m₁.state (Held held)) L its-lane (le_trans known.lane b₁.lanes) in
+      let a = lane-to (with_lock m₁.state (Some held)) L its-lane (le_trans known.lane b₁.lanes) in
       record { here = a.here; others = a.others; lanes = a.lanes }
 
   abbrev to : Machine
@@ -240,7 +237,7 @@ module _ (z : Sizes) (base : ℕ) (m : Machine) (h : History) (k : Locked) (b : 
   running : Running z to us
   unfolding drained with_lane with_lock
   running =
-      running-extends z m t.ts t.running L known.lane ws few-part low_part Idle (lane_at m₁.state L).redo s r stamping
+      running-extends z m t.ts t.running L known.lane ws few-part low_part None (lane_at m₁.state L).redo s r stamping
       t.running.shape.clock lanes idle
 
   onward : Onward h₁.clock h₁ new
@@ -248,7 +245,7 @@ module _ (z : Sizes) (base : ℕ) (m : Machine) (h : History) (k : Locked) (b : 
   onward = onward-same h₁ new refl refl (le_refl h₁.clock) refl
 
   -- the words below it are those of all commits
-  words-at : (w : ℕ) → get_or (present z h) w 0 ≡ get_or (replay z.words (At s) new.commits new.start) w 0
+  words-at : (w : ℕ) → get_or (present z h) w 0 ≡ get_or (replay z.words (Some s) new.commits new.start) w 0
   unfolding present words_below part_logged after_drain
   words-at w = ap (λ (ws : List ℕ). get_or ws w 0) (sym (replay-all z.words s h.start it.commits))
 
@@ -285,7 +282,7 @@ module _ (z : Sizes) (base : ℕ) (m : Machine) (h : History) (k : Locked) (b : 
 
   -- ---- floors
   abbrev page : Page
-  page = let p = page_at h₁ L in record { held = p.held; newest = closing_at s; floor = floor_or p.floor (At s) }
+  page = let p = page_at h₁ L in record { held = p.held; newest = closing_at s; floor = floor_or p.floor (Some s) }
 
   pages : PageTo h₁ new L page
   unfolding part_logged holder_of page_at
@@ -298,7 +295,7 @@ module _ (z : Sizes) (base : ℕ) (m : Machine) (h : History) (k : Locked) (b : 
       }
 
   -- once a part is logged the lane has a floor
-  floor-some : 0 < k.logged → (page_at h₁ L).floor ≡ At s
+  floor-some : 0 < k.logged → (page_at h₁ L).floor ≡ Some s
   unfolding floor_on_drain
   floor-some l =
       ap (λ (p : Page). p.floor) (page-drained L h (rw b.pages known.lane)).here
@@ -313,7 +310,7 @@ module _ (z : Sizes) (base : ℕ) (m : Machine) (h : History) (k : Locked) (b : 
         | no d ↦ it₁.others M r i d (ap newest_stamp (t₁.newest M i) ∙ p)
       ])
 
-  floor-kept : (M : ℕ) → M < z.lanes → (f : Seq) → In f (t₁.ts M).gs → AtMost (floor_or (page_at h₁ L).floor (At s)) f.stamp
+  floor-kept : (M : ℕ) → M < z.lanes → (f : Seq) → In f (t₁.ts M).gs → AtMost (floor_or (page_at h₁ L).floor (Some s)) f.stamp
       → AtMost (page_at h₁ L).floor f.stamp
   unfolding floor_or
   floor-kept M i f j a =
@@ -372,11 +369,11 @@ module _ (z : Sizes) (base : ℕ) (m : Machine) (h : History) (k : Locked) (b : 
           record { by = p.by; among = there p.among; stamp = p.stamp; named = p.named }
       logged w (inr y) = record { by = g; among = here; stamp = refl; named = y }
 
-  lock-to : to.state.lock ≡ Held held
+  lock-to : to.state.lock ≡ Some held
   unfolding changed with_lane with_lock
   lock-to = refl
 
-  same-txn : (f : List ℕ) → new.lock ≡ some (holder_of held f) → f ≡ it.txn
+  same-txn : (f : List ℕ) → new.lock ≡ Some (holder_of held f) → f ≡ it.txn
   unfolding part_logged holder_of
   same-txn f q = sym (ap txn-in q)
 
@@ -384,10 +381,10 @@ module _ (z : Sizes) (base : ℕ) (m : Machine) (h : History) (k : Locked) (b : 
   unfolding all_writes present words_below part_logged after_drain
   same-all f q = ap (λ (f : List ℕ). all_writes z f h) (sym q)
 
-  lock_new : (x : Locked) → to.state.lock ≡ Held x → (f : List ℕ) → new.lock ≡ some (holder_of x f)
+  lock_new : (x : Locked) → to.state.lock ≡ Some x → (f : List ℕ) → new.lock ≡ Some (holder_of x f)
       → LockTies z.slots (us x.lane) (left x.lane) x (all_writes z f new)
   lock_new x y =
-      locked-as (λ (x : Locked). (f : List ℕ) → new.lock ≡ some (holder_of x f) → LockTies z.slots (us x.lane) (left x.lane) x (all_writes z f new))
+      locked-as (λ (x : Locked). (f : List ℕ) → new.lock ≡ Some (holder_of x f) → LockTies z.slots (us x.lane) (left x.lane) x (all_writes z f new))
       (sym lock-to ∙ y)
       (λ f q. rw (sym (same-all f (same-txn f q)), updated-same L track t.ts) lock-part)
 
@@ -410,7 +407,7 @@ module _ (z : Sizes) (base : ℕ) (m : Machine) (h : History) (k : Locked) (b : 
         at_base = base-to z base h m b t L known ws s r;
         phases = λ M d. ap (λ (l : Lane). l.phase) (lanes.others M d);
         newest = newest-to;
-        entries = λ x y f gs q. not-held Idle x refl (ap (λ (l : Lane). l.phase) (sym lanes.here) ∙ y);
+        entries = λ x y f gs q. not-held None x refl (ap (λ (l : Lane). l.phase) (sym lanes.here) ∙ y);
         now = more true-part (All-map (λ f i. true-more z.words new g (t.ts L).gs f i) old-now);
         before = old-now;
         open' = λ f q. no-commit f.stamp (let y : f.stamp ≡ s = cc in y);

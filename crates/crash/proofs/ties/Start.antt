@@ -1,4 +1,5 @@
 -- The ties at a start, whose logs are 0s, and under write-backs, which change non-volatile memory alone. Assumes nothing.
+use Rattle.std.specs.Prelude.{Some}
 use mathlib.Core.Path.{◌≡◌, refl, ap, ◌∙◌}
 use mathlib.Core.Logic.{inl}
 use mathlib.Core.Bool.{true, false}
@@ -15,7 +16,6 @@ use Rattle.image.specs.inner.FlushLaws.{flushed-zero}
 use Rattle.image.specs.declared.Sizes.{Sizes}
 use Rattle.record.specs.Record.{start_record}
 use Rattle.record.specs.declared.Locked.{Locked}
-use Rattle.record.specs.declared.Lock.TheVariants.{Held}
 use Rattle.store.specs.Machine.{Machine}
 use Rattle.store.specs.Calls.{started}
 use Rattle.crash.specs.History.{Commit, Page, History, blank_page, page_at, opened}
@@ -47,7 +47,7 @@ module _ (z : Sizes) (ok : sizes_ok z ≡ true) (lag base : ℕ) (image words : 
   no_more : {A : Type 0} {g : Seq} {gs : List Seq} → ◌≡◌ {A = List Seq} [] (g ∷ gs) → A
   no_more e = absurd (omega (arith, ap length e))
 
-  no-lock : {A : Type 0} (k : Locked) → (started lag base image).state.lock ≡ Held k → A
+  no-lock : {A : Type 0} (k : Locked) → (started lag base image).state.lock ≡ Some k → A
   unfolding started start_record
   no-lock k e = absurd (let z : ◌≡◌ {A = ℕ} 0 1 = cc in omega arith)
 

@@ -1,9 +1,9 @@
 -- What ties a running store's logs, data words and history together: the part of the invariant that neither the logs nor the book keep alone. Assumes nothing.
+use Rattle.std.specs.Prelude.{Some}
 use mathlib.Core.Path.{◌≡◌}
 use mathlib.Core.Logic.{◌≢◌, ◌⊎◌}
 use mathlib.Core.Bool.{true, false}
 use mathlib.Core.List.{List, ◌∷◌}
-use mathlib.Core.Option.{some}
 use Prim.Native.Nat.{ℕ, ◌+◌, ◌-◌, ◌/◌, ◌≤◌, ◌<◌}
 use lib.ListN.{length, get_or, take}
 use Rattle.laws.specs.inner.Lists.{All}
@@ -11,12 +11,9 @@ use Rattle.txn.specs.declared.Write.{Write}
 use Rattle.image.specs.Image.{base_of}
 use Rattle.image.specs.Flush.{flushed}
 use Rattle.image.specs.declared.Sizes.{Sizes}
-use Rattle.lane_log.specs.declared.Timestamp.TheVariants.{At}
 use Rattle.record.specs.Record.{lane_at}
 use Rattle.record.specs.declared.Locked.{Locked}
-use Rattle.record.specs.declared.Lock.TheVariants.{Held}
 use Rattle.record.specs.declared.Logged.{Logged}
-use Rattle.record.specs.declared.Phase.TheVariants.{Holds}
 use Rattle.store.specs.Machine.{Machine}
 use Rattle.crash.specs.History.{Commit, History, page_at, replay, writes_logged, least_floor_of}
 use Rattle.laws.specs.inner.Members.{In}
@@ -36,7 +33,7 @@ NoneEarlier gs g w = (f : Seq) → In f gs → f.stamp ≡ g.stamp → f.end < g
 -- sequence g among those of its lane: the first old value of each word that it names, and no earlier one with its timestamp, is the word below the timestamp
 unfoldable pub TrueOf : (W : ℕ) → History → List Seq → Seq → Type 0
 TrueOf W h gs g = (w : ℕ) → w < W → (x : ℕ) → NoneEarlier gs g w → writes g.entries w ≡ true
-    → first_old g.entries w x ≡ get_or (replay W (At g.stamp) h.commits h.start) w 0
+    → first_old g.entries w x ≡ get_or (replay W (Some g.stamp) h.commits h.start) w 0
 
 -- a lane's newest sequence names word w, and no append has come since the lane's last drain
 pub record Names (t : Track) (w : ℕ) : Type 0 where
@@ -63,7 +60,7 @@ pub record NamedBy (z : Sizes) (ts : ℕ → Track) (s w : ℕ) : Type 0 where
 
 -- each word that a commit writes is named with its timestamp
 unfoldable pub Backed : Sizes → History → (ℕ → Track) → Commit → Type 0
-Backed z h ts c = (w : ℕ) → w < z.words → txn_writes z.words w c.txn (replay z.words (At c.stamp) h.commits h.start) ≡ true
+Backed z h ts c = (w : ℕ) → w < z.words → txn_writes z.words w c.txn (replay z.words (Some c.stamp) h.commits h.start) ≡ true
     → NamedBy z ts c.stamp w
 
 -- ---- a transaction that holds the lock
@@ -101,7 +98,7 @@ pub record Ties (z : Sizes) (base : ℕ) (m : Machine) (h : History) : Type 0 wh
   -- a lane's newest timestamp is its page's
   pub newest : (L : ℕ) → L < z.lanes → (page_at h L).newest ≡ newest_in (ts L).gs
   -- the newest sequence of a lane that holds a transaction has the entries of its writes
-  pub entries : (L : ℕ) → L < z.lanes → (x : Logged) → (lane_at m.state L).phase ≡ Holds x → (g : Seq) (gs : List Seq) → (ts L).gs ≡ g ∷ gs
+  pub entries : (L : ℕ) → L < z.lanes → (x : Logged) → (lane_at m.state L).phase ≡ Some x → (g : Seq) (gs : List Seq) → (ts L).gs ≡ g ∷ gs
       → g.entries ≡ olds_of (writes_logged z L h)
   -- every sequence is true, with its timestamp now and with that of the last drain
   pub now : (L : ℕ) → L < z.lanes → All (TrueOf z.words h (ts L).gs) (ts L).gs
@@ -116,8 +113,8 @@ pub record Ties (z : Sizes) (base : ℕ) (m : Machine) (h : History) : Type 0 wh
   pub backed : (c : Commit) → In c h.commits → Backed z h ts c
   -- what is at or above the least floor stands whole, and will with the slots that each lane is sure to write
   pub to_come : ℕ → ℕ
-  pub room : (L : ℕ) → L < z.lanes → (b : ℕ) → least_floor_of h.pages ≡ At b → (g : Seq) → In g (ts L).gs → b ≤ g.stamp
+  pub room : (L : ℕ) → L < z.lanes → (b : ℕ) → least_floor_of h.pages ≡ Some b → (g : Seq) → In g (ts L).gs → b ≤ g.stamp
       → RoomFor z.slots (to_come L) (ts L).hist g
   -- a lock that is held
-  pub lock : (k : Locked) → m.state.lock ≡ Held k → (f : List ℕ) → h.lock ≡ some (holder_of k f)
+  pub lock : (k : Locked) → m.state.lock ≡ Some k → (f : List ℕ) → h.lock ≡ Some (holder_of k f)
       → LockTies z.slots (ts k.lane) (to_come k.lane) k (all_writes z f h)

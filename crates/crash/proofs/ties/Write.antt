@@ -1,10 +1,10 @@
 -- The ties are kept where a part of the transaction that holds the lock is written: the lane flushes just the words that its newest sequence names, and
 -- with the last part each word of the transaction is named with its timestamp. Assumes nothing.
+use Rattle.std.specs.Prelude.{Some, None}
 use mathlib.Core.Path.{◌≡◌, refl, ap, ◌∙◌, sym}
 use mathlib.Core.Logic.{◌⊎◌, inl, inr}
 use mathlib.Core.Bool.{true, ◌||◌, or-false}
 use mathlib.Core.List.{List, [], ◌∷◌, append-nil}
-use mathlib.Core.Option.{some}
 use Prim.Native.Nat.{ℕ, ◌+◌, ◌-◌, ◌≤◌, ◌<◌}
 use native.Mathlib.Omega.{arith}
 use native.Mathlib.Nat.{le_refl}
@@ -21,11 +21,9 @@ use Rattle.image.specs.Flush.{flushed}
 use Rattle.image.specs.Stores.{Store, places}
 use Rattle.image.specs.inner.StoresLaws.{among}
 use Rattle.image.specs.declared.Sizes.{Sizes}
-use Rattle.lane_log.specs.declared.Timestamp.TheVariants.{At}
 use Rattle.record.specs.Record.{lane_at, part_length, is_held, with_last, with_lock}
 use Rattle.record.specs.declared.Pair.{Pair}
 use Rattle.record.specs.declared.Lane.{Lane}
-use Rattle.record.specs.declared.Lock.TheVariants.{Free, Held}
 use Rattle.record.specs.declared.Locked.{Locked}
 use Rattle.record.specs.declared.Record.{Record}
 use Rattle.store.specs.Machine.{Machine}
@@ -55,7 +53,7 @@ use Rattle.crash.proofs.ties.Lock.{locked-as}
 use Rattle.crash.proofs.ties.Part.{lock-was, ties-lock}
 
 module _ (z : Sizes) (base : ℕ) (m : Machine) (h : History) (k : Locked) (b : Book z base h m) (t : Ties z base m h) (known : Known z m k.lane)
-    (e : m.state.lock ≡ Held k) (one-logged : k.logged ≡ k.written + part_length k) where
+    (e : m.state.lock ≡ Some k) (one-logged : k.logged ≡ k.written + part_length k) where
   abbrev L : ℕ
   L = k.lane
 
@@ -120,7 +118,7 @@ module _ (z : Sizes) (base : ℕ) (m : Machine) (h : History) (k : Locked) (b : 
   module _ (r : Record) (lanes : (M : ℕ) → lane_at r M ≡ lane_at m₁.state M) (many : length r.lanes ≡ length m₁.state.lanes)
       (clock : r.clock ≡ m₁.state.clock) (new : History) (pages : new.pages ≡ h₁.pages) (onward : Onward (s - 1) h₁ new)
       (fresh : (c : Commit) → In c new.commits → (In c h₁.commits) ⊎ Backed z new t₁.ts c)
-      (lock : (x : Locked) → r.lock ≡ Held x → (f : List ℕ) → new.lock ≡ some (holder_of x f)
+      (lock : (x : Locked) → r.lock ≡ Some x → (f : List ℕ) → new.lock ≡ Some (holder_of x f)
       → LockTies z.slots (t₁.ts x.lane) (t₁.to_come x.lane) x (all_writes z f new)) where
     abbrev to : Machine
     to = changed L xs r m₁
@@ -198,7 +196,7 @@ module _ (z : Sizes) (base : ℕ) (m : Machine) (h : History) (k : Locked) (b : 
     held = more_written k
 
     abbrev some-state : Record
-    some-state = with_lock m₁.state (Held held)
+    some-state = with_lock m₁.state (Some held)
 
     abbrev with-some : History
     with-some = with_some k it.txn h₁
@@ -217,7 +215,7 @@ module _ (z : Sizes) (base : ℕ) (m : Machine) (h : History) (k : Locked) (b : 
           few = its-lock.few;
         }
 
-    same-txn : (f : List ℕ) → with-some.lock ≡ some (holder_of held f) → f ≡ it.txn
+    same-txn : (f : List ℕ) → with-some.lock ≡ Some (holder_of held f) → f ≡ it.txn
     unfolding holder_of
     same-txn f q = sym (ap txn-in q)
 
@@ -225,11 +223,11 @@ module _ (z : Sizes) (base : ℕ) (m : Machine) (h : History) (k : Locked) (b : 
     unfolding all_writes present words_below after_drain
     same-all f q = ap (λ (f : List ℕ). all_writes z f h) (sym q)
 
-    lock-some : (x : Locked) → some-state.lock ≡ Held x → (f : List ℕ) → with-some.lock ≡ some (holder_of x f)
+    lock-some : (x : Locked) → some-state.lock ≡ Some x → (f : List ℕ) → with-some.lock ≡ Some (holder_of x f)
         → LockTies z.slots (t₁.ts x.lane) (t₁.to_come x.lane) x (all_writes z f with-some)
     unfolding with_lock
     lock-some x y =
-        locked-as (λ (x : Locked). (f : List ℕ) → with-some.lock ≡ some (holder_of x f)
+        locked-as (λ (x : Locked). (f : List ℕ) → with-some.lock ≡ Some (holder_of x f)
         → LockTies z.slots (t₁.ts x.lane) (t₁.to_come x.lane) x (all_writes z f with-some)) y
         (λ f q. rw (sym (same-all f (same-txn f q)), lt.here) lock-held)
 
@@ -258,7 +256,7 @@ module _ (z : Sizes) (base : ℕ) (m : Machine) (h : History) (k : Locked) (b : 
   -- ---- the last part
   module _ (d : upto ≡ k.count) where
     abbrev all-state : Record
-    all-state = with_lock (with_last m₁.state s) Free
+    all-state = with_lock (with_last m₁.state s) None
 
     abbrev its-commit : Commit
     its-commit = record { stamp = s; txn = it.txn }
@@ -270,10 +268,10 @@ module _ (z : Sizes) (base : ℕ) (m : Machine) (h : History) (k : Locked) (b : 
     onward-all = onward-written s it.txn h₁ with-all refl refl refl refl it₁.clock (let l = it.low in omega arith)
 
     -- the words below its timestamp are those before it
-    words-before : replay z.words (At s) with-all.commits with-all.start ≡ present z h
+    words-before : replay z.words (Some s) with-all.commits with-all.start ≡ present z h
     unfolding present words_below is_below after_drain
     words-before =
-        replay_snoc z.words (At s) h.commits its-commit h.start
+        replay_snoc z.words (Some s) h.commits its-commit h.start
         ∙ rw (le-ltb s s (le_refl s)) (replay-all z.words s h.start it.commits)
 
     all-logged : take k.logged its ≡ its
@@ -298,7 +296,7 @@ module _ (z : Sizes) (base : ℕ) (m : Machine) (h : History) (k : Locked) (b : 
     ties-all : Ties z base (changed L xs all-state m₁) with-all
     unfolding with_lock with_last lane_at is_held
     ties-all =
-        ties-to all-state (λ M. refl) refl refl with-all refl onward-all fresh-all (λ x y f q. not-locked Free x refl y)
+        ties-to all-state (λ M. refl) refl refl with-all refl onward-all fresh-all (λ x y f q. not-locked None x refl y)
 
     all-written : Ties z base (store.part_written k m₁) (part_written (holder_of k it.txn) h₁)
     unfolding drained

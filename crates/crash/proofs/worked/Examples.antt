@@ -1,4 +1,5 @@
 -- Worked lists of events, computed by the checker: the theorem's claims are not empty. Each was worked out by hand first. Assumes nothing.
+use Rattle.std.specs.Prelude.{Some, None}
 use Prim.Native.Nat.{ℕ, zero, suc}
 use mathlib.Core.Path.{◌≡◌, refl}
 use mathlib.Core.Bool.{true, false}
@@ -7,16 +8,15 @@ use lib.ListN.{replicate}
 use Rattle.txn.specs.Txn.{former}
 use Rattle.image.specs.Image.{data_of}
 use Rattle.image.specs.declared.Sizes.{Sizes}
-use Rattle.lane_log.specs.declared.Timestamp.TheVariants.{None, At}
 use Rattle.store.specs.Machine.{Machine}
 use Rattle.store.specs.Calls.{started, start_image}
 use Rattle.record.specs.Record.{max_lag, no_lane, lane_at}
 use Rattle.record.specs.declared.Lane.{Lane}
-use Rattle.store.specs.declared.Answer.TheVariants.{Refused, Done, NoWrites, Logged, Settled, Committed, Stale, Changed, Marked, Locked}
+use Rattle.store.specs.Answers.{Refused, Done, NoWrites, Logged, Settled, Committed, Stale, Changed, Marked, Locked}
 use Rattle.recovery.specs.Recovery.{Restarted, recover_step, recover_read_step}
-use Rattle.recovery.specs.declared.Recovered.{Recovered}
-use Rattle.recovery.specs.declared.Recovered.TheVariants as recovereds
-use Rattle.recovery.specs.declared.Recovered.TheVariants.{Cut, Finished}
+use Rattle.recovery.specs.Answers.{Recovered}
+use Rattle.recovery.specs.Answers as recovereds
+use Rattle.recovery.specs.Answers.{Cut, Finished}
 use Rattle.crash.specs.Events.{log_by, log, redo, validate_by, validate, mark, drain, lock, proceed}
 use Rattle.crash.specs.Events.{Event, format, call, write_back, recover, fails, fails_in_drain, fails_after_drain}
 use Rattle.crash.specs.Events.{fails_in_recovery, System, live, down, Reply, answered, recovered, failed, vandzulge, happens}
@@ -71,7 +71,7 @@ two-lanes = refl
 abbrev two_lanes_cut : System
 two_lanes_cut = after_all small begun (two_lanes ++ (write_backs 0 139 ++ (fails junk ∷ [])))
 
-two-lanes-recover : replies small two_lanes_cut (recover max_lag 1000 junk ∷ []) ≡ recovered (Finished (record { boundary = At 6; undone = 3; torn = 0 })) ∷ []
+two-lanes-recover : replies small two_lanes_cut (recover max_lag 1000 junk ∷ []) ≡ recovered (Finished (record { boundary = Some 6; undone = 3; torn = 0 })) ∷ []
 unfolding everything replies after_all write_backs
 two-lanes-recover = refl
 
@@ -87,7 +87,7 @@ in-drain : replies small begun (in_drain ++ (recover max_lag 1000 junk ∷ []))
     ≡ answered (Logged (record { count = 1; stamp = 2 }))
     ∷ answered (Committed 4)
     ∷ failed false
-    ∷ recovered (Finished (record { boundary = At 2; undone = 1; torn = 0 }))
+    ∷ recovered (Finished (record { boundary = Some 2; undone = 1; torn = 0 }))
     ∷ []
 unfolding everything replies
 in-drain = refl
@@ -185,7 +185,7 @@ abbrev changed_back_cut : System
 changed_back_cut = after_all small begun (changed_back ++ (write_backs 0 139 ++ (fails junk ∷ [])))
 
 changed-back-recover : replies small changed_back_cut (recover max_lag 1000 junk ∷ [])
-    ≡ recovered (Finished (record { boundary = At 10; undone = 2; torn = 0 })) ∷ []
+    ≡ recovered (Finished (record { boundary = Some 10; undone = 2; torn = 0 })) ∷ []
 unfolding everything replies after_all write_backs
 changed-back-recover = refl
 
@@ -201,7 +201,7 @@ unfolding everything replies
 mark-drops = refl
 
 -- a lane's first sequence sets its floor, before it is drained
-first-floor : (lane_in 0 (after_all small begun (call (log 0 (set0 2)) ∷ []))).floor ≡ At 2
+first-floor : (lane_in 0 (after_all small begun (call (log 0 (set0 2)) ∷ []))).floor ≡ Some 2
 unfolding everything after_all lane_in
 first-floor = refl
 
@@ -247,7 +247,7 @@ abbrev idle_lane1 : List Event
 idle_lane1 = call (log 1 (set1 9)) ∷ call (redo 1) ∷ call (mark 1) ∷ call (drain 1) ∷ []
 
 -- the mark leaves its floor, and the drain ends it; the next sequence sets one again, a mark's too
-floor-at-mark : (lane_in 1 (after_all small begun (call (log 1 (set1 9)) ∷ call (redo 1) ∷ call (mark 1) ∷ []))).floor ≡ At 4
+floor-at-mark : (lane_in 1 (after_all small begun (call (log 1 (set1 9)) ∷ call (redo 1) ∷ call (mark 1) ∷ []))).floor ≡ Some 4
 unfolding everything after_all lane_in
 floor-at-mark = refl
 
@@ -255,11 +255,11 @@ floor-ended : (lane_in 1 (after_all small begun idle_lane1)).floor ≡ None
 unfolding everything after_all lane_in
 floor-ended = refl
 
-floor-by-log : (lane_in 1 (after_all small begun (idle_lane1 ++ (call (log 1 (set1 7)) ∷ [])))).floor ≡ At 8
+floor-by-log : (lane_in 1 (after_all small begun (idle_lane1 ++ (call (log 1 (set1 7)) ∷ [])))).floor ≡ Some 8
 unfolding everything after_all lane_in
 floor-by-log = refl
 
-floor-by-mark : (lane_in 1 (after_all small begun (idle_lane1 ++ (call (mark 1) ∷ [])))).floor ≡ At 8
+floor-by-mark : (lane_in 1 (after_all small begun (idle_lane1 ++ (call (mark 1) ∷ [])))).floor ≡ Some 8
 unfolding everything after_all lane_in
 floor-by-mark = refl
 
@@ -268,7 +268,7 @@ abbrev two_on_lane0 : List Event
 two_on_lane0 = call (log 0 (set0 2)) ∷ call (redo 0) ∷ call (drain 0) ∷ call (log 0 (set0 3)) ∷ call (redo 0) ∷ call (drain 0) ∷ fails junk ∷ []
 
 idle-boundary : replies small (after_all small begun (idle_lane1 ++ two_on_lane0)) (recover max_lag 1000 junk ∷ [])
-    ≡ recovered (Finished (record { boundary = At 14; undone = 1; torn = 0 })) ∷ []
+    ≡ recovered (Finished (record { boundary = Some 14; undone = 1; torn = 0 })) ∷ []
 unfolding everything replies after_all
 idle-boundary = refl
 
@@ -294,7 +294,7 @@ abbrev marked_above : List Event
 marked_above = call (log 0 (set0 2)) ∷ call (drain 0) ∷ idle_lane1 ++ (fails junk ∷ [])
 
 marked-above : replies small (after_all small begun marked_above) (recover max_lag 1000 junk ∷ [])
-    ≡ recovered (Finished (record { boundary = At 2; undone = 2; torn = 0 })) ∷ []
+    ≡ recovered (Finished (record { boundary = Some 2; undone = 2; torn = 0 })) ∷ []
 unfolding everything replies after_all
 marked-above = refl
 
@@ -390,7 +390,7 @@ at-limit : replies small (begun_lag 2) (at_limit ++ (recover 4 1000 junk ∷ [])
     ∷ answered (Committed 4)
     ∷ answered (Logged (record { count = 1; stamp = 6 }))
     ∷ failed false
-    ∷ recovered (Finished (record { boundary = At 4; undone = 1; torn = 0 }))
+    ∷ recovered (Finished (record { boundary = Some 4; undone = 1; torn = 0 }))
     ∷ []
 unfolding everything replies
 at-limit = refl
@@ -399,7 +399,7 @@ at-limit = refl
 -- that its last slot is torn, and the boundary is 4 still
 in-next-drain : replies small (after_all small (begun_lag 2) (call (log 0 (set0 2)) ∷ call (redo 0) ∷ call (log 0 (set0 3)) ∷ []))
     (fails_in_drain (redo 0) (7 ∷ 8 ∷ 9 ∷ []) junk ∷ recover 2 1000 junk ∷ [])
-    ≡ failed false ∷ recovered (Finished (record { boundary = At 4; undone = 1; torn = 1 })) ∷ []
+    ≡ failed false ∷ recovered (Finished (record { boundary = Some 4; undone = 1; torn = 1 })) ∷ []
 unfolding everything replies after_all
 in-next-drain = refl
 
@@ -465,7 +465,7 @@ poke-stale = refl
 abbrev redone_cut : System
 redone_cut = after_all small (begun_with (3 ∷ 0 ∷ [])) (redone ++ (write_backs 0 139 ++ (fails junk ∷ [])))
 
-poke-undone : replies small redone_cut (recover max_lag 1000 junk ∷ []) ≡ recovered (Finished (record { boundary = At 4; undone = 1; torn = 0 })) ∷ []
+poke-undone : replies small redone_cut (recover max_lag 1000 junk ∷ []) ≡ recovered (Finished (record { boundary = Some 4; undone = 1; torn = 0 })) ∷ []
 unfolding everything replies after_all write_backs
 poke-undone = refl
 
@@ -616,7 +616,7 @@ long-cut-after = refl
 
 -- what recovery answers after the last Continue, all written back: all forty entries are undone
 long-undone : replies wide (after_all wide moved (long_list 6 ++ (write_backs 0 123 ++ (fails junk ∷ [])))) (recover max_lag 1000 junk ∷ [])
-    ≡ recovered (Finished (record { boundary = At 82; undone = 40; torn = 0 })) ∷ []
+    ≡ recovered (Finished (record { boundary = Some 82; undone = 40; torn = 0 })) ∷ []
 unfolding everything replies after_all marks proceeds sets write_backs
 long-undone = refl
 
@@ -786,7 +786,7 @@ former-works = refl
 abbrev former_cut : System
 former_cut = after_all small former_begun (former_list ++ (write_backs 0 139 ++ (fails junk ∷ [])))
 
-former-recovers : replies small former_cut (recover max_lag 1000 junk ∷ []) ≡ recovered (Finished (record { boundary = At 8; undone = 1; torn = 0 })) ∷ []
+former-recovers : replies small former_cut (recover max_lag 1000 junk ∷ []) ≡ recovered (Finished (record { boundary = Some 8; undone = 1; torn = 0 })) ∷ []
 unfolding everything replies after_all write_backs
 former-recovers = refl
 

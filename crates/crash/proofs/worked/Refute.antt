@@ -1,5 +1,6 @@
 -- How a theorem is shown to be false of a wrong store: a list of events, or one event, computed, at whose end the store has other numbers than the
 -- theorem gives. Assumes nothing.
+use Rattle.std.specs.Prelude.{Option, Some, None}
 use Prim.Native.Nat.{ℕ, ◌+◌}
 use mathlib.Core.Path.{◌≡◌, refl, ap, sym, ◌∙◌}
 use mathlib.Core.Bool.{Bool, true, false, not, ◌&&◌}
@@ -11,15 +12,13 @@ use Rattle.laws.specs.inner.Tests.{clash, and_left, and_right}
 use Rattle.txn.specs.Txn.{after}
 use Rattle.image.specs.Image.{trailer, image_length, data_of}
 use Rattle.image.specs.declared.Sizes.{Sizes}
-use Rattle.lane_log.specs.declared.Timestamp.{Timestamp}
-use Rattle.lane_log.specs.declared.Timestamp.TheVariants.{None, At}
 use Rattle.record.specs.Record.{blank_record, lag_passed}
 use Rattle.store.specs.Machine.{Machine, said}
 use Rattle.store.specs.Calls.{format_refusal}
-use Rattle.store.specs.declared.Answer.{Answer}
+use Rattle.store.specs.Answers.{Answer}
 use Rattle.recovery.specs.Recovery.{boundary, all_made, recover_refusal, told}
-use Rattle.recovery.specs.declared.Recovered.{Recovered}
-use Rattle.recovery.specs.declared.Recovered.TheVariants.{Refused, Cut, Finished}
+use Rattle.recovery.specs.Answers.{Recovered}
+use Rattle.recovery.specs.Answers.{Refused, Cut, Finished}
 use Rattle.crash.specs.Events.{Call, drain, lane_of, Junk, Event, format, call, recover, System, live, down, nvm_of}
 use Rattle.crash.specs.Events.{Reply, answered, recovered, failed, ignored, Design, happens}
 use Rattle.crash.specs.History.{Commit, History, opened, is_below, replay, present, visible, words_below, least_floor_of}
@@ -331,14 +330,14 @@ kept_sides z h y (recovered r) = kept_by_sides z h y r
 kept_sides z h y (failed b) = no_sides
 kept_sides z h y ignored = no_sides
 
-all-run : (W : ℕ) (f b : Timestamp) → ((s : ℕ) → is_below f s ≡ true → is_below b s ≡ true) → (cs : List Commit) (ws : List ℕ) → are_below f cs ≡ true
+all-run : (W : ℕ) (f b : Option ℕ) → ((s : ℕ) → is_below f s ≡ true → is_below b s ≡ true) → (cs : List Commit) (ws : List ℕ) → are_below f cs ≡ true
     → replay W b cs ws ≡ replay W None cs ws
 unfolding replay are_below is_below
 all-run W f b k [] ws t = refl
 all-run W f b k (c ∷ cs) ws t =
     rw (k c.stamp (and_left _ _ t)) (all-run W f b k cs (after W c.txn ws) (and_right (is_below f c.stamp) _ t))
 
-module _ (z : Sizes) (h : History) (f : Timestamp) (all : are_below f h.commits ≡ true) where
+module _ (z : Sizes) (h : History) (f : Option ℕ) (all : are_below f h.commits ≡ true) where
   kept-by-due : (y : System) (r : Recovered) → KeptBy z h f y r → (kept_by_sides z h y r).has ≡ (kept_by_sides z h y r).due
   unfolding kept_by_sides present words_below
   kept-by-due y (Refused n) v = refl
@@ -371,7 +370,7 @@ module _ (d : Design) (z : Sizes) (lag : ℕ) (start : List ℕ) (es fs : List E
       eqb (format_refusal z lag start (blank z)) 0
       && (ltb s (next_commit (was d z lag start es).history.lock (was d z lag start es).history.clock)
       && (is_below (least_floor_of (was d z lag start es).history.pages) s
-      && (goes_on d z (was d z lag start es) fs && (are_below (At (s + 1)) at_last.history.commits && differ (last_sides d z at_last lag₁ limit j) has due))))
+      && (goes_on d z (was d z lag start es) fs && (are_below (Some (s + 1)) at_last.history.commits && differ (last_sides d z at_last lag₁ limit j) has due))))
 
   -- the least timestamp of a commit to come
   abbrev next_at : ℕ
@@ -385,15 +384,15 @@ module _ (d : Design) (z : Sizes) (lag : ℕ) (start : List ℕ) (es fs : List E
       let t₃ = and_right (is_below (least_floor_of (was d z lag start es).history.pages) s) _ t₂ in
       let t₄ = and_right (goes_on d z (was d z lag start es) fs) _ t₃ in
       let x = happens d z at_last.system (recover lag₁ limit j) in
-      differ-not (last_sides d z at_last lag₁ limit j) has due (and_right (are_below (At (s + 1)) at_last.history.commits) _ t₄)
-      (kept-due z at_last.history (At (s + 1)) (and_left _ _ t₄) x.system x.reply
+      differ-not (last_sides d z at_last lag₁ limit j) has due (and_right (are_below (Some (s + 1)) at_last.history.commits) _ t₄)
+      (kept-due z at_last.history (Some (s + 1)) (and_left _ _ t₄) x.system x.reply
       (c z lag start (blank z) (before z) (eqb-true (format_refusal z lag start (blank z)) 0 (and_left _ _ t)) es fs s
       (ltb-true s next_at (and_left _ _ t₁)) (and_left _ _ t₂) (and_left _ _ t₃) lag₁ limit j))
 
 -- a timestamp as a list of one, or of none
-unfoldable pub stamps_of : Timestamp → List ℕ
+unfoldable pub stamps_of : Option ℕ → List ℕ
 stamps_of None = []
-stamps_of (At s) = s ∷ []
+stamps_of (Some s) = s ∷ []
 
 -- an idle lane: call x marks it after the events es, it is drained after fs, and recovery comes after gs
 module _ (d : Design) (z : Sizes) (lag : ℕ) (start : List ℕ) (x : Call) (es fs gs : List Event) (lag₁ limit : ℕ) (j : Junk) where
@@ -471,7 +470,7 @@ module _ (d : Design) (z : Sizes) (lag : ℕ) (start : List ℕ) (es : List Even
       && (gets_drained d z (lane_of x) (next_world d z (was d z lag start es) (call x)) fs
       && (ltb k s
       && (is_below (others_floor (lane_of x) at_end.history) k
-      && (are_below (At (k + 1)) at_end.history.commits && differ (last_sides d z at_end lag₁ limit j) has due))))))
+      && (are_below (Some (k + 1)) at_end.history.commits && differ (last_sides d z at_end lag₁ limit j) has due))))))
 
   pub wrong-settled : (s k : ℕ) (has due : List ℕ) → settled_differs s k has due ≡ true → SettledTheorem d → ⊥
   unfolding settled_differs last_sides SettledTheorem was at_end
@@ -484,8 +483,8 @@ module _ (d : Design) (z : Sizes) (lag : ℕ) (start : List ℕ) (es : List Even
       let t₅ = and_right (ltb k s) _ t₄ in
       let t₆ = and_right (is_below (others_floor (lane_of x) at_end.history) k) _ t₅ in
       let y = happens d z at_end.system (recover lag₁ limit j) in
-      differ-not (last_sides d z at_end lag₁ limit j) has due (and_right (are_below (At (k + 1)) at_end.history.commits) _ t₆)
-      (kept-due z at_end.history (At (k + 1)) (and_left _ _ t₆) y.system y.reply
+      differ-not (last_sides d z at_end lag₁ limit j) has due (and_right (are_below (Some (k + 1)) at_end.history.commits) _ t₆)
+      (kept-due z at_end.history (Some (k + 1)) (and_left _ _ t₆) y.system y.reply
       (((c z lag start (blank z) (before z) (eqb-true (format_refusal z lag start (blank z)) 0 (and_left _ _ t₀)) es fs x s
       (same_true _ _ (and_left _ _ t₁))).1 (not-true (is_lock x) (and_right (eqb (format_refusal z lag start (blank z)) 0) _ t₀)) (and_left _ _ t₂)
       (and_left _ _ t₃) k (ltb-true k s (and_left _ _ t₄)) (and_left _ _ t₅)).1 lag₁ limit j))

@@ -1,5 +1,6 @@
 -- Wrong stores, and for each events after which the crash theorem, or one of the theorems beside it, is false of it: the traps of this design, and
 -- stores that do too little or too much. Assumes nothing.
+use Rattle.std.specs.Prelude.{Option, Some, None}
 use Prim.Native.Nat.{ℕ, zero, suc, ◌+◌, ◌-◌, ◌*◌, ◌/◌}
 use mathlib.Core.Path.{refl}
 use mathlib.Core.Bool.{Bool, false, cond, not, ◌&&◌, ◌||◌}
@@ -13,28 +14,22 @@ use Rattle.image.specs.Stores.{Store, stored}
 use Rattle.image.specs.declared.Sizes.{Sizes}
 use Rattle.lane_log.specs.Log.{Old, Complete, complete_in, ordered, latest_in, given, contribution, hits}
 use Rattle.lane_log.specs.Append.{circular}
-use Rattle.lane_log.specs.declared.Latest.{Latest}
-use Rattle.lane_log.specs.declared.Latest.TheVariants.{Nothing, Is}
-use Rattle.lane_log.specs.declared.Timestamp.{Timestamp}
-use Rattle.lane_log.specs.declared.Timestamp.TheVariants.{None, At}
 use Rattle.record.specs.Record.{max_lag, lag_ok, blank_record, no_pair, no_pairs, lane_at, is_logged, logged_in, lesser, bound_of, lag_passed, with_lane, with_clock}
 use Rattle.record.specs.Record.{is_held, locked_in, with_last, with_lock}
 use Rattle.record.specs.declared.Lane.{Lane}
+use Rattle.record.specs.Record.{Lock}
 use Rattle.record.specs.declared.Locked.{Locked}
-use Rattle.record.specs.declared.Lock.{Lock}
-use Rattle.record.specs.declared.Lock.TheVariants.{Free, Held}
 use Rattle.store.specs.Machine.{Machine, Step, first_cause, unless, said}
 use Rattle.store.specs.Calls.{bad_lag, start_image, started, drained, would_lag, would_hit, writes_on, appended, marked, logged}
 use Rattle.store.specs.Calls.{format_step, write_back_step, drain_step, log_txn_step_by, settle_refusal, settle_step, log_refusal_by}
 use Rattle.store.specs.Calls.{log_step_by, redo_step, validate_step_by, mark_refusal, mark_step}
 use Rattle.store.specs.Locks.{lock_refusal, locked, lock_step, proceed_refusal, next_step, proceed_step}
-use Rattle.record.specs.declared.Phase.TheVariants.{Idle}
-use Rattle.store.specs.declared.Answer.TheVariants.{Refused, NoWrites, Logged, Settled, Stale, Locked as LockedAnswer}
+use Rattle.store.specs.Answers.{Refused, NoWrites, Logged, Settled, Stale, Locked as LockedAnswer}
 use Rattle.recovery.specs.Recovery.{boundary, complete_of, undone_from, undone, undo_sequences, undo_stores, new_base, torn_in, zeros, recovered_nvm}
 use Rattle.recovery.specs.Recovery.{Restarted, recovered_by, odd_base, recover_refusal, recover_step, recover_read_refusal, recover_read_step}
 use Rattle.recovery.specs.declared.Finished.{Finished}
-use Rattle.recovery.specs.declared.Recovered.{Recovered}
-use Rattle.recovery.specs.declared.Recovered.TheVariants as recovereds
+use Rattle.recovery.specs.Answers.{Recovered}
+use Rattle.recovery.specs.Answers as recovereds
 use Rattle.crash.specs.Events.{Call, log_by, log, redo, validate_by, validate, mark, drain, lock, proceed}
 use Rattle.crash.specs.Events.{Event, format, write_back, call, recover, fails, fails_in_drain}
 use Rattle.crash.specs.Events.{Design, call_step}
@@ -43,6 +38,7 @@ use Rattle.crash.specs.Corollaries.{SafeTheorem, IdleTheorem, LagTheorem, Settle
 use Rattle.crash.proofs.worked.Worked.{small, junk, set0, set1, copy, poke, poke_passed, write_backs, marks, proceeds, two_lanes, tight, rising, over_wrap}
 use Rattle.crash.proofs.worked.Refute.{wrong-words, wrong-end, wrong-clock, wrong-lag, wrong-format, wrong_answer, wrong-count, wrong-recovery}
 use Rattle.crash.proofs.worked.Refute.{wrong-former, wrong-trailer, wrong-safe, wrong-idle, wrong-loss, wrong-settled, refuting}
+use Rattle.lane_log.specs.declared.Sequence.{Sequence}
 
 -- A refutation names the store, the sizes, the lag limit, the start words, the events, then the last event, and two lists: the numbers that the store has at
 -- its end, and those that the theorem gives. `wrong-recovery` looks at the data words after a recovery, `wrong-count` at how many entries it says to have
@@ -438,9 +434,9 @@ unfolding made stamps_only
 stamps-only = wrong-words stamps_only small max_lag (0 ∷ 0 ∷ []) (call (log 0 (set0 2)) ∷ []) (call (redo 0)) (0 ∷ 0 ∷ []) (2 ∷ 0 ∷ []) refl
 
 -- 14. A Log answers 9 on a lane without a floor. Here its log is empty, while another lane has a floor
-unfoldable refused_if_none : Timestamp → Machine → Step → Step
+unfoldable refused_if_none : Option ℕ → Machine → Step → Step
 refused_if_none None m s = record { answer = Refused 9; machine = m }
-refused_if_none (At f) m s = s
+refused_if_none (Some f) m s = s
 
 unfoldable nine_on_empty : Design
 nine_on_empty = calling (logging (λ r z L f m. refused_if_none (lane_at m.state L).floor m (log_step_by r z L f m)) call_step)
@@ -690,9 +686,9 @@ ends-at-mark =
     max_lag 1000 junk (16 ∷ 0 ∷ []) (0 ∷ 0 ∷ []) refl
 
 -- 32. A marked lane's sequences are not undone. Lane 0 has logged at 2 and drained, so the boundary is 2; lane 1's commit at 6 stays
-unfoldable where_given : Timestamp → List Complete → List Complete
+unfoldable where_given : Option ℕ → List Complete → List Complete
 where_given None qs = []
-where_given (At s) qs = qs
+where_given (Some s) qs = qs
 
 unfoldable givers : Sizes → List ℕ → (k : ℕ) → List Complete
 givers z image zero = []
@@ -720,18 +716,18 @@ ends-at-commit =
     (call (log 1 (set1 9)) ∷ call (redo 1) ∷ call (drain 1) ∷ three_on_lane0 ++ all_back_and_cut) max_lag 1000 junk (16 ∷ 0 ∷ []) (0 ∷ 0 ∷ []) refl
 
 -- recovery by another boundary: the least of what the lanes below k give by g
-unfoldable least_by : (Latest → Timestamp) → Sizes → List ℕ → (k : ℕ) → Timestamp
+unfoldable least_by : (Option Sequence → Option ℕ) → Sizes → List ℕ → (k : ℕ) → Option ℕ
 least_by g z image zero = None
 least_by g z image (suc k) = lesser (least_by g z image k) (g (latest_in z image k))
 
-unfoldable bounded_by : (Latest → Timestamp) → Design
+unfoldable bounded_by : (Option Sequence → Option ℕ) → Design
 bounded_by g =
     storing (λ z image. undo_sequences (undone_from (least_by g z image z.lanes) (complete_of z image z.lanes)) ++ (base z image ++ clearing z))
 
 -- 34. The same by recovery: a timestamp over one entry is taken for a mark. A commit whose timestamp did not reach the log stays
-unfoldable gives_over_one : Latest → Timestamp
-gives_over_one Nothing = None
-gives_over_one (Is q) = cond (leb q.count 1) None (At q.stamp)
+unfoldable gives_over_one : Option Sequence → Option ℕ
+gives_over_one None = None
+gives_over_one (Some q) = cond (leb q.count 1) None (Some q.stamp)
 
 unfoldable one_as_mark : Design
 one_as_mark = bounded_by gives_over_one
@@ -743,9 +739,9 @@ one-as-mark =
     (call (log 0 (set0 2)) ∷ call (redo 0) ∷ write_back 1 ∷ fails junk ∷ []) max_lag 1000 junk (2 ∷ 0 ∷ []) (0 ∷ 0 ∷ []) refl
 
 -- 35. A mark gives a boundary. Lane 1 is marked at 2 and drained and stays idle; lane 0 commits at 6, is marked and drained, and its commit is lost
-unfoldable gives_always : Latest → Timestamp
-gives_always Nothing = None
-gives_always (Is q) = At q.stamp
+unfoldable gives_always : Option Sequence → Option ℕ
+gives_always None = None
+gives_always (Some q) = Some q.stamp
 
 unfoldable marks_give : Design
 marks_give = bounded_by gives_always
@@ -760,7 +756,7 @@ marks-give =
 -- ---- commits that can no longer be lost
 -- 36. The boundary is the oldest timestamp over entries, not the least of the lanes' newest. Lane 0 commits at 4, is marked and drained, so no lane has a
 -- floor any more; the commit is lost
-unfoldable oldest : List Complete → Timestamp
+unfoldable oldest : List Complete → Option ℕ
 oldest [] = None
 oldest (q ∷ qs) = lesser (given (length q.entries) q.stamp) (oldest qs)
 
@@ -814,9 +810,9 @@ unfolding made never_lags lagging with_lag
 never-lags = wrong-loss never_lags small 2 (0 ∷ 0 ∷ []) lane0_ahead (log 0 (set0 3)) (fails junk ∷ []) 8 2 refl
 
 -- 38. A timestamp at the limit is refused: 4, with a floor of 2 and a limit of 2
-unfoldable reaches : (lag s : ℕ) → Timestamp → Bool
+unfoldable reaches : (lag s : ℕ) → Option ℕ → Bool
 reaches lag s None = false
-reaches lag s (At f) = leb (f + lag) s
+reaches lag s (Some f) = leb (f + lag) s
 
 unfoldable edge_refused : Design
 edge_refused = lagging (λ z L f m. is_writing z f m && reaches m.state.lag (m.state.clock + 2) (bound_of z (drained z L m).state))
@@ -835,9 +831,9 @@ floors-before =
     wrong_answer floors_before small 2 (0 ∷ 0 ∷ []) (call (log 0 (set0 2)) ∷ call (redo 0) ∷ []) (log 0 (set0 3)) (15 ∷ []) (0 ∷ 6 ∷ []) refl
 
 -- 40. It binds where no lane has a floor, as if that were one of 0. Lane 0 is marked and drained twice
-unfoldable passed_always : (lag s : ℕ) → Timestamp → Bool
+unfoldable passed_always : (lag s : ℕ) → Option ℕ → Bool
 passed_always lag s None = ltb lag s
-passed_always lag s (At f) = ltb (f + lag) s
+passed_always lag s (Some f) = ltb (f + lag) s
 
 unfoldable binds_without : Design
 binds_without = lagging (λ z L f m. is_writing z f m && passed_always m.state.lag (m.state.clock + 2) (bound_of z (drained z L m).state))
@@ -963,7 +959,7 @@ undrained =
     (settling
     (λ z L m.
     unless (settle_refusal z L m) m
-    (record { answer = Settled (m.state.clock + 2); machine = appended z L [] Idle (lane_at m.state L).redo m }))
+    (record { answer = Settled (m.state.clock + 2); machine = appended z L [] None (lane_at m.state L).redo m }))
     call_step)
 
 un-drained : CrashTheorem undrained → ⊥
@@ -1056,7 +1052,7 @@ with_lock_of k m = record { state = with_lock m.state k; pairs = m.pairs; cache 
 
 -- one that goes on as if the lock were free, and leaves it as it is
 unfoldable unlocked : (Machine → Step) → Machine → Step
-unlocked f m = let s = f (with_lock_of Free m) in record { answer = s.answer; machine = with_lock_of m.state.lock s.machine }
+unlocked f m = let s = f (with_lock_of None m) in record { answer = s.answer; machine = with_lock_of m.state.lock s.machine }
 
 -- the transaction that holds the lock
 unfoldable holder : Machine → Locked
@@ -1157,7 +1153,7 @@ freed_at_log =
     (λ z L m.
     let s = proceed_step z L m in
     let k = locked_in s.machine.state.lock in
-    cond (eqb k.logged k.count) (record { answer = s.answer; machine = with_lock_of Free s.machine }) s)
+    cond (eqb k.logged k.count) (record { answer = s.answer; machine = with_lock_of None s.machine }) s)
     call_step)
 
 freed-at-log : CrashTheorem freed_at_log → ⊥
@@ -1207,7 +1203,7 @@ empty_part =
     let k = holder m in
     let s = proceed_step z L m in
     let held : Locked = record { lane = k.lane; stamp = k.stamp; count = k.count; logged = k.logged; written = k.count } in
-    cond (not (is_logging m) && eqb (k.written + 16) k.count) (record { answer = s.answer; machine = with_lock_of (Held held) s.machine }) s)
+    cond (not (is_logging m) && eqb (k.written + 16) k.count) (record { answer = s.answer; machine = with_lock_of (Some held) s.machine }) s)
     call_step)
 
 empty-part : CrashTheorem empty_part → ⊥

@@ -1,6 +1,5 @@
 -- `image::former_length` meets its contract: sizes in range keep every sum and product small. Assumes nothing.
-use Rattle.std.proofs.Common.{arith, rules}
-use Rattle.image.specs.Image.{former_length}
+use Rattle.std.proofs.Common.{arith}
 use Rattle.image.specs.inner.ImageLaws.{sizes-in, logs-small}
 use Rattle.image.proofs.former_length.Goals as goal
 
@@ -17,7 +16,3 @@ pub overflow_add-result-2 : goal.overflow_add-result-2
 overflow_add-result-2 c =
     let s = sizes-in c.args.sizes c.requires in
     omega (arith, logs-small c.args.sizes s)
-
-pub returns : goal.returns
-unfolding former_length
-returns c = search rules

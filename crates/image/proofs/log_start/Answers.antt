@@ -1,6 +1,5 @@
 -- `image::log_start` meets its contract: the log of a lane starts within an image of few words. Assumes nothing.
-use Rattle.std.proofs.Common.{arith, rules}
-use Rattle.image.specs.Image.{log_start}
+use Rattle.std.proofs.Common.{arith}
 use Rattle.image.specs.inner.ImageLaws.{sizes-in, logs-before-small}
 use Rattle.image.proofs.log_start.Goals as goal
 
@@ -19,7 +18,3 @@ pub overflow_add-result-2 : goal.overflow_add-result-2
 overflow_add-result-2 c =
     let s = sizes-in c.args.sizes c.requires.sizes_value in
     omega (arith, logs-before-small c.args.sizes c.args.lane s c.requires.lane_lt_lanes)
-
-pub returns : goal.returns
-unfolding log_start
-returns c = search rules

@@ -1,8 +1,7 @@
 -- `image::sizes_at_end` meets its contract: the sizes are three of the last four words. Assumes nothing.
-use Rattle.std.proofs.Common.{rules}
-use Rattle.image.specs.Image.{sizes_at_end}
+use Rattle.std.proofs.lemmas.Option.{MatchOption-at_some}
+use Rattle.image.proofs.Trailer.{last-sizes}
 use Rattle.image.proofs.sizes_at_end.Goals as goal
 
 pub returns : goal.returns
-unfolding sizes_at_end
-returns c = search rules
+returns c = let last = MatchOption-at_some _ _ _ c.unwrap.ensures c.last_chunk.ensures.cases in last-sizes _ _ last.0 last.1.same

@@ -1,25 +1,21 @@
--- `image::trailer_ok` meets its contract: each return is one of the laws of the trailer. Assumes nothing.
-use Rattle.std.proofs.Common.{sym, ap, ◌∙◌, arith}
-use Rattle.image.specs.Image.{sizes_ok, former_length, image_length}
-use Rattle.image.specs.inner.ImageLaws.{trailer-short, trailer-sizes, trailer-fourth, trailer-long}
+-- `image::trailer_ok` meets its contract: four words there, and the tests of them. Assumes nothing.
+use Rattle.std.proofs.Common.{arith}
+use Rattle.std.proofs.lemmas.Option.{MatchOption-at_some}
+use Rattle.image.specs.inner.ImageLaws.{trailer-short}
+use Rattle.image.proofs.Trailer.{last-tests}
 use Rattle.image.proofs.trailer_ok.Goals as goal
 
-pub returns-then-length-lt4 : goal.returns-then-length-lt4
-returns-then-length-lt4 c = trailer-short _ c.if-length-lt4.true
+pub returns-in_default : goal.returns-in_default
+returns-in_default c = trailer-short _ c.in_default.ensures.cases
 
-pub returns-then-not-sizes_ok : goal.returns-then-not-sizes_ok
-returns-then-not-sizes_ok c =
-    trailer-sizes _ c.if-length-lt4.false (ap sizes_ok (sym c.sizes_at_end-sizes.ensures) ∙ sym c.sizes_ok.ensures ∙ c.if-not-sizes_ok.true)
+pub returns-then-last-former_length : goal.returns-then-last-former_length
+returns-then-last-former_length c =
+    let last = MatchOption-at_some _ _ _ c.in-Some.is c.last_chunk.ensures.cases in
+    let t = last-tests _ _ last.0 last.1.same _ c.sizes_at_end-sizes.ensures in
+    grind arith
 
-pub returns-then-image-length : goal.returns-then-image-length
-returns-then-image-length c =
-    let right = ap sizes_ok (sym c.sizes_at_end-sizes.ensures) ∙ sym c.sizes_ok.ensures ∙ c.if-not-sizes_ok.false in
-    trailer-fourth _ c.if-length-lt4.false right _ (c.former_length.ensures ∙ ap former_length c.sizes_at_end-sizes.ensures)
-    (λ e. omega (arith, e, c.if-image-length.true))
-
-pub returns : goal.returns
-returns c =
-    let right = ap sizes_ok (sym c.sizes_at_end-sizes.ensures) ∙ sym c.sizes_ok.ensures ∙ c.if-not-sizes_ok.false in
-    trailer-long _ c.if-length-lt4.false right _ (c.former_length.ensures ∙ ap former_length c.sizes_at_end-sizes.ensures)
-    c.if-image-length.false
-    _ (c.image_length.ensures ∙ ap image_length c.sizes_at_end-sizes.ensures)
+pub returns-else-last-former_length : goal.returns-else-last-former_length
+returns-else-last-former_length c =
+    let last = MatchOption-at_some _ _ _ c.in-Some.is c.last_chunk.ensures.cases in
+    let t = last-tests _ _ last.0 last.1.same _ c.sizes_at_end-sizes.ensures in
+    grind arith

@@ -1,6 +1,5 @@
--- `inspection::inspect_input` meets its contract: the output buffer has room for any inspection, so what is printed is the inspection of the bytes that
--- were read; and these are all bytes, or one more than the longest input has, of which the inspection is the same. Assumes nothing.
-use Rattle.std.proofs.Common.{◌≡◌, ℕ, ◌+◌, ◌<◌, ◌≤◌, List, ◌++◌, length, take, Option, Result, Ok, Err, OnErr, IfSome, sym, ap, ◌∙◌, subst, arith, length-take-le, inl, inr}
+-- `inspection::inspect_input` meets its contract: what is printed is the inspection of the bytes that were read; and these are all bytes, or one more than the longest input has, of which the inspection is the same. Assumes nothing.
+use Rattle.std.proofs.Common.{rules, ◌≡◌, ℕ, ◌+◌, ◌<◌, ◌≤◌, List, ◌++◌, length, take, Option, Result, Ok, Err, OnErr, IfSome, sym, ap, ◌∙◌, subst, arith, length-take-le, inl, inr}
 use Rattle.std.proofs.lemmas.Bool.{cases_lt}
 use Rattle.std.proofs.lemmas.List.{take_all}
 use Rattle.std.specs.Io.KnownBytes.{Appends, Consumes, IsAtEnd}
@@ -11,8 +10,8 @@ use Rattle.report.specs.declared.SizesAt.{SizesAt}
 use Rattle.report.specs.declared.SizesAt.TheVariants.{End}
 use Rattle.report.specs.inner.ReadingLaws.{longest-few, not-long}
 use Rattle.report.specs.inner.ReportLaws.{taken-few, taken-same}
-use Rattle.inspection.specs.Inspection.{inspection_of, inspection_room, inspected_of, Inspected}
-use Rattle.inspection.specs.inner.InspectionLaws.{refused-alike, inspected, inspected-all}
+use Rattle.inspection.specs.Inspection.{inspection_of, Inspected}
+use Rattle.inspection.specs.inner.InspectionLaws.{refused-alike}
 use Rattle.inspection.proofs.inspect_input.Goals as goal
 
 -- one byte more than the longest is enough: the inspection of these bytes is that of the whole input
@@ -26,22 +25,21 @@ same p xs = elim (cases_lt (longest p + 1) (length xs)) [
 ]
 
 -- a buffer, of which the first `most` bytes were lent and `count` of these were read, and what was printed
-module _ (p : SizesAt) (a b : Option (List ℕ)) (most count r size : ℕ) (blank buf rest output : List ℕ) (asked : most ≡ longest p + 1)
-    (long : longest End + 1 ≡ length blank) (lent : length buf ≡ length (take most blank)) (within : count ≤ length buf) (big : inspection_room ≡ size)
-    (shown : take r output ≡ inspected_of p size (take count (buf ++ rest))) where
+module _ (p : SizesAt) (a b : Option (List ℕ)) (most count : ℕ) (blank buf rest text : List ℕ) (asked : most ≡ longest p + 1)
+    (long : longest End + 1 ≡ length blank) (lent : length buf ≡ length (take most blank)) (within : count ≤ length buf)
+    (shown : text ≡ inspection_of p (take count (buf ++ rest))) where
   full : length buf ≡ longest p + 1
   full = lent ∙ length-take-le most blank (omega (arith, asked, long, longest-few p)) ∙ asked
 
-  was-inspected : r ≡ length (take r output) → Inspected p r
-  was-inspected counts =
-      inspected p (take count (buf ++ rest)) size r output (taken-few count (longest p + 1) (buf ++ rest) (omega (arith, full, within))) (omega (arith, big)) counts shown
+  was-inspected : (r : ℕ) → r ≡ length text → Inspected p r
+  was-inspected r counts = record {
+    input = take count (buf ++ rest);
+    read = taken-few count (longest p + 1) (buf ++ rest) (omega (arith, full, within));
+    printed = counts ∙ ap length shown;
+  }
 
-  all-shown : take r output ≡ inspection_of p (take count (buf ++ rest))
-  unfolding inspection_of
-  all-shown = shown ∙ sym (inspected-all p (take count (buf ++ rest)) size (omega (arith, big)))
-
-  of-input : (P : List ℕ → Type 0) → Consumes a b (take count buf) → (count < length buf → IsAtEnd b) → P (take r output) → IfSome a (λ xs. P (inspection_of p xs))
-  of-input P gave end holds = of-all (inspection_of p) (longest p + 1) (same p) a b buf rest count P full within gave end (subst P all-shown holds)
+  of-input : (P : List ℕ → Type 0) → Consumes a b (take count buf) → (count < length buf → IsAtEnd b) → P text → IfSome a (λ xs. P (inspection_of p xs))
+  of-input P gave end holds = of-all (inspection_of p) (longest p + 1) (same p) a b buf rest count P full within gave end (subst P shown holds)
 
 -- what holds anyway holds on an error
 on-err : {T E : Type 0} (r : Result T E) (X : Type 0) → X → OnErr r X
@@ -50,25 +48,24 @@ on-err (Err e) X x = x
 
 pub returns-clause-inspected : goal.returns-clause-inspected
 returns-clause-inspected g c =
-    was-inspected _ (g.R.Read.remaining c.args.reader.now) (g.R.Read.remaining c.read_full.new.reader) _ _ _ _ _ _ _ _ c.taken-most.ensures
-    c.input_buffer-input.ensures c.read_full.auto.buf c.in_ok-count.ensures.count.0 c.output_buffer-output.ensures c.inspect-length.ensures.printed
-    c.inspect-length.ensures.counts.1
+    was-inspected _ (g.R.Read.remaining c.args.reader.now) (g.R.Read.remaining c.read_full.new.reader) _ _ _ _ _ _ c.taken-most.ensures
+    c.input_buffer-input.ensures c.read_full.auto.buf c.in_ok-count.ensures.count.0 (c.as_bytes-text.ensures.text ∙ c.put_inspection.ensures) _ (search rules)
 
 pub returns-clause-counted : goal.returns-clause-counted
 returns-clause-counted g c =
-    of-input _ _ _ _ _ _ _ _ _ _ _ c.taken-most.ensures c.input_buffer-input.ensures c.read_full.auto.buf c.in_ok-count.ensures.count.0
-    c.output_buffer-output.ensures c.inspect-length.ensures.printed (λ text. c.inspect-length.result ≡ length text) c.in_ok-count.ensures.bytes c.in_ok-count.ensures.end
-    c.inspect-length.ensures.counts.1
+    of-input _ _ _ _ _ _ _ _ _ c.taken-most.ensures c.input_buffer-input.ensures c.read_full.auto.buf c.in_ok-count.ensures.count.0
+    (c.as_bytes-text.ensures.text ∙ c.put_inspection.ensures) (λ text. length c.as_bytes-text.result.now ≡ length text) c.in_ok-count.ensures.bytes
+    c.in_ok-count.ensures.end (search rules)
 
 pub returns-clause-printed : goal.returns-clause-printed
 returns-clause-printed g c =
-    of-input _ _ _ _ _ _ _ _ _ _ _ c.taken-most.ensures c.input_buffer-input.ensures c.read_full.auto.buf c.in_ok-count.ensures.count.0
-    c.output_buffer-output.ensures c.inspect-length.ensures.printed (Appends (g.W.Write.contents c.args.writer.now) (g.W.Write.contents c.write_all.new.writer))
+    of-input _ _ _ _ _ _ _ _ _ c.taken-most.ensures c.input_buffer-input.ensures c.read_full.auto.buf c.in_ok-count.ensures.count.0
+    (c.as_bytes-text.ensures.text ∙ c.put_inspection.ensures) (Appends (g.W.Write.contents c.args.writer.now) (g.W.Write.contents c.write_all.new.writer))
     c.in_ok-count.ensures.bytes c.in_ok-count.ensures.end c.in_ok-write_all.ensures.written
 
 pub returns-in_err-write_all-clause-failed : goal.returns-in_err-write_all-clause-failed
 returns-in_err-write_all-clause-failed g c =
     on-err c.from_residual-in_err-write_all.result _
-    (of-input _ _ _ _ _ _ _ _ _ _ _ c.taken-most.ensures c.input_buffer-input.ensures c.read_full.auto.buf c.in_ok-count.ensures.count.0
-    c.output_buffer-output.ensures c.inspect-length.ensures.printed (AppendsPart (g.W.Write.contents c.args.writer.now) (g.W.Write.contents c.write_all.new.writer))
+    (of-input _ _ _ _ _ _ _ _ _ c.taken-most.ensures c.input_buffer-input.ensures c.read_full.auto.buf c.in_ok-count.ensures.count.0
+    (c.as_bytes-text.ensures.text ∙ c.put_inspection.ensures) (AppendsPart (g.W.Write.contents c.args.writer.now) (g.W.Write.contents c.write_all.new.writer))
     c.in_ok-count.ensures.bytes c.in_ok-count.ensures.end c.in_err-write_all.ensures.failed)

@@ -1,26 +1,33 @@
 -- Inner: how the code goes, need not be believed. Laws of the inspection: what is listed of an input, and the report after it. Assumes nothing.
-use Rattle.std.specs.Prelude.{◌≡◌, ◌≢◌, true, not, List, [], ◌∷◌, ◌++◌, ℕ, ◌+◌, ◌-◌, ◌≤◌, ◌<◌, eqb, take, drop}
+use Rattle.std.specs.Prelude.{◌≡◌, ◌≢◌, true, not, List, [], ◌++◌, ℕ, ◌≤◌, ◌<◌, eqb, Result, Ok, Err, ⊤}
 use Rattle.std.proofs.Math.Path.{refl, ap}
-use Rattle.std.proofs.Common.{sym, ◌∙◌, append-nil, append_assoc, arith, length-drop, take-append-drop, length-take-le, take_all, drop-drop}
+use Rattle.std.proofs.Common.{sym, ◌∙◌, arith}
 use Rattle.std.proofs.Math.ListN.{length}
 use borrow.Author.Tests.{ne_eqb, le-leb, lt-leb}
-use borrow.Rule.Slice.PartMut.{put_mid}
 use Rattle.laws.specs.inner.Tests.{split}
 use Rattle.image.specs.Image.{trailer_ok, sizes_at_end}
 use Rattle.image.specs.declared.Sizes.{Sizes}
 use Rattle.record.specs.Record.{max_lag}
-use Rattle.store.specs.Interface.{blank_of}
+use Rattle.store.specs.Interface.{blank_of, refusal_of}
+use Rattle.store.specs.declared.Refusal.{Refusal}
+use Rattle.store.specs.inner.ResultLaws.{not-zero}
 use Rattle.store.specs.Machine.{Machine}
 use Rattle.recovery.specs.Recovery.{all_made, recovered_by, recover_refusal, recover_step, recover_read_refusal, recover_read_step, told}
-use Rattle.report.specs.Report.{words_in, sizes_in, image_in, longest, input_refusal, no_limit, nvm_only, recovered_from, report_of}
+use Rattle.report.specs.Report.{words_in, sizes_in, image_in, input_refusal, no_limit, nvm_only, recovered_from, report_of}
 use Rattle.report.specs.declared.SizesAt.{SizesAt}
 use Rattle.report.specs.declared.SizesAt.TheVariants.{Start, End}
-use Rattle.report.specs.inner.ReportFacts.{image_words, Blanks, put_at, Put}
+use Rattle.report.specs.inner.ReportFacts.{image_words, Blanks}
 use Rattle.report.specs.inner.ReadingLaws.{length-words}
 use Rattle.report.specs.inner.ReportLaws.{recovery_refusal, blank-nvm, start-read, end_read, untold}
-use Rattle.inspection.specs.Inspection.{listing, listed, inspection_of, inspected_of, inspection_room, Inspected}
+use Rattle.inspection.specs.Inspection.{listing, listed, inspection_of, inspected_of, inspection_room}
 
 -- ---- what is listed
+-- a test that finds a cause: a number that is not 0
+pub refused-for : (r : Result ⊤ Refusal) → ((t : ⊤) → r ≡ Ok t → ⊥) → refusal_of r ≢ 0
+unfolding refusal_of
+refused-for (Ok t) h e = h t refl
+refused-for (Err x) h e = not-zero x e
+
 -- recovery's answer is a refusal exactly where its number is not 0
 answered : (z : Sizes) (lag limit number : ℕ) (m : Machine) → (told (recovered_by z lag limit number m).answer).refused ≡ not (eqb number 0)
 unfolding recovered_by told
@@ -109,43 +116,6 @@ module _ (p : SizesAt) (input : List ℕ) where
   unfolding inspected_of
   inspected-none size h = rw (lt-leb inspection_room size h)
 
-  pub inspected-all : (size : ℕ) → inspection_room ≤ size → listed p input ++ report_of p input ≡ inspected_of p size input
-  unfolding inspected_of inspection_of
+  pub inspected-all : (size : ℕ) → inspection_room ≤ size → inspection_of p input ≡ inspected_of p size input
+  unfolding inspected_of
   inspected-all size h = rw (le-leb inspection_room size h)
-
--- the inspection of what was read, in a buffer with room for any inspection
-pub inspected : (p : SizesAt) (input : List ℕ) (size r : ℕ) (output : List ℕ) → length input ≤ longest p + 1 → inspection_room ≤ size
-    → r ≡ length (take r output) → take r output ≡ inspected_of p size input → Inspected p r
-unfolding inspection_of
-inspected p input size r output few big counts shown =
-    record { input = input; read = few; printed = counts ∙ ap length (shown ∙ sym (inspected-all p input size big)) }
-
-empty : (l : List ℕ) → length l ≡ 0 → l ≡ []
-empty [] e = refl
-empty (x ∷ l) e = absurd (omega arith)
-
--- what is printed at the start of the part of a buffer from place `at` on is printed there
-pub put-part : (at r k : ℕ) (text buffer part : List ℕ) → at ≤ length buffer → k ≡ length buffer - at → length part ≡ length (take k (drop at buffer))
-    → r ≤ length part → take r part ≡ text → drop r part ≡ drop r (take k (drop at buffer)) → Put at text buffer (at + r) (put_mid at k buffer part)
-unfolding put_at
-put-part at r k text buffer part h e l f shown kept =
-    record {
-      fits = omega (arith, n, ap length rest, ap length all, length-drop at buffer);
-      ends = omega (arith, n);
-      left =
-          ap (λ l. take at buffer ++ (part ++ l)) none
-          ∙ ap (λ l. take at buffer ++ l) (append-nil part ∙ sym (take-append-drop r part) ∙ ap (λ l. l ++ drop r part) shown ∙ ap (λ l. text ++ l) rest)
-          ∙ sym (append_assoc (take at buffer) text (drop (at + length text) buffer));
-    }
-  where
-    n : length text ≡ r
-    n = ap length (sym shown) ∙ length-take-le r part f
-
-    all : take k (drop at buffer) ≡ drop at buffer
-    all = take_all k (drop at buffer) (omega (arith, length-drop at buffer))
-
-    rest : drop r part ≡ drop (at + length text) buffer
-    rest = kept ∙ ap (drop r) all ∙ drop-drop r at buffer ∙ ap (λ i. drop (at + i) buffer) (sym n)
-
-    none : drop k (drop at buffer) ≡ []
-    none = empty (drop k (drop at buffer)) (omega (arith, length-drop k (drop at buffer), length-drop at buffer))

@@ -1,10 +1,10 @@
 -- Inner: how the code goes, need not be believed. Laws of the listing: a line more, as loops print it, and how long the parts are. Assumes nothing.
-use Rattle.std.specs.Prelude.{◌≡◌, List, [], ◌∷◌, ◌++◌, length, get_or, take, drop}
+use Rattle.std.specs.Prelude.{◌≡◌, List, [], ◌∷◌, ◌++◌, length, get_or, take, Option, Some, None}
 use Rattle.std.proofs.Math.Path.{refl, sym, ap}
-use Rattle.std.proofs.Common.{◌∙◌, append-nil, append_assoc, add-one, length-drop, length-take-le}
-use Prim.Native.Nat.{ℕ, zero, suc, ◌+◌, ◌-◌, ◌*◌, ◌≤◌}
+use Rattle.std.proofs.Common.{◌∙◌, append-nil, append_assoc, add-one}
+use Prim.Native.Nat.{ℕ, zero, suc, ◌+◌, ◌*◌, ◌≤◌, ◌<◌}
 use native.Mathlib.Omega.{arith}
-use Rattle.std.proofs.Math.Nat.{add-sub_cancel_left}
+use Rattle.std.proofs.Math.Seq.{take-suc}
 use Rattle.std.proofs.Math.ListN.{length-append}
 use Rattle.slot.specs.declared.Content.{Content}
 use Rattle.slot.specs.declared.Content.TheVariants.{Empty, Torn, Entry, Stamp}
@@ -13,16 +13,17 @@ use Rattle.image.specs.declared.Sizes.{Sizes}
 use Rattle.lane_log.specs.Log.{Complete, slot_at, closes, complete_below, complete_in, latest_in}
 use Rattle.lane_log.specs.inner.Search.{closed_at}
 use Rattle.lane_log.proofs.SearchLaws.{closed-from, closes-none, closes-one, closed_as}
-use Rattle.lane_log.specs.declared.Latest.{Latest}
-use Rattle.lane_log.specs.declared.Latest.TheVariants.{Nothing, Is}
 use Rattle.recovery.specs.Recovery.{undone}
 use Rattle.inspection.specs.Inspection.{base_text, slot_text, entry_text, timestamp_text, sequence_text, newest_text, undo_text}
 use Rattle.inspection.specs.Inspection.{named, line_of, content_text, slot_line, slot_lines, sequence_line, sequence_lines, newest_line}
 use Rattle.inspection.specs.Inspection.{lane_text, lanes_text, listing}
 use Rattle.inspection.specs.Inspection.{content_room, slot_room, line_room, lane_room}
 use Rattle.inspection.specs.inner.InspectionFacts.{closed_text, undo_lines}
-use Rattle.recovery.specs.inner.UndoWords.{undo_words}
+use Rattle.recovery.specs.declared.Listed.{Listed}
+use Rattle.recovery.specs.inner.UndoList.{undo_list}
 use Rattle.inspection.specs.inner.LineLaws.{named-short, line-short}
+use Rattle.lane_log.specs.declared.Log.{Log}
+use Rattle.lane_log.specs.declared.Sequence.{Sequence}
 
 -- ---- slots
 content-short : (c : Content) → length (content_text c) ≤ content_room
@@ -59,19 +60,19 @@ sequences-append name [] rs = refl
 sequences-append name (q ∷ qs) rs =
     ap (λ l. sequence_line name q ++ l) (sequences-append name qs rs) ∙ sym (append_assoc (sequence_line name q) (sequence_lines name qs) (sequence_lines name rs))
 
-closed-short : (L : ℕ) (q : Latest) → length (closed_text L q) ≤ line_room
+closed-short : (L : ℕ) (q : Option Sequence) → length (closed_text L q) ≤ line_room
 unfolding closed_text
-closed-short L Nothing = omega arith
-closed-short L (Is q) = omega (arith, line-short sequence_text (L ∷ q.slot ∷ q.count ∷ q.stamp ∷ []))
+closed-short L None = omega arith
+closed-short L (Some q) = omega (arith, line-short sequence_text (L ∷ q.slot ∷ q.count ∷ q.stamp ∷ []))
 
 module _ (W N base : ℕ) (log : List ℕ) (L : ℕ) where
   closed-text : (j : ℕ) → closed_text L (closed_at W N base log j) ≡ sequence_lines sequence_text (closes W N base log L j (slot_at W log j))
   unfolding closed_text sequence_line sequence_lines
   closed-text j = by (closed_at W N base log j) refl
     where
-      by : (x : Latest) → closed_at W N base log j ≡ x → closed_text L x ≡ sequence_lines sequence_text (closes W N base log L j (slot_at W log j))
-      by Nothing e = sym (ap (sequence_lines sequence_text) (closes-none W N base log L j e))
-      by (Is q) e =
+      by : (x : Option Sequence) → closed_at W N base log j ≡ x → closed_text L x ≡ sequence_lines sequence_text (closes W N base log L j (slot_at W log j))
+      by None e = sym (ap (sequence_lines sequence_text) (closes-none W N base log L j e))
+      by (Some q) e =
           let c = closed-from W N base log j q e in
           ap (λ k. line_of sequence_text (L ∷ k ∷ q.count ∷ q.stamp ∷ [])) c.slot
           ∙ ap (λ n. line_of sequence_text (L ∷ j ∷ n ∷ q.stamp ∷ [])) (sym c.whole)
@@ -102,11 +103,11 @@ module _ (W N base : ℕ) (log : List ℕ) (L : ℕ) where
       )
       (omega (arith, below-short k, closed-short L (closed_at W N base log k)))
 
-pub newest-short : (L : ℕ) (q : Latest) → length (newest_line L q) ≤ line_room
+pub newest-short : (L : ℕ) (q : Option Sequence) → length (newest_line L q) ≤ line_room
 unfolding newest_line
-newest-short L Nothing =
+newest-short L None =
     rw (length-append (named newest_text (L ∷ [])) (32 ∷ 110 ∷ 111 ∷ 110 ∷ 101 ∷ 10 ∷ [])) (omega (arith, named-short newest_text (L ∷ [])))
-newest-short L (Is q) = omega (arith, line-short newest_text (L ∷ q.slot ∷ q.count ∷ q.stamp ∷ []))
+newest-short L (Some q) = omega (arith, line-short newest_text (L ∷ q.slot ∷ q.count ∷ q.stamp ∷ []))
 
 -- ---- lanes
 module _ (z : Sizes) (image : List ℕ) where
@@ -126,11 +127,12 @@ module _ (z : Sizes) (image : List ℕ) where
       ))
 
   -- the parts, as they are printed from the lane's log
-  pub lane-parts : (L base : ℕ) (log : List ℕ) (q : Latest) → log ≡ log_of z L image → base ≡ get_or image 0 0 → q ≡ latest_in z image L
-      → slot_lines z.words log L z.slots ++ sequence_lines sequence_text (complete_below z.words z.slots base log L z.slots) ++ newest_line L q
+  pub lane-parts : (L : ℕ) (l : Log) (q : Option Sequence) → l.words ≡ z.words → l.slots ≡ z.slots → l.base ≡ base_of image → l.log.now ≡ log_of z L image
+      → q ≡ latest_in z image L
+      → slot_lines l.words l.log.now L l.slots ++ sequence_lines sequence_text (complete_below l.words l.slots l.base l.log.now L l.slots) ++ newest_line L q
       ≡ lane_text z image L
-  unfolding lane_text complete_in base_of
-  lane-parts L base log q e f g = rw (e, f, g)
+  unfolding lane_text complete_in
+  lane-parts L l q w n b e g = rw (w, n, b, e, g)
 
   pub lanes-none : [] ≡ lanes_text z image 0
   unfolding lanes_text
@@ -146,67 +148,42 @@ module _ (z : Sizes) (image : List ℕ) where
   lanes-short (suc k) h = rw (length-append (lanes_text z image k) (lane_text z image k)) (omega (arith, lanes-short k h, lane-short k h))
 
 -- ---- what recovery undoes
-module _ (words : List ℕ) where
-  -- a group of four words, as it is lent
-  lent : (n : ℕ) → take (4 * n + 4 - 4 * n) (drop (4 * n) words) ≡ take 4 (drop (4 * n) words)
-  lent n = ap (λ k. take k (drop (4 * n) words)) (add-sub_cancel_left (4 * n) 4)
+undo_append : (xs ys : List Listed) → undo_lines (xs ++ ys) ≡ undo_lines xs ++ undo_lines ys
+unfolding undo_lines
+undo_append [] ys = refl
+undo_append (q ∷ qs) ys =
+    ap (λ l. line_of undo_text (q.lane ∷ q.slot ∷ q.count ∷ q.stamp ∷ []) ++ l) (undo_append qs ys)
+    ∙ sym (append_assoc (line_of undo_text (q.lane ∷ q.slot ∷ q.count ∷ q.stamp ∷ [])) (undo_lines qs) (undo_lines ys))
 
-  four : (n : ℕ) → 4 * (n + 1) ≤ length words → length (take 4 (drop (4 * n) words)) ≡ 4
-  four n h = length-take-le 4 (drop (4 * n) words) (omega (arith, length-drop (4 * n) words))
+pub undo-none : (order : List Listed) → [] ≡ undo_lines (take 0 order)
+unfolding undo_lines
+undo-none order = refl
 
-  pub lent-four : (n : ℕ) → 4 * (n + 1) ≤ length words → length (take (4 * n + 4 - 4 * n) (drop (4 * n) words)) ≡ 4
-  lent-four n h = ap length (lent n) ∙ four n h
+pub undo-more : (order : List Listed) (n : ℕ) (d : Listed) → n < length order →
+    let q = get_or order n d in
+    undo_lines (take n order) ++ line_of undo_text (q.lane ∷ q.slot ∷ q.count ∷ q.stamp ∷ []) ≡ undo_lines (take (n + 1) order)
+unfolding undo_lines
+undo-more order n d h =
+    let q = get_or order n d in
+    ap (λ l. undo_lines (take n order) ++ l) (sym (append-nil (line_of undo_text (q.lane ∷ q.slot ∷ q.count ∷ q.stamp ∷ []))))
+    ∙ sym (undo_append (take n order) (q ∷ [])) ∙ ap undo_lines (sym (take-suc order n d h) ∙ ap (λ k. take k order) (sym (add-one n)))
 
-  pub undo-none : [] ≡ undo_lines words 0
-  unfolding undo_lines
-  undo-none = refl
-
-  pub undo-more : (n : ℕ) → undo_lines words n ++ line_of undo_text (take (4 * n + 4 - 4 * n) (drop (4 * n) words)) ≡ undo_lines words (n + 1)
-  unfolding undo_lines
-  undo-more n = ap (λ l. undo_lines words n ++ line_of undo_text l) (lent n) ∙ ap (undo_lines words) (sym (add-one n))
-
-  pub undo-short : (n : ℕ) → 4 * n ≤ length words → length (undo_lines words n) ≤ line_room * n
-  unfolding undo_lines
-  undo-short zero h = omega arith
-  undo-short (suc n) h =
-      rw (length-append (undo_lines words n) (line_of undo_text (take 4 (drop (4 * n) words))))
-      (omega (arith, undo-short n (omega arith), line-short undo_text (take 4 (drop (4 * n) words)), four n (omega arith)))
+pub undo-short : (order : List Listed) → length (undo_lines order) ≤ line_room * length order
+unfolding undo_lines
+undo-short [] = omega arith
+undo-short (q ∷ qs) =
+    rw (length-append (line_of undo_text (q.lane ∷ q.slot ∷ q.count ∷ q.stamp ∷ [])) (undo_lines qs))
+    (omega (arith, undo-short qs, line-short undo_text (q.lane ∷ q.slot ∷ q.count ∷ q.stamp ∷ [])))
 
 -- ---- all of it
--- the first group, and the others
-undo-first : (a b c d : ℕ) (words : List ℕ) (n : ℕ)
-    → undo_lines (a ∷ b ∷ c ∷ d ∷ words) (suc n) ≡ line_of undo_text (a ∷ b ∷ c ∷ d ∷ []) ++ undo_lines words n
-unfolding undo_lines
-undo-first a b c d words zero = sym (append-nil (line_of undo_text (a ∷ b ∷ c ∷ d ∷ [])))
-undo-first a b c d words (suc n) =
-    ap (λ l. undo_lines (a ∷ b ∷ c ∷ d ∷ words) (suc n) ++ line_of undo_text (take 4 l))
-    (ap (λ k. drop k (a ∷ b ∷ c ∷ d ∷ words)) (let e : 4 * suc n ≡ suc (suc (suc (suc (4 * n)))) = omega arith in e))
-    ∙ ap (λ l. l ++ line_of undo_text (take 4 (drop (4 * n) words))) (undo-first a b c d words n)
-    ∙ append_assoc (line_of undo_text (a ∷ b ∷ c ∷ d ∷ [])) (undo_lines words n) (line_of undo_text (take 4 (drop (4 * n) words)))
+undo-all : (qs : List Complete) → undo_lines (undo_list qs) ≡ sequence_lines undo_text qs
+unfolding undo_list sequence_lines sequence_line undo_lines
+undo-all [] = refl
+undo-all (q ∷ qs) = ap (λ l. line_of undo_text (q.lane ∷ q.slot ∷ length q.entries ∷ q.stamp ∷ []) ++ l) (undo-all qs)
 
-words_long : (qs : List Complete) → length (undo_words qs) ≡ 4 * length qs
-unfolding undo_words
-words_long [] = refl
-words_long (q ∷ qs) = omega (arith, words_long qs)
-
-undo-words : (qs : List Complete) → undo_lines (undo_words qs) (length qs) ≡ sequence_lines undo_text qs
-unfolding undo_words sequence_lines sequence_line undo_lines
-undo-words [] = refl
-undo-words (q ∷ qs) =
-    undo-first q.lane q.slot (length q.entries) q.stamp (undo_words qs) (length qs)
-    ∙ ap (λ l. line_of undo_text (q.lane ∷ q.slot ∷ length q.entries ∷ q.stamp ∷ []) ++ l) (undo-words qs)
-
--- the order of undoing, as it is lent
-pub undo-all : (qs : List Complete) (words : List ℕ) (n : ℕ) → 4 * n ≤ length words → take (4 * n) words ≡ undo_words qs
-    → undo_lines (take (4 * n) words) n ≡ sequence_lines undo_text qs
-undo-all qs words n h e =
-    let m : n ≡ length qs = omega (arith, length-take-le (4 * n) words h, ap length e, words_long qs) in
-    ap (λ l. undo_lines l n) e ∙ ap (undo_lines (undo_words qs)) m ∙ undo-words qs
-
-pub listing-parts : (z : Sizes) (image : List ℕ) (base : ℕ) (words : List ℕ) (n : ℕ) → base ≡ get_or image 0 0 → 4 * n ≤ length words
-    → take (4 * n) words ≡ undo_words (undone z image)
-    → line_of base_text (base ∷ []) ++ lanes_text z image z.lanes ++ undo_lines (take (4 * n) words) n ≡ listing z image
+pub listing-parts : (z : Sizes) (image : List ℕ) (base : ℕ) (order : List Listed) → base ≡ get_or image 0 0 → order ≡ undo_list (undone z image)
+    → line_of base_text (base ∷ []) ++ lanes_text z image z.lanes ++ undo_lines order ≡ listing z image
 unfolding listing base_of
-listing-parts z image base words n b h e =
-    ap (λ l. line_of base_text (base ∷ []) ++ lanes_text z image z.lanes ++ l) (undo-all (undone z image) words n h e)
+listing-parts z image base order b e =
+    ap (λ l. line_of base_text (base ∷ []) ++ lanes_text z image z.lanes ++ l) (ap undo_lines e ∙ undo-all (undone z image))
     ∙ ap (λ k. line_of base_text (k ∷ []) ++ lanes_text z image z.lanes ++ sequence_lines undo_text (undone z image)) b

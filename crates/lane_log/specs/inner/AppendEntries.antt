@@ -1,11 +1,10 @@
 -- Inner: how the code goes, need not be believed. The entries of an append alone, and what an append asks of its writes, of its place and of the
 -- buffers. Assumes nothing.
-use Rattle.std.specs.Prelude.{ℕ, ◌+◌, ◌*◌, ◌≤◌, ◌<◌, ◌≡◌, List, [], ◌∷◌, length, take}
+use Rattle.std.specs.Prelude.{ℕ, ◌+◌, ◌*◌, ◌≤◌, ◌<◌, List, [], ◌∷◌, length}
 use Rattle.laws.specs.inner.Lists.{All}
 use Rattle.slot.specs.Slot.{entry_of}
 use Rattle.txn.specs.Txn.{max_writes}
 use Rattle.txn.specs.declared.Write.{Write}
-use Rattle.txn.specs.declared.Writes.{Writes}
 use Rattle.image.specs.Image.{max_words, max_lanes, max_slots}
 use Rattle.image.specs.Stores.{Store}
 use Rattle.lane_log.specs.declared.Cursor.{Cursor}
@@ -16,10 +15,9 @@ abbrev pub WordsBelow : ℕ → List Write → Type 0
 WordsBelow W ws = All (λ (w : Write). w.word < W) ws
 
 -- a list of writes as a run hands it on, to words that an image may have
-pub record Loggable (w : Writes) : Type 0 where
-  pub few : w.count ≤ max_writes
-  pub full : length w.list ≡ max_writes
-  pub low : WordsBelow max_words (take w.count w.list)
+pub record Loggable (ws : List Write) : Type 0 where
+  pub few : length ws ≤ max_writes
+  pub low : WordsBelow max_words ws
 
 -- a place of a log of N slots
 pub record Within (N : ℕ) (c : Cursor) : Type 0 where

@@ -123,18 +123,17 @@ module _ (start N L : ℕ) (ws : List Write) (c₀ : Cursor) (cache₀ flags₀ 
           rw (add-one i, take-suc ws i no_write h, entries-snoc start N c₀ (take i ws) (get_or ws i no_write), length-take-le i ws (omega arith), ← a.place, ← e)
 
 -- and the timestamp that closes them
-module _ (start N stamp n : ℕ) (ws : List Write) (h : n ≤ length ws) (c₀ c : Cursor) (s : Slot) (e : c ≡ advance N n c₀)
-    (f : s ≡ stamp_of n stamp c.wrap) where
-  stores : append_stores start N stamp c₀ (take n ws) ≡ entry_stores start N c₀ (take n ws) ++ slot_stores start c.slot s []
-  stores = rw (append-split start N stamp c₀ (take n ws), length-take-le n ws h, ← e, ← f)
+module _ (start N stamp : ℕ) (ws : List Write) (c₀ c : Cursor) (s : Slot) (e : c ≡ advance N (length ws) c₀) (f : s ≡ stamp_of (length ws) stamp c.wrap) where
+  stores : append_stores start N stamp c₀ ws ≡ entry_stores start N c₀ ws ++ slot_stores start c.slot s []
+  stores = rw (append-split start N stamp c₀ ws, ← e, ← f)
 
-  pub append-stored : (x y z : List ℕ) → y ≡ stored (entry_stores start N c₀ (take n ws)) x → z ≡ stored (slot_stores start c.slot s []) y
-      → z ≡ stored (append_stores start N stamp c₀ (take n ws)) x
-  append-stored x y z g k = rw stores (stored-then (entry_stores start N c₀ (take n ws)) (slot_stores start c.slot s []) x y z g k)
+  pub append-stored : (x y z : List ℕ) → y ≡ stored (entry_stores start N c₀ ws) x → z ≡ stored (slot_stores start c.slot s []) y
+      → z ≡ stored (append_stores start N stamp c₀ ws) x
+  append-stored x y z g k = rw stores (stored-then (entry_stores start N c₀ ws) (slot_stores start c.slot s []) x y z g k)
 
-  pub append-flushed : (L : ℕ) (x y z : List ℕ) → y ≡ flush_all L (places (entry_stores start N c₀ (take n ws))) x
-      → z ≡ flush_all L (places (slot_stores start c.slot s [])) y → z ≡ flush_all L (places (append_stores start N stamp c₀ (take n ws))) x
-  append-flushed L x y z g k = rw stores (flushed-then L (entry_stores start N c₀ (take n ws)) (slot_stores start c.slot s []) x y z g k)
+  pub append-flushed : (L : ℕ) (x y z : List ℕ) → y ≡ flush_all L (places (entry_stores start N c₀ ws)) x
+      → z ≡ flush_all L (places (slot_stores start c.slot s [])) y → z ≡ flush_all L (places (append_stores start N stamp c₀ ws)) x
+  append-flushed L x y z g k = rw stores (flushed-then L (entry_stores start N c₀ ws) (slot_stores start c.slot s []) x y z g k)
 
 -- the place after it
 pub append-ends : (N n : ℕ) (c₀ c d : Cursor) → c ≡ advance N n c₀ → d ≡ onward N c → d ≡ advance N (n + 1) c₀

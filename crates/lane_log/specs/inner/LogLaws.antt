@@ -1,7 +1,7 @@
 -- Inner: how the code goes, need not be believed. Laws of a lane's log: entries back from a timestamp, what a slot closes, what a sequence gives,
 -- hits; nothing found depends on the lane. Assumes nothing.
 use Prim.Native.Nat.{ℕ, zero, suc, ◌+◌, ◌-◌, ◌*◌, ◌≤◌, ◌<◌}
-use Rattle.std.specs.Prelude.{◌≡◌, Bool, true, cond, ◌&&◌, ◌||◌, List, [], ◌∷◌, ◌++◌, map, leb, ltb, get_or}
+use Rattle.std.specs.Prelude.{◌≡◌, Bool, true, cond, ◌&&◌, ◌||◌, List, [], ◌∷◌, ◌++◌, map, leb, ltb, get_or, Option, Some, None}
 use Rattle.std.proofs.Math.Path.{refl, sym, ap, ap₂}
 use Rattle.std.proofs.Common.{◌∙◌, arith, eq-or-lt_of_le, ⊎_elim}
 use Rattle.std.proofs.Math.Bool.{false, or_assoc, or-true}
@@ -16,8 +16,6 @@ use Rattle.slot.specs.declared.Content.{Content}
 use Rattle.slot.specs.declared.Content.TheVariants.{Empty, Torn, Entry, Stamp}
 use Rattle.image.specs.Image.{base_of, log_of}
 use Rattle.image.specs.declared.Sizes.{Sizes}
-use Rattle.lane_log.specs.declared.Timestamp.{Timestamp}
-use Rattle.lane_log.specs.declared.Timestamp.TheVariants.{None, At}
 use Rattle.lane_log.specs.Log.{slot_at, Old, Complete, back, back_wrap, entry_in, entries_back, closes, complete_below, complete_in}
 use Rattle.lane_log.specs.Log.{top_wrap, after_wrap, greater_or, undone_before, insert, ordered}
 use Rattle.lane_log.specs.Log.{sequence_of, first_of, latest, latest_in, given, ahead, overlaps, hits_from, hits}
@@ -25,7 +23,7 @@ use Rattle.lane_log.specs.inner.OrderLaws.{greater-tied, All-ordered, below_at}
 use Rattle.lane_log.specs.inner.Search.{is_entry, entry_back}
 
 -- ---- timestamps, and what a sequence gives
-pub at_one : {a b : ℕ} → At a ≡ At b → a ≡ b
+pub at_one : {a b : ℕ} → Some a ≡ Some b → a ≡ b
 at_one p = cc
 
 -- a mark gives none, any other sequence its timestamp
@@ -33,7 +31,7 @@ pub given-none : (n s : ℕ) → n ≡ 0 → given n s ≡ None
 unfolding given
 given-none n s e = rw (eq-eqb n 0 e)
 
-pub given-some : (n s : ℕ) → 0 < n → given n s ≡ At s
+pub given-some : (n s : ℕ) → 0 < n → given n s ≡ Some s
 unfolding given
 given-some n s h = rw (ne_eqb n 0 (λ e. omega arith))
 
@@ -277,18 +275,18 @@ pub latest-lane : (W N base : ℕ) (log : List ℕ) (L M k : ℕ) → latest (co
 latest-lane W N base log L M k =
     ap latest (complete-lane W N base log L M k) ∙ latest-map L M (All-map (λ q h. h.0) (below_at W N base log M k))
 
-pub hits-lane : (W N base : ℕ) (log : List ℕ) (L M n k m : ℕ) (bound : Timestamp)
+pub hits-lane : (W N base : ℕ) (log : List ℕ) (L M n k m : ℕ) (bound : Option ℕ)
     → hits N k m bound (complete_below W N base log L n) ≡ hits N k m bound (complete_below W N base log M n)
 unfolding hits
 hits-lane W N base log L M n k m None = refl
-hits-lane W N base log L M n k m (At b) = ap (hits_from N k m b) (complete-lane W N base log L M n) ∙ hits-map N k m b L (complete_below W N base log M n)
+hits-lane W N base log L M n k m (Some b) = ap (hits_from N k m b) (complete-lane W N base log L M n) ∙ hits-map N k m b L (complete_below W N base log M n)
 
 -- the latest sequence of a lane, and hits in it, as the code finds them
 pub latest-in : (z : Sizes) (image : List ℕ) (L : ℕ) → latest_in z image L ≡ latest (complete_below z.words z.slots (base_of image) (log_of z L image) 0 z.slots)
 unfolding latest_in complete_in
 latest-in z image L = latest-lane z.words z.slots (base_of image) (log_of z L image) L 0 z.slots
 
-pub hits-in : (z : Sizes) (image : List ℕ) (L k m : ℕ) (bound : Timestamp)
+pub hits-in : (z : Sizes) (image : List ℕ) (L k m : ℕ) (bound : Option ℕ)
     → hits z.slots k m bound (complete_in z image L) ≡ hits z.slots k m bound (complete_below z.words z.slots (base_of image) (log_of z L image) 0 z.slots)
 unfolding complete_in
 hits-in z image L k m bound = hits-lane z.words z.slots (base_of image) (log_of z L image) L 0 z.slots k m bound

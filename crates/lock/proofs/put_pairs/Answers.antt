@@ -1,16 +1,15 @@
--- `lock::put_pairs` meets its contract: the loop has put the pairs below `i`. Assumes nothing.
-use Rattle.std.proofs.Common.{rules, arith}
-use Rattle.lock.specs.inner.PartsLaws.{put-none, put-more, put-inside, put_all}
+-- `lock::put_pairs` meets its contract: the loop has put the writes below `i`. Assumes nothing.
+use Rattle.std.proofs.Common.{rules, take_all}
+use Rattle.lock.specs.inner.PartsLaws.{put-none, put-more}
 use Rattle.lock.proofs.put_pairs.Goals as goal
 
 pub loop-i-init : goal.loop-i-init
-loop-i-init c = (search rules, put-none _ _ c.requires.pairs_len)
-
-pub bounds-pairs-at-in-loop-i : goal.bounds-pairs-at-in-loop-i
-bounds-pairs-at-in-loop-i c = let l = c.loop-i in put-inside _ l.i l.pairs _ l.invariant.1 (search rules)
+loop-i-init c = put-none c.args.writes.now _ (search rules)
 
 pub loop-i-preserved : goal.loop-i-preserved
-loop-i-preserved c = let l = c.loop-i in (search rules, put-more _ l.i l.pairs l.invariant.1 (search rules))
+loop-i-preserved c = let l = c.loop-i in put-more _ l.i l.pairs l.invariant (search rules)
 
 pub returns : goal.returns
-returns c = let l = c.loop-i in put_all _ l.i _ l.invariant.1 (omega arith)
+returns c =
+    let t = take_all c.loop-i.i c.args.writes.now (search rules) in
+    rw (← t) c.loop-i.invariant

@@ -1,8 +1,6 @@
--- `lock::put_pairs` meets its contract: the loop has put the pairs below `i`. Assumes nothing.
-use Rattle.std.proofs.Common.{◌≤◌}
-use Rattle.txn.specs.Txn.{max_long}
+-- `lock::put_pairs` meets its contract: the loop has put the writes below `i`. Assumes nothing.
 use Rattle.lock.specs.inner.PartsLaws.{Put}
 use Rattle.lock.proofs.put_pairs.Given as goal
 
 abbrev pub invariant-loop-i : goal.invariant-loop-i
-invariant-loop-i l = (l.i ≤ max_long) × Put l.writes.list l.i l.pairs
+invariant-loop-i l = Put l.writes l.i l.pairs

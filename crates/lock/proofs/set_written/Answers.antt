@@ -6,7 +6,7 @@ use Rattle.lock.proofs.set_written.Goals as goal
 
 pub overflow_add-written : goal.overflow_add-written
 overflow_add-written c =
-    omega (arith, part-most c.args.held c.requires.written_lt_count, c.part_length.ensures)
+    omega (arith, part-most c.args.held c.requires, c.part_length.ensures)
 
 pub returns-then-written-held : goal.returns-then-written-held
 returns-then-written-held c =

@@ -1,17 +1,21 @@
--- `lock::value_before` meets its contract. The loop's invariant: the word's value is that after the first i of the pairs. Assumes nothing.
-use Rattle.std.proofs.Common.{rules, sym, ◌∙◌}
-use Rattle.lock.specs.inner.PartsLaws.{value_none, value_found, value-other}
+-- `lock::value_before` meets its contract: the search goes back from the last pair. Assumes nothing.
+use Rattle.std.proofs.Common.{◌==◌, sym, rules}
+use Rattle.std.proofs.lemmas.Iterator.Search.{find_from_yields_List}
+use Rattle.std.proofs.lemmas.Iterator.Adapters.{YieldsList-from_rev_slice}
+use Rattle.record.specs.declared.Pair.{Pair}
+use Rattle.lock.specs.inner.PartsLaws.{told}
 use Rattle.lock.proofs.value_before.Goals as goal
 
-pub returns-then-pairs-at : goal.returns-then-pairs-at
-returns-then-pairs-at c =
-    let l = c.loop-i in
-    sym (l.invariant.1 ∙ value_found _ _ _ _ l.i (search rules) c.if-pairs-at.true)
+pub returns-in-Some : goal.returns-in-Some
+returns-in-Some c =
+    let l = c.args.part.now in
+    let e = find_from_yields_List (λ (p : Pair). p.word == c.args.word) _ _ c.find.result c.find.ensures.ran (YieldsList-from_rev_slice l (search rules)) (λ x b q k. search rules) in
+    let t = told c.args.memory.now c.args.word c.requires l in
+    sym (rw (← e, c.in-Some.is) at t)
 
-pub loop-i-preserved : goal.loop-i-preserved
-loop-i-preserved c =
-    let l = c.loop-i in
-    (search rules, l.invariant.1 ∙ value-other _ _ _ _ l.i (search rules) c.if-pairs-at.false)
-
-pub returns : goal.returns
-returns c = let l = c.loop-i in sym (l.invariant.1 ∙ value_none _ _ _ _ l.i (search rules))
+pub returns-in-None : goal.returns-in-None
+returns-in-None c =
+    let l = c.args.part.now in
+    let e = find_from_yields_List (λ (p : Pair). p.word == c.args.word) _ _ c.find.result c.find.ensures.ran (YieldsList-from_rev_slice l (search rules)) (λ x b q k. search rules) in
+    let t = told c.args.memory.now c.args.word c.requires l in
+    sym (rw (← e, c.in-None.is) at t)

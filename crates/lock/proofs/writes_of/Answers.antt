@@ -1,22 +1,25 @@
--- `lock::writes_of` meets its contract: the loop has the writes of the pairs below `i`. Assumes nothing.
-use Rattle.std.proofs.Common.{rules, arith}
-use Rattle.record.specs.Record.{pair_at}
-use Rattle.lock.specs.inner.PartsLaws.{pairs-word, made_none, made_more, made_all}
+-- `lock::writes_of` meets its contract: the loop has the writes of the first `i` pairs. Assumes nothing.
+use Rattle.std.proofs.Common.{◌∙◌, rules, arith, take_all}
+use Rattle.lock.specs.inner.PartsLaws.{word-low, made_none, made_more, made-few}
 use Rattle.lock.proofs.writes_of.Goals as goal
 
 pub loop-i-init : goal.loop-i-init
-loop-i-init c = (search rules, made_none _ _ _)
+loop-i-init c = c.new-writes.ensures ∙ made_none c.args.part.now _
 
-pub value_before-old-requires-clause-word_in_bounds : goal.value_before-old-requires-clause-word_in_bounds
-unfolding pair_at
-value_before-old-requires-clause-word_in_bounds c = pairs-word _ c.args.pairs.now c.args.from _ c.loop-i.i c.requires.count_value (omega arith)
+pub value_before-old-requires : goal.value_before-old-requires
+value_before-old-requires c = word-low _ c.args.part.now c.loop-i.i c.requires.part_value (search rules)
+
+pub push-requires : goal.push-requires
+push-requires c =
+    let l = c.loop-i in
+    (search rules, omega (arith, made-few c.args.part.now _ l.i _ l.invariant (search rules), c.requires.part_len))
 
 pub loop-i-preserved : goal.loop-i-preserved
-unfolding pair_at
 loop-i-preserved c =
     let l = c.loop-i in
-    let low = pairs-word _ c.args.pairs.now c.args.from _ l.i c.requires.count_value (omega arith) in
-    (search rules, made_more _ _ _ l.i l.list _ l.invariant.1 (omega (arith, c.requires.count_le_max_writes)) low c.value_before-old.ensures)
+    c.push.ensures ∙ made_more _ _ l.i _ _ l.invariant (search rules) c.value_before-old.ensures
 
 pub returns : goal.returns
-returns c = let l = c.loop-i in made_all _ _ _ l.i _ _ l.invariant.1 (omega arith)
+returns c =
+    let t = take_all c.loop-i.i c.args.part.now (search rules) in
+    rw (← t) c.loop-i.invariant

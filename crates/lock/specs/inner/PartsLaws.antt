@@ -1,22 +1,26 @@
 -- Inner: how the code goes, need not be believed. Laws of a locked transaction's pairs: a law for each turn of the loops that put them, look back over
 -- them and copy a part; a part's writes. Assumes nothing.
 use Prim.Native.Nat.{ℕ, zero, suc, ◌+◌, ◌-◌, ◌*◌, ◌≤◌, ◌<◌}
-use Rattle.std.specs.Prelude.{◌≡◌, refl, true, cond, eqb, ltb, take, replicate}
-use Rattle.std.proofs.Common.{sym, ◌∙◌, add-one, le_of_suc-le-suc, length-set, take_all, take-suc-set, get_or-take, eq-eqb, ne_eqb, lt-ltb, ltb-true}
+use Rattle.std.specs.Prelude.{◌≡◌, refl, true, cond, eqb, ltb, take, drop, reverse, replicate, Option, MatchOption}
+use Rattle.std.specs.List.{find}
+use Rattle.std.specs.Simd.{first_chunks}
+use Rattle.std.proofs.Common.{sym, ◌∙◌, add-one, le_of_suc-le-suc, length-set, take-suc-set, get_or-take, get_or-drop, length-take-le, eq-eqb, ne_eqb, lt-ltb, ltb-true}
 use Rattle.std.proofs.Math.Path.{ap}
 use mathlib.Core.List.{List, [], ◌∷◌, ◌++◌}
 use native.Mathlib.Omega.{arith}
 use Rattle.std.proofs.Math.ListN.{length, get_or, set}
-use Rattle.std.proofs.lemmas.List.{length-replicate}
-use Rattle.laws.specs.inner.Tests.{and_left, and_right, and_both}
+use Rattle.std.proofs.lemmas.List.{reverse-reverse}
+use Rattle.std.proofs.lemmas.Grind.{reverse_onto}
+use Rattle.std.proofs.Math.Seq.{take-suc}
+use Rattle.laws.specs.inner.Tests.{split, and_left, and_right, and_both}
 use Rattle.laws.specs.inner.Lists.{none, more, get_d_set}
 use Rattle.txn.specs.Txn.{max_writes, max_long}
-use Rattle.txn.specs.inner.Writes.{no_write, padded, writes_of}
-use Rattle.txn.specs.inner.WritesLaws.{padded-none, set-padded}
+use Rattle.txn.specs.inner.Writes.{no_write, padded}
 use Rattle.txn.specs.declared.Write.{Write}
 use Rattle.lane_log.specs.inner.AppendEntries.{WordsBelow}
 use Rattle.record.specs.Record.{no_pair, lock_length, pair_at, pairs_from, part_length, pairs_ok, pairs_of, words_of_pairs}
 use Rattle.record.specs.inner.RecordLaws.{part-most}
+use Rattle.record.proofs.Loops.{redo-more}
 use Rattle.record.specs.declared.Locked.{Locked}
 use Rattle.record.specs.declared.Pair.{Pair}
 use Rattle.store.specs.Locks.{pair_writes}
@@ -46,41 +50,39 @@ pairs-padded zero l = refl
 pairs-padded (suc n) [] = ap (λ (r : List Pair). no_pair ∷ r) (pairs-padded n [])
 pairs-padded (suc n) (w ∷ l) = ap (λ (r : List Pair). pair_for w ∷ r) (pairs-padded n l)
 
--- i pairs put
-pub record Put (list : List Write) (i : ℕ) (pairs : List ℕ) : Type 0 where
-  pub long : length pairs ≡ lock_length
-  pub first : take (2 * i) pairs ≡ words_of_pairs (pairs_of i list)
+-- a pair put among pairs' words
+words-put : (l : List Pair) (i a b : ℕ) (p : Pair) → a ≡ 2 * i → b ≡ 2 * i + 1 → i < length l
+    → set (set (words_of_pairs l) a p.word) b p.value ≡ words_of_pairs (set l i p)
+unfolding words_of_pairs
+words-put [] i a b p d e h = absurd (omega arith)
+words-put (q ∷ l) zero a b p d e h = rw (d, e)
+words-put (q ∷ l) (suc i) a b p d e h =
+    let d' : a ≡ suc (suc (2 * i)) = omega arith in
+    let e' : b ≡ suc (suc (2 * i + 1)) = omega arith in
+    rw (d', e') (ap (λ (r : List ℕ). q.word ∷ q.value ∷ r) (words-put l i (2 * i) (2 * i + 1) p refl refl (le_of_suc-le-suc h)))
 
-pub put-none : (list : List Write) (pairs : List ℕ) → length pairs ≡ lock_length → Put list 0 pairs
+length_pairs_of : (n : ℕ) (l : List Write) → length (pairs_of n l) ≡ n
+unfolding pairs_of
+length_pairs_of zero l = refl
+length_pairs_of (suc n) [] = ap suc (length_pairs_of n [])
+length_pairs_of (suc n) (w ∷ l) = ap suc (length_pairs_of n l)
+
+-- i writes put
+abbrev pub Put : List Write → (i : ℕ) → (pairs : List ℕ) → Type 0
+Put l i pairs = pairs ≡ words_of_pairs (pairs_of max_long (take i l))
+
+pub put-none : (l : List Write) (pairs : List ℕ) → pairs ≡ replicate lock_length 0 → Put l 0 pairs
 unfolding pairs_of words_of_pairs
-put-none list pairs h = record { long = h; first = refl }
+put-none l pairs e = e
 
-pub put-more : (list : List Write) (i : ℕ) (pairs : List ℕ) → Put list i pairs → i < max_long
-    → Put list (i + 1) (set (set pairs (2 * i) (get_or list i no_write).word) (2 * i + 1) (get_or list i no_write).new)
-put-more list i pairs p h =
-    let w = get_or list i no_write in
-    let a : take (suc (2 * i)) (set pairs (2 * i) w.word) ≡ take (2 * i) pairs ++ (w.word ∷ []) =
-    take-suc-set pairs (2 * i) w.word (omega (arith, p.long)) in
-    let b : take (suc (2 * i + 1)) (set (set pairs (2 * i) w.word) (2 * i + 1) w.new) ≡ take (2 * i + 1) (set pairs (2 * i) w.word) ++ (w.new ∷ []) =
-    take-suc-set (set pairs (2 * i) w.word) (2 * i + 1) w.new (omega (arith, length-set pairs (2 * i) w.word, p.long)) in
-    let e : 2 * (i + 1) ≡ suc (2 * i + 1) = omega arith in
-    let f : 2 * i + 1 ≡ suc (2 * i) = omega arith in
-    record {
-      long = simp length-set p.long;
-      first = ap (λ (n : ℕ). take n (set (set pairs (2 * i) w.word) (2 * i + 1) w.new)) e
-          ∙ b
-          ∙ ap (λ (n : ℕ). take n (set pairs (2 * i) w.word) ++ (w.new ∷ [])) f
-          ∙ rw (a, p.first, add-one i, pairs-snoc i list, words_snoc (pairs_of i list) (pair_for w));
-    }
-
--- both words of a pair are inside
-pub put-inside : (list : List Write) (i : ℕ) (pairs : List ℕ) (x : ℕ) → Put list i pairs → i < max_long → 2 * i + 1 < length (set pairs (2 * i) x)
-put-inside list i pairs x p h = rw (length-set pairs (2 * i) x) (omega (arith, p.long))
-
-pub put_all : (list : List Write) (i : ℕ) (pairs : List ℕ) → Put list i pairs → i ≡ max_long → pairs ≡ words_of_pairs (pairs_of max_long list)
-put_all list i pairs p e =
-    let f : take (2 * max_long) pairs ≡ words_of_pairs (pairs_of max_long list) = rw e at p.first in
-    sym (take_all (2 * max_long) pairs (omega (arith, p.long))) ∙ f
+pub put-more : (l : List Write) (i : ℕ) (pairs : List ℕ) → Put l i pairs → i < max_long
+    → Put l (i + 1) (set (set pairs (2 * i) (get_or l i no_write).word) (2 * i + 1) (get_or l i no_write).new)
+put-more l i pairs e h =
+    let w = get_or l i no_write in
+    let p : Pair = record { word = w.word; value = w.new } in
+    rw e
+    (words-put (pairs_of max_long (take i l)) i (2 * i) (2 * i + 1) p refl refl (rw (length_pairs_of max_long (take i l)) h)
+    ∙ ap words_of_pairs (redo-more max_long l i))
 
 -- ---- pairs from pair j on
 from-snoc : (ps : List ℕ) (j n : ℕ) → pairs_from ps j (suc n) ≡ pairs_from ps j n ++ (pair_at ps (j + n) ∷ [])
@@ -192,56 +194,86 @@ writes-low W X (q ∷ l) ws h g =
     more {x = record { word = q.word; old = get_or ws q.word 0; new = q.value }} (omega arith)
     (writes-low W X l (set ws q.word q.value) (and_right (ltb q.word W) (pairs_ok W l) h) g)
 
--- the list of i of them
-module _ (ps : List ℕ) (j : ℕ) (ws : List ℕ) where
-  pub made_none : replicate max_writes no_write ≡ padded max_writes (pair_writes (pairs_from ps j 0) ws)
-  unfolding pair_writes pairs_from
-  made_none = padded-none max_writes
+-- the list of the first i of them
+module _ (ps : List Pair) (ws : List ℕ) where
+  pub made_none : [] ≡ pair_writes (take 0 ps) ws
+  unfolding pair_writes
+  made_none = refl
 
-  pub made_more : (i : ℕ) (list : List Write) (old : ℕ) → list ≡ padded max_writes (pair_writes (pairs_from ps j i) ws) → i < max_writes
-      → get_or ps (2 * (j + i)) 0 < length ws → old ≡ value_before ps j i ws (get_or ps (2 * (j + i)) 0)
-      → set list i (record { word = get_or ps (2 * (j + i)) 0; old = old; new = get_or ps (2 * (j + i) + 1) 0 })
-      ≡ padded max_writes (pair_writes (pairs_from ps j (i + 1)) ws)
-  unfolding pair_at
-  made_more i list old e h l o =
-      let p = pair_at ps (j + i) in
-      let w : Write = record { word = p.word; old = get_or (pairs_written (pairs_from ps j i) ws) p.word 0; new = p.value } in
-      let n : length (pair_writes (pairs_from ps j i) ws) ≡ i = length-writes (pairs_from ps j i) ws ∙ length_pairs ps j i in
-      let v : old ≡ get_or (pairs_written (pairs_from ps j i) ws) p.word 0 = o ∙ value_written ps j i ws p.word l in
-      let s = set-padded max_writes (pair_writes (pairs_from ps j i) ws) w (omega arith) in
-      ap (λ (x : ℕ). set list i (record { word = p.word; old = x; new = p.value })) v
-      ∙ ap (λ (r : List Write). set r i w) e
-      ∙ ap (λ (m : ℕ). set (padded max_writes (pair_writes (pairs_from ps j i) ws)) m w) (sym n)
-      ∙ s
-      ∙ rw (add-one i, from-snoc ps j i, writes-snoc (pairs_from ps j i) p ws)
+  pub made_more : (i : ℕ) (l : List Write) (old : ℕ) → l ≡ pair_writes (take i ps) ws → i < length ps
+      → old ≡ get_or (pairs_written (take i ps) ws) (get_or ps i no_pair).word 0
+      → l ++ (record { word = (get_or ps i no_pair).word; old = old; new = (get_or ps i no_pair).value } ∷ []) ≡ pair_writes (take (i + 1) ps) ws
+  made_more i l old e h o =
+      rw (o, e) (sym (rw (add-one i, take-suc ps i no_pair h, writes-snoc (take i ps) (get_or ps i no_pair) ws)))
 
-  pub made_all : (i n : ℕ) (list : List Write) → list ≡ padded max_writes (pair_writes (pairs_from ps j i) ws) → i ≡ n
-      → record { count = n; list = list } ≡ writes_of max_writes (pair_writes (pairs_from ps j n) ws)
-  unfolding writes_of
-  made_all i n list e d = rw (length-writes (pairs_from ps j n) ws, length_pairs ps j n, ← d, e)
+  pub made-few : (i : ℕ) (l : List Write) → l ≡ pair_writes (take i ps) ws → i ≤ length ps → length l ≡ i
+  made-few i l e h = ap length e ∙ length-writes (take i ps) ws ∙ length-take-le i ps h
+
+-- each of them is to a word below W
+pub word-low : (W : ℕ) (l : List Pair) (i : ℕ) → pairs_ok W l ≡ true → i < length l → (get_or l i no_pair).word < W
+unfolding pairs_ok
+word-low W [] i h b = absurd (omega arith)
+word-low W (q ∷ l) zero h b = ltb-true q.word W (and_left (ltb q.word W) (pairs_ok W l) h)
+word-low W (q ∷ l) (suc i) h b = word-low W l i (and_right (ltb q.word W) (pairs_ok W l) h) (le_of_suc-le-suc b)
+
+-- ---- looking back: the word's value after the pairs is that of the last one to it, or the one before them
+module _ (ws : List ℕ) (word : ℕ) (h : word < length ws) where
+  -- what a search from the last pair on answers
+  abbrev Told : List Pair → Option Pair → Type 0
+  Told l r = MatchOption r (get_or (pairs_written l ws) word 0 ≡ get_or ws word 0) (λ p. get_or (pairs_written l ws) word 0 ≡ p.value)
+
+  told-put : (l : List Pair) (p : Pair) → get_or (pairs_written (l ++ (p ∷ [])) ws) word 0 ≡ cond (eqb p.word word) p.value (get_or (pairs_written l ws) word 0)
+  told-put l p = rw (written-snoc l p ws) (get_d_set (pairs_written l ws) p.word p.value word (rw (length-written l ws) h))
+
+  told-back : (r : List Pair) → Told (reverse r) (find (λ (p : Pair). eqb p.word word) r)
+  unfolding pairs_written
+  told-back [] = refl
+  told-back (p ∷ r) =
+      let s = told-put (reverse r) p in
+      let ih = told-back r in
+      split (eqb p.word word) (λ e. rw (reverse_onto r p [], e) (s ∙ rw e)) (λ e. rw (reverse_onto r p [], e, s, e) ih)
+
+  pub told : (l : List Pair) → Told l (find (λ (p : Pair). eqb p.word word) (reverse l))
+  told l = let t = told-back (reverse l) in rw (reverse-reverse l) at t
+
+-- ---- a pair's words as a chunk
+chunk_at : (m : ℕ) (ps : List ℕ) (i : ℕ) → i < m → record { word = get_or (get_or (first_chunks 2 m ps) i []) 0 0; value = get_or (get_or (first_chunks 2 m ps) i []) 1 0 } ≡ pair_at ps i
+unfolding pair_at
+chunk_at zero ps i h = absurd (omega arith)
+chunk_at (suc m) ps zero h = rw (get_or-take 2 ps 0 0 (omega arith), get_or-take 2 ps 1 0 (omega arith))
+chunk_at (suc m) ps (suc i) h =
+    let e : 2 + 2 * i ≡ 2 * suc i = omega arith in
+    let f : 2 + (2 * i + 1) ≡ 2 * suc i + 1 = omega arith in
+    chunk_at m (drop 2 ps) i (le_of_suc-le-suc h) ∙ rw (get_or-drop 2 ps (2 * i) 0, get_or-drop 2 ps (2 * i + 1) 0, e, f)
+
+pub chunk-is : (m : ℕ) (ps : List ℕ) (chunks : List (List ℕ)) (j n i : ℕ) → chunks ≡ first_chunks 2 m ps → i < n → j + i < m
+    → record { word = get_or (get_or (take n (drop j chunks)) i []) 0 0; value = get_or (get_or (take n (drop j chunks)) i []) 1 0 } ≡ pair_at ps (j + i)
+chunk-is m ps chunks j n i e h b =
+    rw (get_or-take n (drop j chunks) i [] h, get_or-drop j chunks i [], e) (chunk_at m ps (j + i) b)
 
 -- ---- a part as an array: i of its pairs
 pub record Copied (ps : List ℕ) (j i : ℕ) (part : List Pair) : Type 0 where
   pub whole : length part ≡ max_writes
   pub first : take i part ≡ pairs_from ps j i
 
-pub copied_none : (ps : List ℕ) (j : ℕ) → Copied ps j 0 (replicate max_writes no_pair)
+pub copied_none : (ps : List ℕ) (j : ℕ) (part : List Pair) → length part ≡ max_writes → Copied ps j 0 part
 unfolding pairs_from
-copied_none ps j = record { whole = length-replicate max_writes no_pair; first = refl }
+copied_none ps j part h = record { whole = h; first = refl }
 
-pub copied_more : (ps : List ℕ) (j i : ℕ) (part : List Pair) → Copied ps j i part → i < max_writes
-    → Copied ps j (i + 1) (set part i (record { word = get_or ps (2 * (j + i)) 0; value = get_or ps (2 * (j + i) + 1) 0 }))
-unfolding pair_at
-copied_more ps j i part c h =
-    record {
+pub copied_more : (ps : List ℕ) (j i : ℕ) (part : List Pair) (p : Pair) → Copied ps j i part → i < max_writes → p ≡ pair_at ps (j + i)
+    → Copied ps j (i + 1) (set part i p)
+copied_more ps j i part p c h e =
+    rw e
+    (record {
       whole = length-set part i (pair_at ps (j + i)) ∙ c.whole;
       first = rw (add-one i, from-snoc ps j i, ← c.first) (take-suc-set part i (pair_at ps (j + i)) (omega (arith, c.whole)));
-    }
+    })
 
--- such an array's pairs are of words inside an image of more than W words
-pub part-words : (W : ℕ) (ps : List ℕ) (j n size : ℕ) (part : List Pair) → take n part ≡ pairs_from ps j n → pairs_ok W (pairs_from ps j n) ≡ true
-    → 1 + W ≤ size → (i : ℕ) → i < n → 1 + (get_or part i no_pair).word < size
+-- its pairs are of words inside an image of more than W words
+pub part-words : (W : ℕ) (ps : List ℕ) (j n size : ℕ) (part : List Pair) → part ≡ pairs_from ps j n → pairs_ok W (pairs_from ps j n) ≡ true → 1 + W ≤ size
+    → (i : ℕ) → i < length part → 1 + (get_or part i no_pair).word < size
 part-words W ps j n size part e ok h i l =
-    let f : get_or part i no_pair ≡ pair_at ps (j + i) = sym (get_or-take n part i no_pair l) ∙ ap (λ (r : List Pair). get_or r i no_pair) e ∙ pairs-at ps j n i l in
-    let g : (get_or part i no_pair).word < W = rw f (pairs-word W ps j n i ok l) in
+    let m : i < n = omega (arith, ap length e, length_pairs ps j n) in
+    let f : get_or part i no_pair ≡ pair_at ps (j + i) = ap (λ (r : List Pair). get_or r i no_pair) e ∙ pairs-at ps j n i m in
+    let g : (get_or part i no_pair).word < W = rw f (pairs-word W ps j n i ok m) in
     omega arith

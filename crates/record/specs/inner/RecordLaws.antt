@@ -1,23 +1,17 @@
 -- Inner: how the code goes, need not be believed. Laws of the record: what the range check says, a lane after an update, the lower bound, the redo log.
 -- Assumes nothing.
-use Rattle.std.specs.Prelude.{◌≡◌, refl, true, false, not, ◌&&◌, List, [], ◌∷◌, ℕ, zero, suc, ◌+◌, ◌-◌, ◌%◌, ◌^◌, ◌≤◌, ◌<◌, min, leb, ltb, eqb, length, get_or, take}
+use Rattle.std.specs.Prelude.{◌≡◌, refl, true, false, not, ◌&&◌, List, [], ◌∷◌, ℕ, zero, suc, ◌+◌, ◌-◌, ◌%◌, ◌^◌, ◌≤◌, ◌<◌, min, leb, ltb, eqb, length, get_or, take, Option, Some, None}
 use Rattle.std.proofs.Common.{sym, ap, ◌∙◌, le_of_suc-le-suc, arith, set-set, eqb-true, leb-true, leb-false, ltb-true, ltb-false, lt-ltb, le-ltb}
 use Rattle.laws.specs.inner.Tests.{split, clash, and_left, and_right}
 use Rattle.txn.specs.Txn.{max_writes, max_long}
 use Rattle.txn.specs.declared.Write.{Write}
 use Rattle.image.specs.declared.Sizes.{Sizes}
-use Rattle.lane_log.specs.declared.Timestamp.{Timestamp}
-use Rattle.lane_log.specs.declared.Timestamp.TheVariants.{None, At}
 use Rattle.record.specs.declared.Pair.{Pair}
 use Rattle.record.specs.declared.Logged.{Logged}
-use Rattle.record.specs.declared.Phase.{Phase}
-use Rattle.record.specs.declared.Phase.TheVariants.{Idle, Holds}
 use Rattle.record.specs.declared.Lane.{Lane}
 use Rattle.record.specs.declared.Locked.{Locked}
-use Rattle.record.specs.declared.Lock.{Lock}
-use Rattle.record.specs.declared.Lock.TheVariants.{Free, Held}
 use Rattle.record.specs.declared.Record.{Record}
-use Rattle.record.specs.Record.{no_pair, no_lane, lane_at, is_logged, logged_in, stamp_ok, floor_ok, pairs_ok, phase_ok, lane_ok, lanes_ok, lag_ok, lock_ok}
+use Rattle.record.specs.Record.{no_pair, no_lane, lane_at, is_logged, logged_in, stamp_ok, floor_ok, pairs_ok, phase_ok, lane_ok, lanes_ok, lag_ok, lock_ok, Phase, Lock}
 use Rattle.record.specs.Record.{pairs_from, is_held, locked_in, part_length, held_ok, record_ok, spent}
 use Rattle.record.specs.Record.{lesser, lag_passed, with_lane, with_clock, pairs_of}
 use Rattle.record.specs.inner.Every.{every, every-at}
@@ -56,7 +50,7 @@ pub record LoggedIn (z : Sizes) (clock : ℕ) (redo : List Pair) (g : Logged) : 
   pub stamp : StampIn clock g.stamp
   pub pairs : pairs_ok z.words (take g.count redo) ≡ true
 
-pub logged-in : (z : Sizes) (clock : ℕ) (redo : List Pair) (g : Logged) → phase_ok z clock redo (Holds g) ≡ true → LoggedIn z clock redo g
+pub logged-in : (z : Sizes) (clock : ℕ) (redo : List Pair) (g : Logged) → phase_ok z clock redo (Some g) ≡ true → LoggedIn z clock redo g
 unfolding phase_ok
 logged-in z clock redo g h =
     let a = ltb g.first z.slots in
@@ -79,8 +73,8 @@ logged-in z clock redo g h =
 pub phase-in : (z : Sizes) (clock : ℕ) (redo : List Pair) (p : Phase) → is_logged p ≡ true → phase_ok z clock redo p ≡ true
     → LoggedIn z clock redo (logged_in p)
 unfolding is_logged logged_in
-phase-in z clock redo Idle k h = let e : ◌≡◌ {A = ℕ} 0 1 = cc in absurd (omega arith)
-phase-in z clock redo (Holds g) k h = logged-in z clock redo g h
+phase-in z clock redo None k h = let e : ◌≡◌ {A = ℕ} 0 1 = cc in absurd (omega arith)
+phase-in z clock redo (Some g) k h = logged-in z clock redo g h
 
 pub record LaneIn (z : Sizes) (clock : ℕ) (l : Lane) : Type 0 where
   pub next : l.next < z.slots
@@ -132,7 +126,7 @@ record-in z r ps h =
     }
 
 -- the test of a lock that is known to be held
-pub lock-held : (z : Sizes) (r : Record) (ps : List ℕ) (l : Lock) (k : Locked) → l ≡ Held k → held_ok z r ps k ≡ lock_ok z r ps l
+pub lock-held : (z : Sizes) (r : Record) (ps : List ℕ) (l : Lock) (k : Locked) → l ≡ Some k → held_ok z r ps k ≡ lock_ok z r ps l
 unfolding lock_ok
 lock-held z r ps l k e = rw e
 
@@ -146,8 +140,8 @@ pub record HeldIn (z : Sizes) (clock : ℕ) (ps : List ℕ) (k : Locked) : Type 
 
 pub held_in : (z : Sizes) (r : Record) (ps : List ℕ) (l : Lock) → is_held l ≡ true → lock_ok z r ps l ≡ true → HeldIn z r.clock ps (locked_in l)
 unfolding is_held locked_in lock_ok held_ok
-held_in z r ps Free t h = clash false t refl
-held_in z r ps (Held k) t h =
+held_in z r ps None t h = clash false t refl
+held_in z r ps (Some k) t h =
     let h₁ = and_right (ltb k.lane z.lanes) _ h in
     let h₂ = and_right (not (is_logged (lane_at r k.lane).phase)) _ h₁ in
     let h₃ = and_right (stamp_ok r.clock k.stamp) _ h₂ in
@@ -192,28 +186,28 @@ unfolding with_clock with_lane
 clock-lane r clock L l = refl
 
 -- ---- the lower bound
-pub lesser-none : (a : Timestamp) → lesser a None ≡ a
+pub lesser-none : (a : Option ℕ) → lesser a None ≡ a
 unfolding lesser
 lesser-none None = refl
-lesser-none (At a) = refl
+lesser-none (Some a) = refl
 
-pub lesser-assoc : (a b c : Timestamp) → lesser (lesser a b) c ≡ lesser a (lesser b c)
+pub lesser-assoc : (a b c : Option ℕ) → lesser (lesser a b) c ≡ lesser a (lesser b c)
 unfolding lesser
 lesser-assoc None b c = refl
-lesser-assoc (At a) None c = refl
-lesser-assoc (At a) (At b) None = refl
-lesser-assoc (At a) (At b) (At c) = ap At (let e : min (min a b) c ≡ min a (min b c) = omega arith in e)
+lesser-assoc (Some a) None c = refl
+lesser-assoc (Some a) (Some b) None = refl
+lesser-assoc (Some a) (Some b) (Some c) = ap Some (let e : min (min a b) c ≡ min a (min b c) = omega arith in e)
 
 -- ---- the lag limit
 -- a difference above the limit, where there is one
-pub lag-above : (lag s f : ℕ) → f < s → ltb lag (s - f) ≡ lag_passed lag s (At f)
+pub lag-above : (lag s f : ℕ) → f < s → ltb lag (s - f) ≡ lag_passed lag s (Some f)
 unfolding lag_passed
 lag-above lag s f h =
     split (ltb (f + lag) s) (λ e. lt-ltb lag (s - f) (omega (arith, ltb-true (f + lag) s e)) ∙ sym e)
     (λ e. le-ltb lag (s - f) (omega (arith, ltb-false (f + lag) s e)) ∙ sym e)
 
 -- a bound that is not below the timestamp is not in its way
-pub lag-below : (lag s f : ℕ) → s ≤ f → ltb f s ≡ lag_passed lag s (At f)
+pub lag-below : (lag s f : ℕ) → s ≤ f → ltb f s ≡ lag_passed lag s (Some f)
 unfolding lag_passed
 lag-below lag s f h = le-ltb f s h ∙ sym (le-ltb (f + lag) s (omega arith))
 

@@ -1,6 +1,6 @@
 -- Inner: how the code goes, need not be believed. A recovery that was cut after any of its stores, or with any of the log words cleared, and then done
 -- again, leaves the same image: before the base is stored the next recovery finds the same stores, and from then on nothing to undo. Assumes nothing.
-use Rattle.std.specs.Prelude.{◌≡◌, ◌⊎◌, Bool, cond, ◌&&◌, leb, ltb, get_or}
+use Rattle.std.specs.Prelude.{◌≡◌, ◌⊎◌, Bool, cond, ◌&&◌, leb, ltb, get_or, None}
 use Rattle.std.proofs.Math.Path.{refl, ap, ap₂}
 use Rattle.std.proofs.Common.{sym, ◌∙◌, inr, le_refl}
 use Rattle.std.proofs.Math.Logic.{inl}
@@ -23,7 +23,6 @@ use Rattle.image.specs.Stores.{Store, stored}
 use Rattle.image.specs.inner.StoresLaws.{last_at, length-stored, get_or-stored, stored-append, stored-over, stored-again}
 use Rattle.image.specs.declared.Sizes.{Sizes}
 use Rattle.lane_log.specs.Log.{slot_at, closes, complete_below, complete_in, ordered, first_of, latest, latest_in, contribution}
-use Rattle.lane_log.specs.declared.Timestamp.TheVariants.{None}
 use Rattle.record.specs.Record.{lesser}
 use Rattle.recovery.specs.Recovery.{boundary_below, boundary, complete_of, undone_from, undone, undo_sequences, undo_stores, whole_stamp, greatest_below}
 use Rattle.recovery.specs.Recovery.{greatest_of, new_base, zeros, recovery_stores, recovered_nvm}

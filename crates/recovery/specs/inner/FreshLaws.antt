@@ -1,6 +1,6 @@
 -- Inner: how the code goes, need not be believed. The image that a finished recovery leaves: its length, its base, its data words, and its logs, which
 -- are all 0. Assumes nothing.
-use Rattle.std.specs.Prelude.{◌≡◌, cond, List, ◌∷◌, ℕ, ◌+◌, ◌*◌, ◌≤◌, ◌<◌, eqb, length, get_or, replicate}
+use Rattle.std.specs.Prelude.{◌≡◌, cond, List, ◌∷◌, ℕ, ◌+◌, ◌*◌, ◌≤◌, ◌<◌, eqb, length, get_or, replicate, None}
 use Rattle.std.proofs.Math.Path.{ap, sym}
 use Rattle.std.proofs.Common.{◌∙◌, ext_get_or, ne_eqb}
 use native.Mathlib.Omega.{arith}
@@ -10,7 +10,6 @@ use Rattle.image.specs.Image.{former_length, base_of, data_of, log_start, log_of
 use Rattle.image.specs.inner.ImageLaws.{get_or-data, get_or-log, length-data, length-log, log-fits}
 use Rattle.image.specs.inner.StoresLaws.{last_at, last_at-append, length-stored, get_or-stored}
 use Rattle.image.specs.declared.Sizes.{Sizes}
-use Rattle.lane_log.specs.declared.Timestamp.TheVariants.{None}
 use Rattle.recovery.specs.Recovery.{boundary, undone, undo_stores, new_base, zeros, recovery_stores}
 use Rattle.recovery.specs.inner.OrderLaws.{undone-none}
 use Rattle.recovery.specs.inner.UndoneLaws.{firsts_of, undo_sequences-at}

@@ -1,6 +1,6 @@
 -- Inner: how the code goes, need not be believed. Laws of reading the logs: what a slot offers, a lane's timestamps tried from the greatest down, and
 -- the lanes one after another: the boundary, the new base, the torn slots. Assumes nothing.
-use Rattle.std.specs.Prelude.{◌≡◌, ◌≢◌, Bool, true, List, leb, ltb, eqb, length, set}
+use Rattle.std.specs.Prelude.{◌≡◌, ◌≢◌, Bool, true, List, leb, ltb, eqb, length, set, Option, Some, None}
 use Rattle.std.proofs.Math.Path.{refl, sym, ap, ap₂, subst}
 use Rattle.std.proofs.Common.{◌∙◌, get_or-set_same}
 use Rattle.std.proofs.Math.Bool.{false}
@@ -23,14 +23,10 @@ use Rattle.image.specs.Image.{max_lanes, max_slots, sizes_ok, base_of, log_of}
 use Rattle.image.specs.declared.Sizes.{Sizes}
 use Rattle.lane_log.specs.Log.{slot_at, entries_back, latest_in, given, contribution}
 use Rattle.lane_log.specs.inner.LogLaws.{stamp-in, latest-in}
-use Rattle.lane_log.specs.inner.Search.{entry_back, closed_at}
-use Rattle.lane_log.proofs.SearchLaws.{Closed, closed-from, closed-bad, closed-whole, NoLap, laps-closed, latest-none, latest-lapped}
+use Rattle.lane_log.specs.inner.Search.{entry_back, closed_at, NoLap}
+use Rattle.lane_log.proofs.SearchLaws.{Closed, closed-from, closed-bad, closed-whole, laps-closed, latest-none, latest-lapped}
 use Rattle.recovery.specs.inner.LapLaws.{LapIs, kept, moved, lap-is, lap-every}
-use Rattle.lane_log.specs.declared.Timestamp.{Timestamp}
-use Rattle.lane_log.specs.declared.Timestamp.TheVariants.{None}
 use Rattle.lane_log.specs.declared.Sequence.{Sequence}
-use Rattle.lane_log.specs.declared.Latest.{Latest}
-use Rattle.lane_log.specs.declared.Latest.TheVariants.{Nothing, Is}
 use Rattle.record.specs.Record.{lesser}
 use Rattle.recovery.specs.Recovery.{boundary_below, boundary, whole_stamp, greatest_below, greatest_of, new_base}
 use Rattle.recovery.specs.Recovery.{one_if_torn, torn_below, torn_of, torn_in}
@@ -39,6 +35,58 @@ use Rattle.recovery.specs.inner.PickingLaws.{not-above, is-below}
 use Rattle.recovery.specs.inner.LanesLaws.{numbers-small, lane_inside, put-here, put_other, trees-put}
 
 -- ---- one slot
+-- what a timestamp says
+module _ {c : Content} {n s p : ℕ} (e : c ≡ Stamp n s p) where
+  pub stamp-whole : s ≡ whole_stamp c
+  unfolding whole_stamp
+  stamp-whole = sym (ap whole_stamp e)
+
+  pub stamp-count : n ≡ count_of c
+  unfolding count_of
+  stamp-count = sym (ap count_of e)
+
+  pub stamp-wrap : p ≡ wrap_of c
+  unfolding wrap_of
+  stamp-wrap = sym (ap wrap_of e)
+
+-- and what is none
+abbrev NoStamp : Content → Type 0
+NoStamp c = (n s p : ℕ) → c ≡ Stamp n s p → ⊥
+
+other-whole : (c : Content) → NoStamp c → 0 ≡ whole_stamp c
+unfolding whole_stamp
+other-whole Empty h = refl
+other-whole Torn h = refl
+other-whole (Entry i v p) h = refl
+other-whole (Stamp n s p) h = absurd (h n s p refl)
+
+pub other-wrap : (c : Content) → NoStamp c → 0 ≡ wrap_of c
+unfolding wrap_of
+other-wrap Empty h = refl
+other-wrap Torn h = refl
+other-wrap (Entry i v p) h = refl
+other-wrap (Stamp n s p) h = absurd (h n s p refl)
+
+-- what a slot adds to the greatest timestamp and to the torn slots
+module _ (most torn : ℕ) (c : Content) where
+  pub torn-adds : c ≡ Torn → (most ≡ max most (whole_stamp c)) × (torn + 1 ≡ torn + one_if_torn c)
+  unfolding whole_stamp one_if_torn
+  torn-adds e = rw e (omega arith, refl)
+
+  pub stamp-adds : {n s p : ℕ} → c ≡ Stamp n s p → (max s most ≡ max most (whole_stamp c)) × (torn ≡ torn + one_if_torn c)
+  unfolding whole_stamp one_if_torn
+  stamp-adds e = rw e (omega arith, omega arith)
+
+  pub other-adds : (c ≡ Torn → ⊥) → NoStamp c → (most ≡ max most (whole_stamp c)) × (torn ≡ torn + one_if_torn c)
+  unfolding one_if_torn
+  other-adds g h = (omega (arith, other-whole c h), by c refl)
+    where
+      by : (d : Content) → c ≡ d → torn ≡ torn + one_if_torn c
+      by Empty e = rw e (omega arith)
+      by Torn e = absurd (g e)
+      by (Entry i v p) e = rw e (omega arith)
+      by (Stamp n s p) e = absurd (h n s p e)
+
 -- a timestamp that is offered says how many entries it closes
 offered-by : (base : ℕ) (c : Content) → offered base (whole_stamp c) ≢ 0
     → (c ≡ Stamp (count_of c) (offered base (whole_stamp c)) (wrap_of c)) × (base < offered base (whole_stamp c))
@@ -48,7 +96,7 @@ offered-by base Torn h = absurd (h (split (ltb base 0) (λ e. rw e) (λ e. rw e)
 offered-by base (Entry i v p) h = absurd (h (split (ltb base 0) (λ e. rw e) (λ e. rw e)))
 offered-by base (Stamp n s p) h = split (ltb base s) (λ e. rw e (refl, ltb-true base s e)) (λ e. absurd (h (rw e)))
 
-never : {A : Type 0} {q : Sequence} → Nothing ≡ Is q → A
+never : {A : Type 0} {q : Sequence} → None ≡ Some q → A
 never e = absurd (let z : ◌≡◌ {A = ℕ} 0 1 = cc in omega arith)
 
 module _ (W N base : ℕ) (log : List ℕ) (j : ℕ) where
@@ -57,12 +105,12 @@ module _ (W N base : ℕ) (log : List ℕ) (j : ℕ) where
   unfolding offered whole_stamp
   closed-offered q c = rw (c.reads, lt-ltb base q.stamp c.above)
 
-  offered-none : offered base (whole_stamp (slot_at W log j)) ≡ 0 → closed_at W N base log j ≡ Nothing
+  offered-none : offered base (whole_stamp (slot_at W log j)) ≡ 0 → closed_at W N base log j ≡ None
   offered-none h = by (closed_at W N base log j) refl
     where
-      by : (x : Latest) → closed_at W N base log j ≡ x → x ≡ Nothing
-      by Nothing e = refl
-      by (Is q) e = let c = closed-from W N base log j q e in absurd (omega (arith, closed-offered q c, c.above))
+      by : (x : Option Sequence) → closed_at W N base log j ≡ x → x ≡ None
+      by None e = refl
+      by (Some q) e = let c = closed-from W N base log j q e in absurd (omega (arith, closed-offered q c, c.above))
 
   pub wrap-low : (c : Content) → c ≡ slot_at W log j → wrap_of c ≤ 1
   unfolding wrap_of
@@ -73,6 +121,10 @@ module _ (W N base : ℕ) (log : List ℕ) (j : ℕ) where
 
   -- what is offered before any is tried, as the code's tests tell
   module _ (c : Content) where
+    pub offer-other : NoStamp c → 0 ≡ offer_at W N base log j c
+    unfolding offer_at
+    offer-other h = rw (← other-whole c h, le-leb 0 base (omega arith))
+
     pub offer-low : {s : ℕ} → s ≡ whole_stamp c → s ≤ base → 0 ≡ offer_at W N base log j c
     unfolding offer_at
     offer-low d h = rw (← d, le-leb _ _ h)
@@ -87,7 +139,7 @@ module _ (W N base : ℕ) (log : List ℕ) (j : ℕ) where
       offer-stamp t = rw (← d, lt-leb _ _ h, ← f, ← g, ← k, t)
 
   -- one that lacks its last entry is not complete
-  lacks-none : (c : Content) → c ≡ slot_at W log j → lacks_last W N log j (count_of c) (wrap_of c) ≡ true → closed_at W N base log j ≡ Nothing
+  lacks-none : (c : Content) → c ≡ slot_at W log j → lacks_last W N log j (count_of c) (wrap_of c) ≡ true → closed_at W N base log j ≡ None
   unfolding lacks_last count_of wrap_of
   lacks-none Empty e h = clash false h refl
   lacks-none Torn e h = clash false h refl
@@ -107,7 +159,7 @@ module _ (W N base : ℕ) (log : List ℕ) (j : ℕ) where
       (λ f. absurd (h (rw (e, f))))
       (λ f. rw (e, f, lt-ltb base (whole_stamp c) (leb-false _ _ e))))
 
-  offer-none : (c : Content) → c ≡ slot_at W log j → offer_at W N base log j c ≡ 0 → closed_at W N base log j ≡ Nothing
+  offer-none : (c : Content) → c ≡ slot_at W log j → offer_at W N base log j c ≡ 0 → closed_at W N base log j ≡ None
   unfolding offer_at offered
   offer-none c e h =
       split (leb (whole_stamp c) base)
@@ -160,25 +212,26 @@ module _ (z : Sizes) (image : List ℕ) (L : ℕ) where
         counted = refl;
       }
 
-  pub offered-low : (j : ℕ) (s : List ℕ) (most torn : ℕ) → OfferedTo z image L j s most torn → (c : Content) (t : ℕ) → t ≡ one_if_torn c → torn + t ≤ j + 1
-  offered-low j s most torn r c t e = omega (arith, r.counted, below-low z.words (log_of z L image) j, e, one-low c)
+  pub offered-low : (j : ℕ) (s : List ℕ) (most torn : ℕ) → OfferedTo z image L j s most torn → torn ≤ j
+  offered-low j s most torn r = omega (arith, r.counted, below-low z.words (log_of z L image) j)
 
   pub offered-more : (j : ℕ) (s : List ℕ) (most torn : ℕ) → OfferedTo z image L j s most torn → j < z.slots
-      → (c : Content) (w v m t : ℕ) → c ≡ slot_at z.words (log_of z L image) j → w ≡ whole_stamp c
-      → {log : List ℕ} → log ≡ log_of z L image → v ≡ offer_at z.words z.slots (base_of image) log j c → m ≡ max most w → t ≡ one_if_torn c
-      → OfferedTo z image L (j + 1) (set s j v) m (torn + t)
+      → (c : Content) (v m t : ℕ) → c ≡ slot_at z.words (log_of z L image) j
+      → {log : List ℕ} → log ≡ log_of z L image → v ≡ offer_at z.words z.slots (base_of image) log j c
+      → (m ≡ max most (whole_stamp c)) × (t ≡ torn + one_if_torn c)
+      → OfferedTo z image L (j + 1) (set s j v) m t
   unfolding greatest_below torn_below
-  offered-more j s most torn r h c w v m t e₁ e₂ e₆ e₃ e₄ e₅ =
-      let d : w ≡ whole_stamp (slot_at z.words (log_of z L image) j) = e₂ ∙ ap whole_stamp e₁ in
-      let f : t ≡ one_if_torn (slot_at z.words (log_of z L image) j) = e₅ ∙ ap one_if_torn e₁ in
+  offered-more j s most torn r h c v m t e₁ e₆ e₃ e₄ =
+      let d : whole_stamp c ≡ whole_stamp (slot_at z.words (log_of z L image) j) = ap whole_stamp e₁ in
+      let f : one_if_torn c ≡ one_if_torn (slot_at z.words (log_of z L image) j) = ap one_if_torn e₁ in
       record {
         long = length-set s j v ∙ r.long;
         stamps = below_more (λ i. get_or (set s j v) i 0
             ≡ offer_at z.words z.slots (base_of image) (log_of z L image) i (slot_at z.words (log_of z L image) i)) j
             (λ i l. get_or-set_other s j i v 0 (λ e. omega arith) ∙ r.stamps i l)
             (get_or-set_same s j v 0 (rw r.long h) ∙ e₃ ∙ ap₂ (λ l x. offer_at z.words z.slots (base_of image) l j x) e₆ e₁);
-        whole = rw add-one (omega (arith, d, e₄, r.whole));
-        counted = rw add-one (omega (arith, f, r.counted));
+        whole = rw add-one (omega (arith, d, e₄.0, r.whole));
+        counted = rw add-one (omega (arith, f, e₄.1, r.counted));
       }
 
   pub offered-all : (j : ℕ) (s : List ℕ) (most torn : ℕ) → OfferedTo z image L j s most torn → j ≡ z.slots
@@ -223,6 +276,9 @@ module _ (z : Sizes) (image : List ℕ) (L : ℕ) (pos : 0 < z.slots) (s : List 
     pub search-few : (count_of c ≤ max_entries) × (wrap_of c ≤ 1)
     search-few = let f = stamp-in z.words (log_of z L image) m _ _ _ (sym r ∙ says.0) in (f.count, f.wrap)
 
+    pub search-stamp : c ≡ Stamp (count_of c) (get_or s m 0) (wrap_of c)
+    search-stamp = says.0
+
     -- it is incomplete, and offered no more
     pub search-drops : (i : ℕ) → i < count_of c → entry_back z.words z.slots (log_of z L image) m (wrap_of c) (i + 1) ≡ false
         → Offers z image L (set s m 0)
@@ -239,7 +295,7 @@ module _ (z : Sizes) (image : List ℕ) (L : ℕ) (pos : 0 < z.slots) (s : List 
 
     -- it is complete: the latest
     module _ (w : length (entries_back z.words z.slots (log_of z L image) m (wrap_of c) (count_of c)) ≡ count_of c) where
-      closed-stamp : (i : ℕ) → i < z.slots → (q : Sequence) → closed_at z.words z.slots (base_of image) (log_of z L image) i ≡ Is q → q.stamp ≡ get_or s i 0
+      closed-stamp : (i : ℕ) → i < z.slots → (q : Sequence) → closed_at z.words z.slots (base_of image) (log_of z L image) i ≡ Some q → q.stamp ≡ get_or s i 0
       closed-stamp i k q x =
           sym (o.some i k (λ d. never (sym (o.every i k d) ∙ x))
           ∙ closed-offered z.words z.slots (base_of image) (log_of z L image) i q
@@ -257,7 +313,7 @@ module _ (z : Sizes) (image : List ℕ) (L : ℕ) (pos : 0 < z.slots) (s : List 
           d (sym (closed-stamp i (omega (arith, search-low)) r
           (laps-closed z.words z.slots (base_of image) (log_of z L image) (get_or s m 0) (wrap_of c) i r says.1 l)) ∙ l.stamp)
 
-      search-found : latest_in z image L ≡ Is found
+      search-found : latest_in z image L ≡ Some found
       unfolding found here
       search-found =
           latest-in z image L
@@ -266,7 +322,7 @@ module _ (z : Sizes) (image : List ℕ) (L : ℕ) (pos : 0 < z.slots) (s : List 
           (λ i k q x. rw (closed-stamp i k q x) (not-above s i m (most i k)))
           (λ i l k q x. rw (closed-stamp i k q x) (is-below s i m l (most i k)))
           (wrap_of c) (sym r ∙ says.0)
-          ∙ ap Is (sym (lap-every z.words z.slots (log_of z L image) (get_or s m 0) (wrap_of c) s here m laps-offered))
+          ∙ ap Some (sym (lap-every z.words z.slots (log_of z L image) (get_or s m 0) (wrap_of c) s here m laps-offered))
 
       found-stamp : found.stamp ≡ get_or s m 0
       unfolding found here
@@ -283,7 +339,7 @@ module _ (z : Sizes) (image : List ℕ) (L : ℕ) (pos : 0 < z.slots) (s : List 
       search-latest q d = rw (search-found, d, found-stamp)
 
 -- ---- the lanes below k
-pub record Scanned (z : Sizes) (image : List ℕ) (room k : ℕ) (a t : List ℕ) (b : Timestamp) (base torn : ℕ) : Type 0 where
+pub record Scanned (z : Sizes) (image : List ℕ) (room k : ℕ) (a t : List ℕ) (b : Option ℕ) (base torn : ℕ) : Type 0 where
   pub trees : Tournaments room z.slots k a t
   pub offering : Offering z image k a
   pub least : b ≡ boundary_below z image k
@@ -302,7 +358,7 @@ module _ (z : Sizes) (image : List ℕ) (room : ℕ) where
         counted = refl;
       }
 
-  module _ (i : z.lanes * z.slots ≤ room) (k : ℕ) (a t : List ℕ) (b : Timestamp) (base torn : ℕ) (r : Scanned z image room k a t b base torn)
+  module _ (i : z.lanes * z.slots ≤ room) (k : ℕ) (a t : List ℕ) (b : Option ℕ) (base torn : ℕ) (r : Scanned z image room k a t b base torn)
       (l : k < z.lanes)
       (s u : List ℕ)
       (o : Offers z image k s) (w : Tournament s u) where
@@ -315,7 +371,7 @@ module _ (z : Sizes) (image : List ℕ) (room : ℕ) where
         (λ d. rw (eqb-true L k d, put-here z.slots k a s fits o.long) o)
         (λ d. rw (put_other z.slots k a s fits o.long L (eqb-false L k d)) (r.offering.at L (omega (arith, eqb-false L k d))))
 
-    pub scanned-more : (b' : Timestamp) (base' torn' : ℕ)
+    pub scanned-more : (b' : Option ℕ) (base' torn' : ℕ)
         → b' ≡ lesser b (contribution (latest_in z image k)) → base' ≡ max base (greatest_below z.words (log_of z k image) z.slots)
         → torn' ≡ torn + torn_below z.words (log_of z k image) z.slots
         → Scanned z image room (k + 1) (put_mid (k * z.slots) (k * z.slots + z.slots - k * z.slots) a s)
@@ -332,10 +388,10 @@ module _ (z : Sizes) (image : List ℕ) (room : ℕ) where
           counted = rw add-one (omega (arith, f, r.counted));
         })
 
-  pub scanned-low : (k : ℕ) (a t : List ℕ) (b : Timestamp) (base torn : ℕ) → Scanned z image room k a t b base torn → torn ≤ k * z.slots
+  pub scanned-low : (k : ℕ) (a t : List ℕ) (b : Option ℕ) (base torn : ℕ) → Scanned z image room k a t b base torn → torn ≤ k * z.slots
   scanned-low k a t b base torn r = rw r.counted (torn-low z image k)
 
-  pub scanned-all : (k : ℕ) (a t : List ℕ) (b : Timestamp) (base torn : ℕ) → Scanned z image room k a t b base torn → k ≡ z.lanes
+  pub scanned-all : (k : ℕ) (a t : List ℕ) (b : Option ℕ) (base torn : ℕ) → Scanned z image room k a t b base torn → k ≡ z.lanes
       → (b ≡ boundary z image) × (base ≡ new_base z image) × (torn ≡ torn_in z image) × Offering z image z.lanes a
       × Tournaments room z.slots z.lanes a t
   unfolding boundary new_base torn_in

@@ -1,14 +1,13 @@
 -- Inner: how the code goes, need not be believed. What recovery's answer tells is the whole answer: `told` tells the three cases and their values apart.
 -- Assumes nothing.
-use Rattle.std.specs.Prelude.{ℕ, ◌≡◌, refl, cond, List, [], ◌∷◌, get_or}
+use Rattle.std.specs.Prelude.{ℕ, ◌≡◌, refl, cond, List, [], ◌∷◌, get_or, Option}
 use Rattle.std.proofs.Common.{sym, ap, ◌∙◌}
-use Rattle.lane_log.specs.declared.Timestamp.{Timestamp}
-use Rattle.recovery.specs.declared.Recovered.{Recovered}
-use Rattle.recovery.specs.declared.Recovered.TheVariants.{Refused, Cut, Finished}
+use Rattle.recovery.specs.Answers.{Recovered}
+use Rattle.recovery.specs.Answers.{Refused, Cut, Finished}
 use Rattle.recovery.specs.Recovery.{Told, told}
 
 -- the answer with this boundary, count of entries undone and count of torn slots
-unfoldable pub counted : Timestamp → (undone torn : List ℕ) → Recovered
+unfoldable pub counted : Option ℕ → (undone torn : List ℕ) → Recovered
 counted b [] ts = Cut
 counted b (u ∷ us) ts = Finished (record { boundary = b; undone = u; torn = get_or ts 0 0 })
 

@@ -1,6 +1,6 @@
 -- Inner: how the code goes, need not be believed. Recovery makes at most max_undone + 1 + 2 * max_lanes * max_slots stores, so that a limit of 2 ^ 64 - 1
 -- is none. Assumes nothing.
-use Rattle.std.specs.Prelude.{◌≡◌, refl, ◌&&◌, List, [], ◌∷◌, ◌++◌, ℕ, zero, suc, ◌+◌, ◌*◌, ◌≤◌, leb, ltb, eqb, length}
+use Rattle.std.specs.Prelude.{◌≡◌, refl, ◌&&◌, List, [], ◌∷◌, ◌++◌, ℕ, zero, suc, ◌+◌, ◌*◌, ◌≤◌, leb, ltb, eqb, length, Option, Some, None}
 use Rattle.std.proofs.Common.{ap, ◌∙◌, arith, eqb-true}
 use Rattle.std.proofs.Math.ListN.{length-append}
 use Rattle.laws.specs.inner.Tests.{split, and_right}
@@ -12,8 +12,6 @@ use Rattle.image.specs.inner.ImageLaws.{InRange, logs-small}
 use Rattle.image.specs.declared.Sizes.{Sizes}
 use Rattle.lane_log.specs.Log.{Complete, slot_at, entries_back, closes, complete_below, complete_in, undone_before, insert, ordered}
 use Rattle.lane_log.specs.inner.LogLaws.{stamp-in}
-use Rattle.lane_log.specs.declared.Timestamp.{Timestamp}
-use Rattle.lane_log.specs.declared.Timestamp.TheVariants.{None, At}
 use Rattle.recovery.specs.Recovery.{boundary, complete_of, at_or_above, undone_from, undone, undo_entries, undo_sequences, undo_stores}
 use Rattle.recovery.specs.Recovery.{recovery_stores}
 use Rattle.recovery.specs.inner.Limit.{max_undone}
@@ -58,10 +56,10 @@ stores-above b (q ∷ qs) =
     (λ e. rw e (omega (arith, stores-cons q (at_or_above b qs), stores-cons q qs, stores-above b qs)))
     (λ e. rw e (omega (arith, stores-cons q qs, stores-above b qs)))
 
-stores-from : (b : Timestamp) (qs : List Complete) → stores (undone_from b qs) ≤ stores qs
+stores-from : (b : Option ℕ) (qs : List Complete) → stores (undone_from b qs) ≤ stores qs
 unfolding undone_from
 stores-from None qs = omega (arith, stores-none)
-stores-from (At b) qs = omega (arith, stores-ordered qs (at_or_above b qs), stores-above b qs)
+stores-from (Some b) qs = omega (arith, stores-ordered qs (at_or_above b qs), stores-above b qs)
 
 -- ---- the sequences of an image
 -- a slot closes one of at most max_entries entries

@@ -1,79 +1,38 @@
 -- Inner: how the code goes, need not be believed. Laws of printing: one text put after another, the digits that `io` spells, and how long the lines are.
 -- Assumes nothing.
-use Rattle.std.specs.Prelude.{◌≡◌, refl, List, [], ◌∷◌, ◌++◌, ℕ, zero, suc, ◌+◌, ◌-◌, ◌*◌, ◌/◌, ◌%◌, ◌^◌, ◌≤◌, ◌<◌, leb, ltb, get_or, set, take, drop}
+use Rattle.std.specs.Prelude.{◌≡◌, refl, List, [], ◌∷◌, ◌++◌, ℕ, zero, suc, ◌+◌, ◌-◌, ◌*◌, ◌/◌, ◌%◌, ◌^◌, ◌≤◌, ◌<◌, leb, ltb, get_or, Option, Some, None}
 use Rattle.std.proofs.Math.Path.{sym, ap}
-use Rattle.std.proofs.Common.{subst, ◌∙◌, append_assoc, arith, add-one, length-drop, drop_at, length-take-le, lt-ltb, le-ltb, leb-true, leb-false}
+use Rattle.std.proofs.Common.{◌∙◌, append-nil, append_assoc, arith, add-one, lt-ltb, le-ltb, leb-true, leb-false}
 use Rattle.std.proofs.Math.Nat.{pow-succ', one-le-pow, pow-le-pow_right}
 use Rattle.std.proofs.Math.ListN.{length, length-append}
-use Rattle.std.proofs.Math.Seq.{paste, paste-zero, paste-suc, take-length, take_at, drop-drop}
 use Rattle.laws.specs.inner.Tests.{split}
-use Rattle.lane_log.specs.declared.Timestamp.{Timestamp}
-use Rattle.lane_log.specs.declared.Timestamp.TheVariants.{None, At}
 use Rattle.io.specs.Digits.{last_digits, hex_digit_ascii, IsDigitCount}
 use Rattle.report.specs.Report.{max_digits, boundary_room, word_room, digits_of, decimal, stamp_text, boundary_line, word_line, word_lines}
-use Rattle.report.specs.inner.ReportFacts.{put_at, Put}
+use Rattle.report.specs.inner.ReportFacts.{Put}
 
--- ---- a text in a buffer
-module _ (at : ℕ) (text buffer : List ℕ) (h : at + length text ≤ length buffer) where
-  -- what stands before the place after the text
-  head-long : length (take at buffer ++ text) ≡ at + length text
-  head-long = length-append (take at buffer) text ∙ ap (λ n. n + length text) (length-take-le at buffer (omega arith))
-
-  pub take_put : take (at + length text) (put_at at text buffer) ≡ take at buffer ++ text
-  unfolding put_at
-  take_put = take_at (take at buffer ++ text) _ _ head-long
-
-  pub drop-put : (n : ℕ) → drop (at + length text + n) (put_at at text buffer) ≡ drop (at + length text + n) buffer
-  unfolding put_at
-  drop-put n =
-      sym (drop-drop n (at + length text) (put_at at text buffer))
-      ∙ ap (drop n) (drop_at (take at buffer ++ text) _ _ head-long)
-      ∙ drop-drop n (at + length text) buffer
-
-  length-put : length (put_at at text buffer) ≡ length buffer
-  unfolding put_at
-  length-put = length-append (take at buffer ++ text) _ ∙ rw (head-long, length-drop) (omega arith)
-
--- the buffer stays as long as it was
-pub put-long : {at : ℕ} {text buffer : List ℕ} {next : ℕ} {after : List ℕ} → Put at text buffer next after → length after ≡ length buffer
-put-long {at} {text} {buffer} p = ap length p.left ∙ length-put at text buffer p.fits
-
--- nothing, at a place in the buffer
-pub put-none : (at : ℕ) (buffer : List ℕ) → at ≤ length buffer → Put at [] buffer at buffer
-unfolding put_at
-put-none at buffer h = record { fits = omega arith; ends = omega arith; left = paste-zero buffer at [] }
+-- ---- one text after another
+-- nothing
+pub put-none : (old : List ℕ) → Put old [] old
+put-none old = record { grown = sym (append-nil old) }
 
 -- one text and then another
-pub put_then : {at : ℕ} {s buffer : List ℕ} {next : ℕ} {between : List ℕ} {t : List ℕ} {last : ℕ} {after : List ℕ}
-    → Put at s buffer next between → Put next t between last after → Put at (s ++ t) buffer last after
-unfolding put_at
-put_then {at} {s} {buffer} {next} {between} {t} {last} {after} p q =
-    record {
-      fits = rw (length-append s t) (omega (arith, put-long p, p.ends, q.fits));
-      ends = rw (length-append s t) (omega (arith, p.ends, q.ends));
-      left = q.left ∙ rw (p.left, p.ends) (both p.fits);
-    }
-  where
-    both : at + length s ≤ length buffer → put_at (at + length s) t (put_at at s buffer) ≡ put_at at (s ++ t) buffer
-    both h =
-        ap (λ l. (l ++ t) ++ drop (at + length s + length t) (put_at at s buffer)) (take_put at s buffer h)
-        ∙ ap (λ l. ((take at buffer ++ s) ++ t) ++ l) (drop-put at s buffer h (length t))
-        ∙ ap (λ l. l ++ drop (at + length s + length t) buffer) (append_assoc (take at buffer) s t)
-        ∙ ap (λ n. (take at buffer ++ (s ++ t)) ++ drop n buffer)
-        (let e : at + length s + length t ≡ at + length (s ++ t) = omega (arith, length-append s t) in e)
+pub put_then : {old s mid t new : List ℕ} → Put old s mid → Put mid t new → Put old (s ++ t) new
+put_then {old} {s} {mid} {t} p q = record { grown = q.grown ∙ ap (λ l. l ++ t) p.grown ∙ append_assoc old s t }
 
--- ---- a text, as a loop copies it
-pub copied_more : (buffer : List ℕ) (at : ℕ) (text : List ℕ) (i : ℕ) (copied : List ℕ) → at + length text ≤ length buffer → i < length text
-    → copied ≡ paste buffer at text i
-    → set copied (at + i) (get_or text i 0) ≡ paste buffer at text (i + 1)
-copied_more buffer at text i copied h k e = rw (e, add-one i) (paste-suc buffer at text i 0 (omega arith) k)
+-- the same text in other words
+pub put_same : {old s t new : List ℕ} → s ≡ t → Put old s new → Put old t new
+put_same {old} e p = record { grown = p.grown ∙ ap (λ l. old ++ l) e }
 
-pub copied_all : (buffer : List ℕ) (at : ℕ) (text : List ℕ) (i : ℕ) (copied : List ℕ) → at + length text ≤ length buffer → i ≡ length text
-    → copied ≡ paste buffer at text i
-    → Put at text buffer (at + length text) copied
-unfolding put_at
-copied_all buffer at text i copied h k e =
-    record { fits = h; ends = refl; left = e ∙ rw k (ap (λ l. take at buffer ++ l ++ drop (at + length text) buffer) (take-length text)) }
+-- on a new page
+pub put-first : {old s new : List ℕ} → old ≡ [] → Put old s new → new ≡ s
+put-first {old} {s} e p = p.grown ∙ ap (λ l. l ++ s) e
+
+pub put-long : {old s new : List ℕ} → Put old s new → length new ≡ length old + length s
+put-long {old} {s} p = ap length p.grown ∙ length-append old s
+
+-- room: what a text of at most k bytes leaves of k + m
+pub put-room : {old s new : List ℕ} {size : ℕ} (k m : ℕ) → Put old s new → length s ≤ k → length old + (k + m) ≤ size → length new + m ≤ size
+put-room k m p h r = omega (arith, put-long p)
 
 -- ---- digits
 -- the digits that `io::decimal` spells are the fewest that hold the number
@@ -143,20 +102,12 @@ unfolding word_lines
 lines-short ws zero = omega arith
 lines-short ws (suc n) = rw length-append (omega (arith, lines-short ws n, line-short n (get_or ws n 0)))
 
--- ---- the same text in other words
-pub put_same : {at : ℕ} {s t buffer : List ℕ} {next : ℕ} {after : List ℕ} → s ≡ t → Put at s buffer next after → Put at t buffer next after
-put_same {at} {s} {t} {buffer} {next} {after} e p = subst (λ l. Put at l buffer next after) e p
-
--- ---- room: what a text of at most k bytes leaves of k + m
-pub put-room : {at : ℕ} {s buffer : List ℕ} {next : ℕ} {after : List ℕ} (k m : ℕ) → Put at s buffer next after → length s ≤ k → at + (k + m) ≤ length buffer
-    → next + m ≤ length after
-put-room k m p h r = omega (arith, put-long p, p.ends)
-
-pub stamp-few : (s : Timestamp) → length (stamp_text s) ≤ max_digits
+-- ---- a timestamp, and the line of the boundary
+pub stamp-few : (s : Option ℕ) → length (stamp_text s) ≤ max_digits
 unfolding stamp_text
 stamp-few None = omega arith
-stamp-few (At s) = decimal-few s
+stamp-few (Some s) = decimal-few s
 
-pub boundary-short : (b : Timestamp) → length (boundary_line b) ≤ boundary_room
+pub boundary-short : (b : Option ℕ) → length (boundary_line b) ≤ boundary_room
 unfolding boundary_line
 boundary-short b = simp length-append (omega (arith, stamp-few b))

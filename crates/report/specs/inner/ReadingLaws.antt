@@ -1,11 +1,13 @@
--- Inner: how the code goes, need not be believed. Laws of reading: a word is two halves of four bytes; the image word by word, and how many words it has;
+-- Inner: how the code goes, need not be believed. Laws of reading: a word is eight bytes; the image word by word, and how many words it has;
 -- which inputs are well formed, and which are refused. Assumes nothing.
 use Rattle.std.specs.Prelude.{◌≡◌, ◌≢◌, true, false, eqb, ltb, length, get_or, set, take, drop}
 use Rattle.std.proofs.Math.Path.{refl, ap}
-use Rattle.std.proofs.Common.{sym, ◌∙◌, add-one, drop-cons, take-suc-set}
+use Rattle.std.proofs.Common.{sym, ◌∙◌, add-one, drop-cons, take-suc-set, length-drop, length-take-le, take_all, w64}
+use Rattle.std.proofs.lemmas.List.{take_rest}
+use Rattle.std.specs.Int.{from_le_bytes}
 use Rattle.std.proofs.Math.Bool.{and-false}
 use mathlib.Core.List.{List, [], ◌∷◌, ◌++◌}
-use Prim.Native.Nat.{ℕ, zero, suc, ◌+◌, ◌*◌, ◌/◌, ◌%◌, ◌≤◌, ◌<◌}
+use Prim.Native.Nat.{ℕ, zero, suc, ◌+◌, ◌-◌, ◌*◌, ◌/◌, ◌%◌, ◌≤◌, ◌<◌}
 use native.Mathlib.Omega.{arith}
 use Rattle.std.proofs.Math.ListN.{length-append}
 use Rattle.std.proofs.Math.Seq.{take-length}
@@ -45,17 +47,24 @@ module _ (input : List ℕ) (at n : ℕ) (h : at + 4 ≤ length input) where
       let d = little-more input (at + 3) (at + 4) n (omega arith) (omega arith) in
       omega (arith, a, b, c, d)
 
--- the four bytes of a half word, each as it was read
-pub half-read : (input : List ℕ) (at : ℕ) (a b c d : ℕ) → at + 4 ≤ length input → a ≡ get_or input at 0 → b ≡ get_or input (at + 1) 0 → c ≡ get_or input (at + 2) 0
-    → d ≡ get_or input (at + 3) 0 → a + 256 * (b + 256 * (c + 256 * d)) ≡ little_endian (take 4 (drop at input))
-half-read input at a b c d h p q r s = omega (arith, little-four input at 0 h, little-none (drop (at + 4) input))
+-- eight bytes, as the library spells them
+word-spelt : (bytes : List ℕ) → length bytes ≡ 8 → from_le_bytes w64 bytes ≡ little_endian bytes
+word-spelt bytes h =
+    omega (
+      arith,
+      little-four bytes 0 4 (omega arith),
+      little-four bytes 4 0 (omega arith),
+      little-none (drop 8 bytes),
+      ap little_endian (take_all 8 bytes (omega arith)),
+    )
 
--- the two halves of a word
-pub word_read : (input : List ℕ) (i low high : ℕ) → 8 * (i + 1) ≤ length input → low ≡ little_endian (take 4 (drop (8 * i) input))
-    → high ≡ little_endian (take 4 (drop (8 * i + 4) input)) → low + 4294967296 * high ≡ word_at input i
+-- a word's bytes, as they are taken from the input
+pub word_read : (input bytes : List ℕ) (i : ℕ) → 8 * (i + 1) ≤ length input → bytes ≡ take 8 (take (length input - 8 * i) (drop (8 * i) input))
+    → from_le_bytes w64 bytes ≡ word_at input i
 unfolding word_at
-word_read input i low high h p q =
-    omega (arith, little-four input (8 * i) 4 (omega arith), little-four input (8 * i) 0 (omega arith), little-none (drop (8 * i + 4) input))
+word_read input bytes i h e =
+    let same : bytes ≡ take 8 (drop (8 * i) input) = e ∙ ap (take 8) (take_rest input (8 * i)) in
+    word-spelt bytes (ap length same ∙ length-take-le 8 (drop (8 * i) input) (omega (arith, length-drop (8 * i) input))) ∙ ap little_endian same
 
 -- ---- words from word k on, as a loop reads them
 module _ (input : List ℕ) (k : ℕ) where

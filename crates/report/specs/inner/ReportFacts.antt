@@ -1,5 +1,5 @@
 -- Inner: how the code goes, need not be believed. What the functions that read and print ask for and leave. Assumes nothing.
-use Rattle.std.specs.Prelude.{ℕ, ◌+◌, ◌/◌, ◌≤◌, ◌≡◌, List, ◌++◌, length, take, drop}
+use Rattle.std.specs.Prelude.{ℕ, ◌/◌, ◌≡◌, List, ◌++◌, length}
 use Rattle.image.specs.Image.{former_length}
 use Rattle.report.specs.Report.{sizes_in, blank}
 use Rattle.report.specs.declared.SizesAt.{SizesAt}
@@ -16,12 +16,6 @@ pub record Blanks (n : ℕ) (cache nvm flags : List ℕ) : Type 0 where
   pub in-nvm : length nvm ≡ n
   pub no-flags : flags ≡ blank n
 
--- a buffer with a text in it from place `at` on
-unfoldable pub put_at : (at : ℕ) → (text buffer : List ℕ) → List ℕ
-put_at at text buffer = take at buffer ++ text ++ drop (at + length text) buffer
-
--- the text fits there, and buffer and next place are those after it
-pub record Put (at : ℕ) (text buffer : List ℕ) (next : ℕ) (after : List ℕ) : Type 0 where
-  pub fits : at + length text ≤ length buffer
-  pub ends : next ≡ at + length text
-  pub left : after ≡ put_at at text buffer
+-- a page with a text behind what it had
+pub record Put (old text new : List ℕ) : Type 0 where
+  pub grown : new ≡ old ++ text

@@ -1,6 +1,6 @@
 -- Inner: how the code goes, need not be believed. Laws of the report: what is printed of a refused input and of one that recovery ran on, and what a
 -- text at the start of a buffer says. Assumes nothing.
-use Rattle.std.specs.Prelude.{◌≡◌, refl, ◌≢◌, true, false, List, [], ◌∷◌, ◌++◌, ℕ, zero, suc, ◌+◌, ◌-◌, ◌≤◌, ◌<◌, leb, take, drop, replicate}
+use Rattle.std.specs.Prelude.{◌≡◌, refl, ◌≢◌, true, false, List, [], ◌∷◌, ◌++◌, ℕ, zero, suc, ◌+◌, ◌-◌, ◌≤◌, ◌<◌, leb, take, drop, replicate, Option, Some, None, Result, Ok, Err}
 use Rattle.std.proofs.Math.Path.{sym, ap}
 use Rattle.std.proofs.Common.{◌∙◌, length-append, length-drop, length-take-le, take_all}
 use native.Mathlib.Omega.{arith}
@@ -12,20 +12,19 @@ use Rattle.image.specs.Image.{max_words, sizes_ok, former_length, all_are, sizes
 use Rattle.image.specs.inner.Facts.{IsImage}
 use Rattle.image.specs.inner.ImageLaws.{sizes-in, length-small, all-good, trailer-image}
 use Rattle.image.specs.declared.Sizes.{Sizes}
-use Rattle.lane_log.specs.declared.Timestamp.{Timestamp}
 use Rattle.record.specs.Record.{max_lag}
 use Rattle.store.specs.Interface.{blank_of}
+use Rattle.store.specs.declared.Refusal.{Refusal}
 use Rattle.store.specs.inner.StoreLaws.{first_holds, first-fails}
 use Rattle.recovery.specs.Recovery.{recovered_by, recover_refusal, recover_step, recover_read_refusal, recover_read_step, told}
-use Rattle.recovery.specs.Interface.{restarted_of}
+use Rattle.recovery.specs.Interface.{restarted_of, recovered_of}
 use Rattle.recovery.specs.declared.Restart.{Restart}
 use Rattle.report.specs.Report.{words_in, all_words, sizes_in, image_in, well_formed, longest, input_refusal, boundary_line, refused_line, word_lines}
 use Rattle.report.specs.Report.{finished_text, no_limit, blank, nvm_only, recovered_from, answer_text, restart_text, report_of, room, printed_of, Reported}
 use Rattle.report.specs.declared.SizesAt.{SizesAt}
 use Rattle.report.specs.declared.SizesAt.TheVariants.{Start, End}
-use Rattle.report.specs.inner.ReportFacts.{image_words, Blanks, Put}
+use Rattle.report.specs.inner.ReportFacts.{image_words, Blanks}
 use Rattle.report.specs.inner.ReadingLaws.{length-words, start-sized, not-long, refused-form, taken-form, refused-long}
-use Rattle.report.specs.inner.PrintingLaws.{put-long, take_put, drop-put}
 
 -- ---- blank buffers
 take-replicate : (n m : ℕ) → n ≤ m → take {A = ℕ} n (replicate m 0) ≡ replicate n 0
@@ -102,6 +101,14 @@ pub untold : (input : List ℕ) → trailer_ok (image_in End input) ≡ false �
 unfolding recovery_refusal recover_read_refusal nvm_only
 untold input e = first-fails _ _ (rw (blanks-alike (image_in End input))) ∙ first_holds _ _ (rw e)
 
+-- what is printed of what recovery returned
+restart-text : (z : Sizes) (r : Result (Option Restart) Refusal) (cache nvm flags : List ℕ)
+    → restart_text z (restarted_of r cache nvm flags) ≡ answer_text z nvm (recovered_of r)
+unfolding restart_text restarted_of recovered_of
+restart-text z (Err e) cache nvm flags = refl
+restart-text z (Ok None) cache nvm flags = refl
+restart-text z (Ok (Some r)) cache nvm flags = refl
+
 -- ---- the image that was read, and what recovery made of it
 module _ (input cache nvm flags image : List ℕ) where
   module _ (t : input_refusal Start input ≡ 0) (b : Blanks (image_words Start input) cache nvm flags) (m : image ≡ words_in input 3 (length nvm)) where
@@ -109,30 +116,30 @@ module _ (input cache nvm flags image : List ℕ) where
     unfolding image_in image_words
     start-read = m ∙ ap (words_in input 3) b.in-nvm
 
-    pub report-given : (z : Sizes) (r : Restart) (cache₁ nvm₁ flags₁ : List ℕ) → z ≡ sizes_in Start input
+    pub report-given : (z : Sizes) (r : Result (Option Restart) Refusal) (cache₁ nvm₁ flags₁ : List ℕ) → z ≡ sizes_in Start input
         → restarted_of r cache₁ nvm₁ flags₁ ≡ recover_step z max_lag no_limit (blank_of cache image flags)
-        → answer_text z nvm₁ r.answer ≡ report_of Start input
+        → answer_text z nvm₁ (recovered_of r) ≡ report_of Start input
     unfolding restart_text recovered_from
     report-given z r cache₁ nvm₁ flags₁ s e =
         let found = blank-nvm _ cache nvm flags image b (ap length m ∙ length-words input 3 (length nvm) ∙ b.in-nvm) in
         let same : restart_text z (recover_step z max_lag no_limit (nvm_only image)) ≡ restart_text (sizes_in Start input) (recovered_from Start input) =
         rw (s, start-read) in
-        ap (restart_text z) (e ∙ ap (recover_step z max_lag no_limit) found) ∙ same ∙ report-taken Start input t
+        sym (restart-text z r cache₁ nvm₁ flags₁) ∙ ap (restart_text z) (e ∙ ap (recover_step z max_lag no_limit) found) ∙ same ∙ report-taken Start input t
 
   module _ (t : input_refusal End input ≡ 0) (b : Blanks (image_words End input) cache nvm flags) (m : image ≡ words_in input 0 (length nvm)) where
     pub end_read : image ≡ all_words input
     unfolding image_words all_words
     end_read = m ∙ ap (words_in input 0) b.in-nvm
 
-    pub report-told : (z : Sizes) (r : Restart) (cache₁ nvm₁ flags₁ : List ℕ) → z ≡ sizes_at_end image
+    pub report-told : (z : Sizes) (r : Result (Option Restart) Refusal) (cache₁ nvm₁ flags₁ : List ℕ) → z ≡ sizes_at_end image
         → restarted_of r cache₁ nvm₁ flags₁ ≡ recover_read_step max_lag no_limit (blank_of cache image flags)
-        → answer_text z nvm₁ r.answer ≡ report_of End input
+        → answer_text z nvm₁ (recovered_of r) ≡ report_of End input
     unfolding restart_text recovered_from sizes_in image_in
     report-told z r cache₁ nvm₁ flags₁ s e =
         let found = blank-nvm _ cache nvm flags image b (ap length m ∙ length-words input 0 (length nvm) ∙ b.in-nvm) in
         let same : restart_text z (recover_read_step max_lag no_limit (nvm_only image)) ≡ restart_text (sizes_in End input) (recovered_from End input) =
         rw (s, end_read) in
-        ap (restart_text z) (e ∙ ap (recover_read_step max_lag no_limit) found) ∙ same ∙ report-taken End input t
+        sym (restart-text z r cache₁ nvm₁ flags₁) ∙ ap (restart_text z) (e ∙ ap (recover_read_step max_lag no_limit) found) ∙ same ∙ report-taken End input t
 
     pub report-untold : trailer_ok image ≡ false → refused_line 14 ≡ report_of End input
     unfolding image_in
@@ -207,27 +214,9 @@ module _ (z : Sizes) (nvm : List ℕ) (i : IsImage z nvm) where
   words_long = length-take-le (1 + z.words - 1) (drop 1 nvm) (omega (arith, words-within, length-drop 1 nvm))
       ∙ (let e : 1 + z.words - 1 ≡ z.words = omega arith in e)
 
-  pub finished-text : (b : Timestamp)
+  pub finished-text : (b : Option ℕ)
       → boundary_line b ++ word_lines (take (1 + z.words - 1) (drop 1 nvm)) (length (take (1 + z.words - 1) (drop 1 nvm))) ≡ finished_text z nvm b
   unfolding finished_text data_of
   finished-text b =
       ap (λ n. boundary_line b ++ word_lines (take (1 + z.words - 1) (drop 1 nvm)) n) words_long
       ∙ ap (λ n. boundary_line b ++ word_lines (take n (drop 1 nvm)) z.words) (let e : 1 + z.words - 1 ≡ z.words = omega arith in e)
-
--- ---- a text at the start of a buffer
-take-zero : (l : List ℕ) → take 0 l ≡ []
-take-zero [] = refl
-take-zero (x ∷ l) = refl
-
-module _ {text buffer : List ℕ} {n : ℕ} {after : List ℕ} (p : Put 0 text buffer n after) where
-  pub put-counts : (n ≤ length after) × (n ≡ length (take n after))
-  put-counts =
-      let h : n ≤ length after = omega (arith, put-long p, p.ends, p.fits) in
-      (h, sym (length-take-le n after h))
-
-  pub put-shows : take n after ≡ text
-  put-shows = rw (p.ends, p.left) (take_put 0 text buffer p.fits ∙ ap (λ l. l ++ text) (take-zero buffer))
-
-  pub put_keeps : drop n after ≡ drop n buffer
-  put_keeps = ap (λ k. drop k after) (let e : n ≡ 0 + length text + 0 = omega (arith, p.ends) in e) ∙ ap (drop (0 + length text + 0)) p.left
-      ∙ drop-put 0 text buffer p.fits 0 ∙ ap (λ k. drop k buffer) (let e : 0 + length text + 0 ≡ n = omega (arith, p.ends) in e)

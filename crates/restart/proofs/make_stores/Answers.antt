@@ -5,12 +5,15 @@ use Rattle.image.specs.Image.{former_length}
 use Rattle.restart.specs.inner.RestartLaws.{stores-all}
 use Rattle.restart.proofs.make_stores.Goals as goal
 
-pub put-due-requires-clause-at_in_bounds : goal.put-due-requires-clause-at_in_bounds
+pub put-requires-clause-at_in_bounds : goal.put-requires-clause-at_in_bounds
 unfolding former_length
-put-due-requires-clause-at_in_bounds c = search rules
+put-requires-clause-at_in_bounds c = search rules
 
 pub returns : goal.returns
 returns c =
-    let d = stores-all _ _ _ _ _ _ _ _ _ _ c.undo_all-undone.ensures.counted c.undo_all-undone.ensures.written c.scan-found.ensures.base c.put-due.ensures.counted
-    c.put-due.ensures.written c.clear_logs-all.ensures.counted c.clear_logs-all.ensures.written in
-    record { boundary = c.scan-found.ensures.boundary; undo = c.undo_all-undone.ensures.counted; counted = d.0; torn = c.scan-found.ensures.torn; written = d.1 }
+    let u = c.undo_all-stores.ensures in
+    let p = c.put.ensures in
+    let q = c.clear_logs.ensures in
+    let d = stores-all _ _ _ _ _ _ _ _ _ _ u.counted u.written c.scan-found.ensures.base p.counted (rw u.limit at p.written)
+    q.counted (rw (p.limit, u.limit) at q.written) in
+    record { boundary = c.scan-found.ensures.boundary; undo = u.counted; counted = d.0; torn = c.scan-found.ensures.torn; written = d.1 }

@@ -1,5 +1,5 @@
 -- Inner: how the code goes, need not be believed. Laws of recovery: all stores together, and the call's three outcomes. Assumes nothing.
-use Rattle.std.specs.Prelude.{◌≡◌, List, [], ◌∷◌, ◌++◌, get_or, take, replicate}
+use Rattle.std.specs.Prelude.{◌≡◌, List, [], ◌∷◌, ◌++◌, get_or, take, replicate, Option, Result, Ok, Err, IsErrAnd}
 use Rattle.std.proofs.Math.Path.{sym, ap}
 use Rattle.std.proofs.Common.{◌∙◌}
 use Prim.Native.Nat.{ℕ, suc, ◌+◌, ◌-◌, ◌*◌, ◌≤◌, ◌<◌}
@@ -12,15 +12,18 @@ use Rattle.image.specs.inner.ImageLaws.{all_in, former-buffers, trailer-four, tr
 use Rattle.image.specs.Stores.{Store, stored}
 use Rattle.image.specs.inner.StoresLaws.{length-stored}
 use Rattle.image.specs.declared.Sizes.{Sizes}
-use Rattle.lane_log.specs.declared.Timestamp.{Timestamp}
 use Rattle.record.specs.Record.{start_record}
 use Rattle.record.specs.declared.Record.{Record}
 use Rattle.store.specs.Machine.{Machine}
 use Rattle.record.specs.Record.{no_pairs}
 use Rattle.store.specs.Calls.{started}
 use Rattle.store.specs.inner.StoreLaws.{first-none}
-use Rattle.store.specs.Interface.{machine_of}
-use Rattle.recovery.specs.declared.Recovered.TheVariants.{Refused, Cut, Finished}
+use Rattle.store.specs.Interface.{refusal_of, machine_of, blank_of}
+use Rattle.store.specs.declared.Refusal.{Refusal}
+use Rattle.recovery.specs.Interface.{restarted_of}
+use Rattle.recovery.specs.Recovery.{Restarted}
+use Rattle.recovery.specs.declared.Restart.{Restart}
+use Rattle.recovery.specs.Answers.{Refused, Cut, Finished}
 use Rattle.recovery.specs.Recovery.{boundary, undo_stores, new_base, torn_in, zeros, recovery_stores, recovered_nvm, all_made, recovered_by}
 use Rattle.recovery.specs.Recovery.{recover_refusal, recover_step, recover_read_refusal, recover_read_step}
 use Rattle.recovery.specs.inner.Limit.{limited}
@@ -104,7 +107,7 @@ module _ (z : Sizes) (lag limit : ℕ) (m : Machine) (all : ℕ) (a : all ≡ le
   unfolding recovered_by all_made
   by-cut nvm n l = rw (n, ← a, lt-leb all limit l)
 
-  pub by-finished : (state : Record) (cache nvm flags : List ℕ) (b : Timestamp) (undone torn : ℕ)
+  pub by-finished : (state : Record) (cache nvm flags : List ℕ) (b : Option ℕ) (undone torn : ℕ)
       → b ≡ boundary z m.nvm → undone ≡ length (undo_stores z m.nvm) → torn ≡ torn_in z m.nvm → nvm ≡ recovered_nvm z limit m.nvm
       → state ≡ start_record lag (get_or nvm 0 0) → cache ≡ nvm → flags ≡ replicate (length nvm) 0 → all ≤ limit
       → record { answer = Finished (record { boundary = b; undone = undone; torn = torn }); machine = machine_of state no_pairs cache nvm flags }
@@ -131,3 +134,10 @@ pub read_taken : (z : Sizes) (lag limit : ℕ) (m : Machine) → z ≡ sizes_at_
     → recovered_by z lag limit 0 m ≡ recover_read_step lag limit m
 unfolding recover_read_step
 read_taken z lag limit m s e = rw (s, e)
+
+-- a call that hands on a refusal leaves what it found
+pub restarted-err : (cache nvm flags : List ℕ) (s : Restarted) (r : Result (Option Restart) Refusal) (e : Refusal) → IsErrAnd r (λ x. x ≡ e)
+    → record { answer = Refused (refusal_of (Err e)); machine = blank_of cache nvm flags } ≡ s → restarted_of r cache nvm flags ≡ s
+unfolding restarted_of refusal_of
+restarted-err cache nvm flags s (Ok t) e p h = elim p [ ]
+restarted-err cache nvm flags s (Err x) e p h = rw p h

@@ -8,5 +8,5 @@ returns c =
     record {
       cached = c.fill_image.ensures;
       persistent = c.fill_image-2.ensures;
-      unflushed = c.clear_flags.ensures ∙ ap (λ k. replicate k 0) c.requires.flags_len;
+      unflushed = c.fill.ensures.after (λ y e. e) ∙ ap (λ k. replicate k 0) c.requires.flags_len;
     }

@@ -12,17 +12,17 @@ bounds-words-0 c = search rules
 pub slice_bounds-copy_words-end : goal.slice_bounds-copy_words-end
 slice_bounds-copy_words-end c = start-inside c.args.sizes c.args.start.now c.args.words.now c.requires.start_len c.requires.words_len
 
-pub slice_bounds-clear_words-count : goal.slice_bounds-clear_words-count
-slice_bounds-clear_words-count c =
+pub slice_bounds-fill-count : goal.slice_bounds-fill-count
+slice_bounds-fill-count c =
     logs-inside c.args.sizes c.args.start.now c.args.words.now c.requires.start_len c.requires.words_len _ c.copy_words.ensures
 
-pub slice_bounds-clear_words-start : goal.slice_bounds-clear_words-start
-slice_bounds-clear_words-start c =
+pub slice_bounds-fill-start : goal.slice_bounds-fill-start
+slice_bounds-fill-start c =
     logs-inside c.args.sizes c.args.start.now c.args.words.now c.requires.start_len c.requires.words_len _ c.copy_words.ensures
 
 pub returns : goal.returns
 returns c =
-    begun-cleared c.args.sizes c.args.start.now c.args.words.now c.requires.start_len c.requires.words_len _ c.copy_words.ensures _ c.clear_words.ensures
+    begun-cleared c.args.sizes c.args.start.now c.args.words.now c.requires.start_len c.requires.words_len _ c.copy_words.ensures _ (c.fill.ensures.after (λ y e. e))
 
 pub shape_of-words : goal.shape_of-words
 shape_of-words c =

@@ -1,16 +1,13 @@
 -- Inner: how the code goes, need not be believed. Laws of a transaction's writes on the cached data words: the part of the image that its run reads, and
--- the writes as the code hands them on. Assumes nothing.
+-- the writes of a run. Assumes nothing.
 use Rattle.std.specs.Prelude.{ℕ, ◌+◌, ◌-◌, ◌≤◌, ◌≡◌, true, List, drop}
 use Rattle.std.proofs.Common.{◌∙◌, arith}
 use Rattle.std.proofs.Math.Path.{ap}
 use Rattle.std.proofs.Math.Nat.{add-sub_cancel_left}
 use Rattle.std.proofs.Math.ListN.{length, take}
-use Rattle.txn.specs.Txn.{max_writes, current, txn_ok, run}
-use Rattle.txn.specs.inner.Writes.{writes_of}
+use Rattle.txn.specs.Txn.{current, txn_ok, run}
 use Rattle.txn.specs.inner.TxnLaws.{few-writes, run-low}
-use Rattle.txn.specs.inner.WritesLaws.{length-padded, take-padded, count-few}
 use Rattle.txn.specs.declared.Write.{Write}
-use Rattle.txn.specs.declared.Writes.{Writes}
 use Rattle.image.specs.Image.{max_words, former_length, data_of}
 use Rattle.image.specs.inner.Facts.{IsImage}
 use Rattle.image.specs.inner.ImageLaws.{sizes-in, length-data}
@@ -41,33 +38,16 @@ data-part z cache i =
       in-data = ap length (part-data z cache) ∙ length-data z cache i.in_image;
     }
 
--- ---- the writes as the code hands them on
-module _ (w : Writes) (ws : List Write) (e : w ≡ writes_of max_writes ws) where
-  pub count_of : w.count ≡ length ws
-  unfolding writes_of
-  count_of = ap (λ (v : Writes). v.count) e
+-- ---- the writes of a run
+module _ (most W : ℕ) (t memory : List ℕ) (w : List Write) (e : w ≡ run W t memory) (ok : txn_ok most W t ≡ true) where
+  pub writes-few : length w ≤ most
+  writes-few = rw e (few-writes current most W t memory ok)
 
-  pub full-list : length w.list ≡ max_writes
-  unfolding writes_of
-  full-list = ap (λ (v : Writes). length v.list) e ∙ length-padded max_writes ws
-
-  pub writes-of : length ws ≤ max_writes → take w.count w.list ≡ ws
-  unfolding writes_of
-  writes-of h = ap (λ (v : Writes). take v.count v.list) e ∙ take-padded max_writes ws h
-
--- those of a run
-module _ (W : ℕ) (t memory : List ℕ) (w : Writes) (e : w ≡ writes_of max_writes (run W t memory)) (ok : txn_ok max_writes W t ≡ true) where
-  pub writes-few : w.count ≤ max_writes
-  writes-few = rw e (count-few max_writes W t memory ok)
-
-  pub writes-run : take w.count w.list ≡ run W t memory
-  writes-run = writes-of w (run W t memory) e (few-writes current max_writes W t memory ok)
-
-  pub writes-low : WordsBelow W (take w.count w.list)
-  writes-low = rw writes-run (run-low current max_writes W t memory ok)
+  pub writes-low : WordsBelow W w
+  writes-low = rw e (run-low current most W t memory ok)
 
 -- on a machine's data words they are what the calls' refusals and steps speak of
-pub run_on : (z : Sizes) (t : List ℕ) (w : Writes) (state : Record) (pairs cache nvm flags : List ℕ)
-    → w ≡ writes_of max_writes (run z.words t (data_of z cache)) → w ≡ writes_of max_writes (writes_on z t (machine_of state pairs cache nvm flags))
+pub run_on : (z : Sizes) (t : List ℕ) (w : List Write) (state : Record) (pairs cache nvm flags : List ℕ)
+    → w ≡ run z.words t (data_of z cache) → w ≡ writes_on z t (machine_of state pairs cache nvm flags)
 unfolding writes_on
 run_on z t w state pairs cache nvm flags e = e

@@ -1,22 +1,21 @@
 -- Inner: how the code goes, need not be believed. Laws of calls on record and pairs in words: what a taken and a refused step leave there, and how long
 -- the words are. Assumes nothing.
-use Rattle.std.specs.Prelude.{ℕ, ◌≤◌, ◌≡◌, true, false, List, ◌++◌, eqb, length, take}
+use Rattle.std.specs.Prelude.{ℕ, ◌≤◌, ◌≡◌, true, false, List, ◌++◌, eqb, length, take, Option}
 use Rattle.std.proofs.Common.{◌∙◌, ap, arith, length-take, length-drop, eq-eqb, ne_eqb}
 use Rattle.image.specs.declared.Sizes.{Sizes}
 use Rattle.lane_log.specs.Log.{latest_in}
-use Rattle.lane_log.specs.declared.Timestamp.{Timestamp}
-use Rattle.lane_log.specs.declared.Latest.{Latest}
 use Rattle.lane_log.specs.declared.Cursor.{Cursor}
 use Rattle.record.specs.Record.{lock_length, lane_at, cursor_of, floor_after_drain, with_lane, drained_lane}
-use Rattle.record.specs.declared.Phase.{Phase}
 use Rattle.record.specs.declared.Record.{Record}
 use Rattle.codec.specs.Fields.{record_length, state_length, pairs_in, words_of}
 use Rattle.codec.specs.inner.InPlace.{headed}
-use Rattle.store.specs.declared.Answer.{Answer}
-use Rattle.store.specs.declared.Answer.TheVariants.{Refused}
+use Rattle.store.specs.Answers.{Answer}
+use Rattle.store.specs.Answers.{Refused}
 use Rattle.store.specs.Machine.{Step, unless, said}
 use Rattle.store.specs.Interface.{machine_of, machine_in, where_taken, kept_by, keeps}
 use Rattle.store.specs.inner.Checked.{drained_state}
+use Rattle.record.specs.Record.{Phase}
+use Rattle.lane_log.specs.declared.Sequence.{Sequence}
 
 -- ---- steps
 keeps-new : (before : List ℕ) (answer : Answer) (r : Record) (pairs cache nvm flags : List ℕ) → (said answer).number ≡ 0
@@ -58,13 +57,13 @@ pub words_long : (state : List ℕ) → length (pairs_in state) ≡ lock_length 
 words_long state e = record-long state (pairs-long state e)
 
 -- ---- the record after a drain, by what is read and stored of the lane's head
-pub drained-head : (r : Record) (L : ℕ) (latest : Latest) (phase : Phase) (cursor : Cursor) (old floor : Timestamp) → phase ≡ (lane_at r L).phase
+pub drained-head : (r : Record) (L : ℕ) (latest : Option Sequence) (phase : Phase) (cursor : Cursor) (old floor : Option ℕ) → phase ≡ (lane_at r L).phase
     → cursor ≡ cursor_of (lane_at r L) → old ≡ (lane_at r L).floor → floor ≡ floor_after_drain latest old
     → with_lane r L (headed phase cursor floor (lane_at r L)) ≡ with_lane r L (drained_lane latest (lane_at r L))
 unfolding headed drained_lane cursor_of
 drained-head r L latest phase cursor old floor a b c d = rw (d, c, a, b)
 
-pub drained-words : (z : Sizes) (cache : List ℕ) (L : ℕ) (r : Record) (latest : Latest) → latest ≡ latest_in z cache L
+pub drained-words : (z : Sizes) (cache : List ℕ) (L : ℕ) (r : Record) (latest : Option Sequence) → latest ≡ latest_in z cache L
     → words_of (with_lane r L (drained_lane latest (lane_at r L))) ≡ words_of (drained_state z cache L r)
 unfolding drained_state
 drained-words z cache L r latest e = rw e

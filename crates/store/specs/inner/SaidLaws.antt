@@ -6,8 +6,8 @@ use Rattle.std.proofs.lemmas.Bool.{eqb-false}
 use Rattle.laws.specs.inner.Tests.{split}
 use Rattle.txn.specs.Txn.{Rule}
 use Rattle.image.specs.declared.Sizes.{Sizes}
-use Rattle.store.specs.declared.Answer.{Answer}
-use Rattle.store.specs.declared.Answer.TheVariants.{Refused, Done, NoWrites, Logged, Settled, Committed, Stale, Changed, Marked, Locked}
+use Rattle.store.specs.Answers.{Answer}
+use Rattle.store.specs.Answers.{Refused, Done, NoWrites, Logged, Settled, Committed, Stale, Changed, Marked, Locked}
 use Rattle.store.specs.Machine.{Machine, unless, Said, said}
 use Rattle.store.specs.Calls.{writes_on, log_txn_refusal_by, log_txn_step_by, settle_refusal, settle_step, log_step_by}
 

@@ -17,7 +17,7 @@ use Rattle.lane_log.specs.Log.{latest_in}
 use Rattle.record.specs.Record.{lock_length, no_lane, lane_at, lag_ok, with_lane, drained_lane}
 use Rattle.record.specs.declared.Lane.{Lane}
 use Rattle.record.specs.declared.Record.{Record}
-use Rattle.store.specs.declared.Answer.TheVariants.{Refused}
+use Rattle.store.specs.Answers.{Refused}
 use Rattle.store.specs.Machine.{Machine, Step, Cause, first_cause, unless}
 use Rattle.store.specs.Calls.{bad_buffers, bad_record, bad_lane, bad_txn, bad_lag, format_refusal, write_back_refusal, drain_refusal, drained}
 use Rattle.store.specs.Interface.{machine_of}

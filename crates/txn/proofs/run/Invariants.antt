@@ -1,9 +1,7 @@
--- `txn::run` meets its contract: the loop puts the writes together from their columns. Assumes nothing.
-use Rattle.std.proofs.Common.{◌≤◌, length}
-use Rattle.txn.specs.Txn.{max_writes, run}
-use Rattle.txn.specs.inner.Writes.{Gathered}
+-- `txn::run` meets its contract. The loop's invariant is `Reached`: the writes so far, and the rest of the instructions gives the rest. Assumes nothing.
+use Rattle.std.proofs.Common.{◌/◌, length}
+use Rattle.txn.specs.inner.Progress.{Reached}
 use Rattle.txn.proofs.run.Given as goal
 
-abbrev pub invariant-loop-i : goal.invariant-loop-i
-invariant-loop-i l =
-    (l.i ≤ l.count) × Gathered max_writes (run (length l.memory) l.txn l.memory) l.words l.olds l.news l.count l.i l.list
+abbrev pub invariant-loop-instruction : goal.invariant-loop-instruction
+invariant-loop-instruction g l = Reached l.txn l.memory (length l.txn / 4) l.instruction-index l.passed l.writes l.last

@@ -185,6 +185,11 @@ module _ (W n code a b k : ℕ) where
 
 -- ---- the check of all instructions, one after the other
 module _ (most W : ℕ) (f : List ℕ) where
+  -- the words are no 1 to `most` instructions
+  pub checked-not : (length f % 4 ≡ 0 → 1 ≤ length f / 4 → length f / 4 ≤ most → ⊥) → false ≡ txn_ok most W f
+  unfolding txn_by
+  checked-not never = split (txn_ok most W f) (λ e. absurd (never (eqb-true _ _ (and_left _ _ e)) (ok-some current most W f e) (ok-few current most W f e))) sym
+
   pub checked-ragged : (length f % 4 ≢ 0) → false ≡ txn_ok most W f
   unfolding txn_by
   checked-ragged h = rw (ne_eqb (length f % 4) 0 h)

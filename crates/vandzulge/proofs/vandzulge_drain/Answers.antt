@@ -1,12 +1,12 @@
 -- `vandzulge_drain` leaves what the call's own step says: a record of another length is the call unfit.
 -- Assumes nothing.
-use Rattle.std.proofs.Common.{refl}
-use Rattle.vandzulge.specs.inner.ExportsLaws.{fits, fits_not, left-unfit, left-by}
+use Rattle.std.proofs.Common.{sym, ◌∙◌}
+use Rattle.vandzulge.specs.inner.ExportsLaws.{left-unfit, left-by}
 use Rattle.vandzulge.proofs.vandzulge_drain.Goals as goal
 
-pub returns-then-state-ne-STATE_WORDS : goal.returns-then-state-ne-STATE_WORDS
-returns-then-state-ne-STATE_WORDS c = left-unfit _ _ _ _ _ _ _ _ (fits_not _ _ c.if-state-ne-STATE_WORDS.true refl)
+pub returns-then-not-record_fits : goal.returns-then-not-record_fits
+returns-then-not-record_fits c = left-unfit _ _ _ _ _ _ _ _ (sym c.record_fits.ensures ∙ c.if-not-record_fits.true)
 
 pub returns : goal.returns
 returns c =
-    left-by _ _ _ _ _ _ _ _ _ _ _ _ _ _ (fits _ c.if-state-ne-STATE_WORDS.false) c.drain.ensures c.number_in.ensures
+    left-by _ _ _ _ _ _ _ _ _ _ _ _ _ _ (sym c.record_fits.ensures ∙ c.if-not-record_fits.false) c.drain.ensures c.number_in.ensures

@@ -1,6 +1,9 @@
 -- `floor` is the floor of the lane whose words these are. Assumes nothing.
-use Rattle.codec.specs.inner.ReadLaws.{floor-there}
+use Rattle.std.proofs.Common.{◌∙◌, ap}
+use Rattle.codec.specs.Fields.{lane_of}
+use Rattle.record.specs.declared.Lane.{Lane}
 use Rattle.codec.proofs.read.floor.Goals as goal
 
 pub returns : goal.returns
-returns c = floor-there _ _ _ c.floor_from.ensures c.lane_words-own.ensures.read
+unfolding lane_of
+returns c = c.floor_from.ensures ∙ ap (λ (l : Lane). l.floor) c.lane_words.ensures

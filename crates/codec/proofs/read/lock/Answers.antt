@@ -1,6 +1,9 @@
--- `lock` is the record's lock: what stands behind the lag limit, to the end. Assumes nothing.
-use Rattle.codec.specs.inner.ReadLaws.{lock-there}
+-- `lock` is the lock of the record's last words. Assumes nothing.
+use Rattle.std.proofs.Common.{◌∙◌, ap}
+use Rattle.codec.specs.Fields.{lock_of, record_of}
+use Rattle.codec.proofs.Arrays.{last_read}
 use Rattle.codec.proofs.read.lock.Goals as goal
 
 pub returns : goal.returns
-returns c = lock-there _ _ c.lock_from.ensures
+unfolding record_of
+returns c = c.lock_from.ensures ∙ ap lock_of (last_read _ _ _ _ _ c.told-words c.unwrap.ensures c.last_chunk.ensures.cases)

@@ -1,6 +1,9 @@
 -- `redo` is the redo log of the lane whose words these are. Assumes nothing.
-use Rattle.codec.specs.inner.ReadLaws.{redo-there}
+use Rattle.std.proofs.Common.{◌∙◌, ap}
+use Rattle.codec.specs.Fields.{lane_of}
+use Rattle.record.specs.declared.Lane.{Lane}
 use Rattle.codec.proofs.read.redo.Goals as goal
 
 pub returns : goal.returns
-returns c = redo-there _ _ _ c.pairs_from.ensures c.lane_words-own.ensures.read
+unfolding lane_of
+returns c = c.redo_from.ensures ∙ ap (λ (l : Lane). l.redo) c.lane_words.ensures

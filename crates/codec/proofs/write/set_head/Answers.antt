@@ -7,5 +7,5 @@ use Rattle.codec.proofs.write.set_head.Goals as goal
 pub returns : goal.returns
 returns c =
     let a = c.args in
-    head-put a.words.now c.copy_words.new.to a.lane a.phase a.cursor a.floor c.requires.lane_lt_max_lanes c.requires.words_len
-    (c.copy_words.ensures ∙ c.head-own.ensures no_lane)
+    head-put a.words.now c.copy_from_slice.new.self a.lane a.phase a.cursor a.floor c.requires c.told-words
+    (c.copy_from_slice.ensures.after ∙ c.head.ensures no_lane)

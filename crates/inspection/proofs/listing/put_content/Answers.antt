@@ -5,11 +5,11 @@ use Rattle.inspection.proofs.listing.put_content.Goals as goal
 
 pub returns-in-Empty : goal.returns-in-Empty
 unfolding content_text
-returns-in-Empty c = rw c.in-Empty.is c.put_text.ensures
+returns-in-Empty c = rw c.in-Empty.is c.put.ensures
 
 pub returns-in-Torn : goal.returns-in-Torn
 unfolding content_text
-returns-in-Torn c = rw c.in-Torn.is c.put_text-in-Torn.ensures
+returns-in-Torn c = rw c.in-Torn.is c.put-in-Torn.ensures
 
 pub returns-in-Entry : goal.returns-in-Entry
 unfolding content_text

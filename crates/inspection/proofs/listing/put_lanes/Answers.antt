@@ -9,10 +9,10 @@ use Rattle.inspection.specs.inner.ListingLaws.{lanes-none, lanes-more, lanes-sho
 use Rattle.inspection.proofs.listing.put_lanes.Goals as goal
 
 pub loop-lane-init : goal.loop-lane-init
-loop-lane-init c = (search rules, put_same (lanes-none _ _) (put-none _ _ (omega (arith, c.requires.max_lanes_in_bounds))))
+loop-lane-init c = (search rules, put_same (lanes-none _ _) (put-none _))
 
-pub put_lane-next-requires : goal.put_lane-next-requires
-put_lane-next-requires c = let l = c.loop-lane in
+pub put_lane-requires : goal.put_lane-requires
+put_lane-requires c = let l = c.loop-lane in
     let r = sizes-in _ c.requires.image.sizes-ok in record {
       image = c.requires.image;
       lane_lt_lanes = search rules;
@@ -20,7 +20,6 @@ put_lane-next-requires c = let l = c.loop-lane in
         arith,
         c.requires.max_lanes_in_bounds,
         r.lanes-high,
-        l.invariant.1.ends,
         put-long l.invariant.1,
         lanes-short c.args.sizes c.args.nvm.now l.lane r.slots-high,
       );
@@ -28,10 +27,7 @@ put_lane-next-requires c = let l = c.loop-lane in
 
 pub loop-lane-preserved : goal.loop-lane-preserved
 loop-lane-preserved c = let l = c.loop-lane in
-    (search rules, put_same (lanes-more _ _ _) (put_then l.invariant.1 c.put_lane-next.ensures))
-
-pub shape_of-output : goal.shape_of-output
-shape_of-output c = put-long c.loop-lane.invariant.1
+    (search rules, put_same (lanes-more _ _ _) (put_then l.invariant.1 c.put_lane.ensures))
 
 pub returns : goal.returns
 returns c = let l = c.loop-lane in

@@ -7,4 +7,4 @@ use Rattle.inspection.specs.Inspection.{lanes_text}
 use Rattle.inspection.proofs.listing.put_lanes.Given as goal
 
 abbrev pub invariant-loop-lane : goal.invariant-loop-lane
-invariant-loop-lane l = (l.lane ≤ l.lane-end) × Put l.at (lanes_text l.sizes l.nvm l.lane) l.initial.output l.next l.output
+invariant-loop-lane l = (l.lane ≤ l.lane-end) × Put l.initial.page (lanes_text l.sizes l.nvm l.lane) l.page

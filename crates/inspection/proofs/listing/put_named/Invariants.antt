@@ -1,10 +1,9 @@
--- `inspection::listing::put_named` meets its contract: the name, and then the numbers. The loop's invariant: the first i numbers are printed after
--- the name. The measure is how many are left.
+-- `inspection::listing::put_named` meets its contract: the name, and then the numbers. The loop's invariant: the first numbers are printed after
+-- the name.
 -- Assumes nothing.
-use Rattle.std.proofs.Common.{◌≤◌}
 use Rattle.report.specs.inner.ReportFacts.{Put}
 use Rattle.inspection.specs.Inspection.{numbers_to}
 use Rattle.inspection.proofs.listing.put_named.Given as goal
 
-abbrev pub invariant-loop-i : goal.invariant-loop-i
-invariant-loop-i l = (l.i ≤ l.i-end) × Put l.initial.next (numbers_to l.numbers l.i) l.initial.output l.next l.output
+abbrev pub invariant-loop-number : goal.invariant-loop-number
+invariant-loop-number l = Put l.initial.page (numbers_to l.numbers l.number-index) l.page

@@ -6,13 +6,13 @@ use Rattle.inspection.specs.Inspection.{newest_line}
 use Rattle.inspection.specs.inner.LineLaws.{named-short}
 use Rattle.inspection.proofs.listing.put_newest.Goals as goal
 
-pub put_text-requires : goal.put_text-requires
-put_text-requires c = omega (arith, put-room 27 66 c.put_named-end.ensures (named-short _ _) c.requires)
+pub put-requires : goal.put-requires
+put-requires c = omega (arith, put-room 27 66 c.put_named.ensures (named-short _ _) c.requires)
 
-pub returns-in-Nothing : goal.returns-in-Nothing
+pub returns-in-None : goal.returns-in-None
 unfolding newest_line
-returns-in-Nothing c = rw c.in-Nothing.is (put_then c.put_named-end.ensures c.put_text.ensures)
+returns-in-None c = rw c.in-None.is (put_then c.put_named.ensures c.put.ensures)
 
-pub returns-in-Is : goal.returns-in-Is
+pub returns-in-Some : goal.returns-in-Some
 unfolding newest_line
-returns-in-Is c = rw c.in-Is.is c.put_sequence.ensures
+returns-in-Some c = rw c.in-Some.is c.put_sequence.ensures

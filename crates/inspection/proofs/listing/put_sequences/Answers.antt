@@ -1,6 +1,5 @@
 -- `inspection::listing::put_sequences` meets its contract: the loop's invariant: the lines of the sequences that the slots below j close are
--- printed. The measure is the number of slots left.
--- Assumes nothing.
+-- printed. Assumes nothing.
 use Rattle.std.proofs.Common.{◌≡◌, ap, ◌∙◌, ◌++◌, arith, rules}
 use Rattle.lane_log.specs.Log.{complete_below}
 use Rattle.report.specs.inner.PrintingLaws.{put_then, put-long, put-none, put_same}
@@ -10,33 +9,27 @@ use Rattle.inspection.specs.inner.ListingLaws.{below_none, below_more, below-sho
 use Rattle.inspection.proofs.listing.put_sequences.Goals as goal
 
 pub loop-j-init : goal.loop-j-init
-loop-j-init c = (search rules, put_same (below_none _ _ _ _ _) (put-none _ _ (omega (arith, c.requires.slots_in_bounds))))
+loop-j-init c = (search rules, put_same (below_none _ _ _ _ _) (put-none _))
 
-pub closed_at-closed-requires : goal.closed_at-closed-requires
-closed_at-closed-requires c = record { log = c.requires.log; j_lt_slots = search rules }
-
-pub put_closed-next-requires : goal.put_closed-next-requires
-put_closed-next-requires c = let l = c.loop-j in
-    let a = c.args in
-    omega (arith, c.requires.slots_in_bounds, l.invariant.1.ends, put-long l.invariant.1, below-short a.sizes.words a.sizes.slots a.base a.log.now a.lane l.j)
+pub put_closed-requires : goal.put_closed-requires
+put_closed-requires c = let l = c.loop-j in
+    let g = c.args.log.now in
+    omega (arith, c.requires, put-long l.invariant.1, below-short g.words g.slots g.base g.log.now c.args.lane l.j)
 
 pub loop-j-preserved : goal.loop-j-preserved
 loop-j-preserved c = let l = c.loop-j in
-    let a = c.args in (
+    let g = c.args.log.now in (
       search rules,
       put_same
           (ap
-          (λ x. sequence_lines sequence_text (complete_below a.sizes.words a.sizes.slots a.base a.log.now a.lane l.j) ++ closed_text a.lane x)
-          c.closed_at-closed.ensures
+          (λ x. sequence_lines sequence_text (complete_below g.words g.slots g.base g.log.now c.args.lane l.j) ++ closed_text c.args.lane x)
+          c.closed_at.ensures
           ∙ below_more _ _ _ _ _ _)
-          (put_then l.invariant.1 c.put_closed-next.ensures),
+          (put_then l.invariant.1 c.put_closed.ensures),
     )
-
-pub shape_of-output : goal.shape_of-output
-shape_of-output c = put-long c.loop-j.invariant.1
 
 pub returns : goal.returns
 returns c = let l = c.loop-j in
-    let a = c.args in
-    let e : l.j ≡ a.sizes.slots = search rules in
-    put_same (ap (λ k. sequence_lines sequence_text (complete_below a.sizes.words a.sizes.slots a.base a.log.now a.lane k)) e) l.invariant.1
+    let g = c.args.log.now in
+    let e : l.j ≡ g.slots = search rules in
+    put_same (ap (λ k. sequence_lines sequence_text (complete_below g.words g.slots g.base g.log.now c.args.lane k)) e) l.invariant.1

@@ -6,8 +6,8 @@ use Rattle.inspection.specs.inner.LineLaws.{named-short}
 use Rattle.inspection.proofs.listing.put_slot.Goals as goal
 
 pub put_content-requires : goal.put_content-requires
-put_content-requires c = put-room _ content_room c.put_named-next.ensures (named-short _ _) c.requires
+put_content-requires c = put-room _ content_room c.put_named.ensures (named-short _ _) c.requires
 
 pub returns : goal.returns
 unfolding slot_line
-returns c = put_then c.put_named-next.ensures c.put_content.ensures
+returns c = put_then c.put_named.ensures c.put_content.ensures

@@ -4,4 +4,4 @@ use Rattle.report.specs.inner.PrintingLaws.{put_then}
 use Rattle.inspection.proofs.listing.put_spaced.Goals as goal
 
 pub returns : goal.returns
-returns c = put_then c.put_text-digits.ensures c.put_number.ensures
+returns c = put_then c.put.ensures c.put_number.ensures

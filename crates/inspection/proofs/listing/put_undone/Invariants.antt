@@ -1,10 +1,8 @@
--- `inspection::listing::put_undone` meets its contract: the loop's invariant: the lines of the first i groups of four words are printed. The measure
--- is the number of groups left.
--- Assumes nothing.
-use Rattle.std.proofs.Common.{◌≤◌}
+-- `inspection::listing::put_undone` meets its contract: the loop's invariant: the lines of the sequences passed are printed. Assumes nothing.
+use Rattle.std.proofs.Common.{take}
 use Rattle.report.specs.inner.ReportFacts.{Put}
 use Rattle.inspection.specs.inner.InspectionFacts.{undo_lines}
 use Rattle.inspection.proofs.listing.put_undone.Given as goal
 
-abbrev pub invariant-loop-i : goal.invariant-loop-i
-invariant-loop-i l = (l.i ≤ l.count) × Put l.at (undo_lines l.order l.i) l.initial.output l.next l.output
+abbrev pub invariant-loop-sequence : goal.invariant-loop-sequence
+invariant-loop-sequence l = Put l.initial.page (undo_lines (take l.sequence-index l.order)) l.page

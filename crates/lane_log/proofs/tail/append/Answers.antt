@@ -1,5 +1,5 @@
 -- `lane_log::tail::append` meets its contract: the entries' stores and then the timestamp's are the stores of the append. Assumes nothing.
-use Rattle.std.proofs.Common.{rules, ◌≤◌, arith, length}
+use Rattle.std.proofs.Common.{rules, arith}
 use Rattle.lane_log.specs.inner.AppendEntries.{Within}
 use Rattle.lane_log.specs.inner.AppendLaws.{end-within, append-stored, append-flushed, append-ends}
 use Rattle.lane_log.proofs.tail.append.Goals as goal
@@ -20,10 +20,9 @@ onward-requires c = let w = there (goal.at.onward-requires c).After-append_entri
 
 pub returns : goal.returns
 returns c =
-    let h : c.args.writes.count ≤ length c.args.writes.list = omega (arith, c.requires.loggable.few, c.requires.loggable.full) in
     let e = c.append_entries-end.ensures in record {
       last = append-ends _ _ _ _ _ e.last c.onward.ensures;
-      written = append-stored _ _ _ _ _ h _ _ _ e.last c.stamp-slot.ensures _ _ _ e.written c.store_slot.ensures.written;
-      flushed = append-flushed _ _ _ _ _ h _ _ _ e.last c.stamp-slot.ensures _ _ _ _ e.flushed
+      written = append-stored _ _ _ _ _ _ _ e.last c.stamp-slot.ensures _ _ _ e.written c.store_slot.ensures.written;
+      flushed = append-flushed _ _ _ _ _ _ _ e.last c.stamp-slot.ensures _ _ _ _ e.flushed
           (c.store_slot.ensures.flushed c.args.lane c.lane_mask.ensures);
     }

@@ -1,19 +1,22 @@
 -- `recovery::scan::offered` is `offer_at`: each return is one of its cases. Assumes nothing.
-use Rattle.recovery.specs.inner.ScanLaws.{wrap-low, offer-low, offer-lacks, offer-stamp}
+use Rattle.recovery.specs.inner.ScanLaws.{stamp-whole, stamp-count, stamp-wrap, wrap-low, offer-other, offer-low, offer-lacks, offer-stamp}
 use Rattle.recovery.proofs.scan.offered.Goals as goal
 
-pub returns-then-stamp-base : goal.returns-then-stamp-base
-returns-then-stamp-base c = offer-low _ _ _ _ _ _ c.whole_stamp-stamp.ensures c.if-stamp-base.true
+pub returns-in_default : goal.returns-in_default
+returns-in_default c = offer-other _ _ _ _ _ _ c.in_default.not-Stamp
+
+pub returns-then-stamp-log : goal.returns-then-stamp-log
+returns-then-stamp-log c = offer-low _ _ _ _ _ _ (stamp-whole c.in-Stamp.is) c.if-stamp-log.true
 
 pub lacks-requires-clause-wrap_bound : goal.lacks-requires-clause-wrap_bound
-lacks-requires-clause-wrap_bound c = rw c.wrap_of.ensures (wrap-low _ 0 0 _ _ _ c.requires.content_value)
+lacks-requires-clause-wrap_bound c = rw (stamp-wrap c.in-Stamp.is) (wrap-low _ 0 0 _ _ _ c.requires.content_value)
 
 pub returns-then-lacks : goal.returns-then-lacks
 returns-then-lacks c =
-    offer-lacks _ _ _ _ _ _ c.whole_stamp-stamp.ensures c.if-stamp-base.false c.count_of.ensures c.wrap_of.ensures c.lacks.ensures
-    c.if-lacks.true
+    let e = c.in-Stamp.is in
+    offer-lacks _ _ _ _ _ _ (stamp-whole e) c.if-stamp-log.false (stamp-count e) (stamp-wrap e) c.lacks.ensures c.if-lacks.true
 
 pub returns : goal.returns
 returns c =
-    offer-stamp _ _ _ _ _ _ c.whole_stamp-stamp.ensures c.if-stamp-base.false c.count_of.ensures c.wrap_of.ensures c.lacks.ensures
-    c.if-lacks.false
+    let e = c.in-Stamp.is in
+    offer-stamp _ _ _ _ _ _ (stamp-whole e) c.if-stamp-log.false (stamp-count e) (stamp-wrap e) c.lacks.ensures c.if-lacks.false

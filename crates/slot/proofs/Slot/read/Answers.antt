@@ -1,13 +1,12 @@
 -- `Slot::read` meets its contract: at each `return` the tests that led there pick the case of `read_of`.
-use Rattle.std.proofs.Common.{le-leb, le-ltb, lt-ltb, eq-eqb, ne_eqb, ltb-true, ◌≡◌, sym, ◌∙◌, false, arith}
-use Rattle.std.proofs.lemmas.Bool.{lt-leb}
+use Rattle.std.proofs.Common.{◌≡◌, false, sym, rules}
 use Rattle.slot.specs.Slot.{entry_shape, stamp_shape}
 use Rattle.slot.proofs.SlotLaws.{empty-read, torn-blank}
-use Rattle.slot.proofs.SlotBits.{low_bit, entry-tests, stamp-tests, wrap-below, found-torn, found-entry, found-stamp, found-neither}
+use Rattle.slot.proofs.SlotBits.{entry-in, entry-out, stamp-in, stamp-out, found-torn, found-entry, found-stamp, found-neither}
 use Rattle.slot.proofs.Slot.read.Goals as goal
-use Rattle.slot.proofs.Slot.read.Goals.{Joined-else-number-ge1, Joined-else-number-ge-TAG}
-use Rattle.slot.proofs.Slot.read.Goals.{else-number-ge1-via-then-number-ge1+then-number-words+else-low-lt2, else-number-ge1-via-then-number-ge1+else-number-words, else-number-ge1-via-else-number-ge1}
-use Rattle.slot.proofs.Slot.read.Goals.{else-number-ge-TAG-via-then-number-ge-TAG+then-number+else-low-eq0, else-number-ge-TAG-via-then-number-ge-TAG+else-number, else-number-ge-TAG-via-else-number-ge-TAG}
+use Rattle.slot.proofs.Slot.read.Goals.{Joined-else-contains, Joined-else-contains-2}
+use Rattle.slot.proofs.Slot.read.Goals.{else-contains-via-then-contains+else-low-lt2, else-contains-via-else-contains}
+use Rattle.slot.proofs.Slot.read.Goals.{else-contains-2-via-then-contains-2+else-low-eq0, else-contains-2-via-else-contains-2}
 
 pub returns-then-value-eq0 : goal.returns-then-value-eq0
 returns-then-value-eq0 c = sym (empty-read _ _ _ c.if-address-eq0.true c.if-value-eq0.true)
@@ -18,51 +17,31 @@ returns-then-address-eq0 c = sym (torn-blank _ _ _ c.if-address-eq0.true c.if-va
 pub returns-then-wrap-value : goal.returns-then-wrap-value
 returns-then-wrap-value c = sym (found-torn _ _ _ c.if-wrap-value.true)
 
-pub overflow_sub-result-then-low-lt2 : goal.overflow_sub-result-then-low-lt2
-overflow_sub-result-then-low-lt2 c = wrap-below _ _ c.if-wrap-value.false
-
-pub overflow_add-result : goal.overflow_add-result
-overflow_add-result c = omega (arith, low_bit c.args.self.value, ltb-true)
-
 pub returns-then-low-lt2 : goal.returns-then-low-lt2
 returns-then-low-lt2 c =
-    let b = c in
-    found-entry _ _ _ b.if-address-eq0.false b.if-wrap-value.false
-    (entry-tests _ _ ∙ rw (le-leb _ _ c.if-number-ge1.true, le-leb _ _ c.if-number-words.true, lt-ltb _ _ c.if-low-lt2.true))
-    c.if-low-lt2.true
-
-pub overflow_sub-result-then-low-eq0-2 : goal.overflow_sub-result-then-low-eq0-2
-overflow_sub-result-then-low-eq0-2 c = wrap-below _ _ c.if-wrap-value.false
+    found-entry _ _ _ c.if-address-eq0.false c.if-wrap-value.false (entry-in _ _ (search rules) (search rules) c.if-low-lt2.true) c.if-low-lt2.true
 
 -- on each way past the first shape's tests one of them fails
-no-entry : (c : Joined-else-number-ge1) → entry_shape c.args.words c.args.self.address ≡ false
-no-entry c =
-    entry-tests _ _
-    ∙ elim c.else-number-ge1.branch [
-      | else-number-ge1-via-then-number-ge1+then-number-words+else-low-lt2 w ↦
-          rw (le-leb _ _ w.if-number-ge1.true, le-leb _ _ w.if-number-words.true, le-ltb _ _ w.if-low-lt2.false)
-      | else-number-ge1-via-then-number-ge1+else-number-words w ↦ rw (le-leb _ _ w.if-number-ge1.true, lt-leb _ _ w.if-number-words.false)
-      | else-number-ge1-via-else-number-ge1 w ↦ rw (lt-leb _ _ w.if-number-ge1.false)
-    ]
+no-entry : (c : Joined-else-contains) → entry_shape c.args.words c.args.self.address ≡ false
+no-entry c = entry-out _ _ (λ h k l. elim c.else-contains.branch [
+  | else-contains-via-then-contains+else-low-lt2 w ↦ search rules
+  | else-contains-via-else-contains w ↦ search rules
+])
 
 -- and past the second's
-no-stamp : (c : Joined-else-number-ge-TAG) → stamp_shape c.args.self.address ≡ false
-no-stamp c =
-    stamp-tests _
-    ∙ elim c.else-number-ge-TAG.branch [
-      | else-number-ge-TAG-via-then-number-ge-TAG+then-number+else-low-eq0 w ↦
-          rw (le-leb _ _ w.if-number-ge-TAG.true, le-leb _ _ w.if-number.true, ne_eqb _ _ w.if-low-eq0.false)
-      | else-number-ge-TAG-via-then-number-ge-TAG+else-number w ↦ rw (le-leb _ _ w.if-number-ge-TAG.true, lt-leb _ _ w.if-number.false)
-      | else-number-ge-TAG-via-else-number-ge-TAG w ↦ rw (lt-leb _ _ w.if-number-ge-TAG.false)
-    ]
+no-stamp : (c : Joined-else-contains-2) → stamp_shape c.args.self.address ≡ false
+no-stamp c = stamp-out _ (λ h k l. elim c.else-contains-2.branch [
+  | else-contains-2-via-then-contains-2+else-low-eq0 w ↦ search rules
+  | else-contains-2-via-else-contains-2 w ↦ search rules
+])
 
 pub returns-then-low-eq0 : goal.returns-then-low-eq0
 returns-then-low-eq0 c =
-    let b = c in
-    found-stamp _ _ _ b.if-address-eq0.false b.if-wrap-value.false (no-entry c.before.before.before)
-    (stamp-tests _ ∙ rw (le-leb _ _ c.if-number-ge-TAG.true, le-leb _ _ c.if-number.true, eq-eqb _ _ c.if-low-eq0.true))
+    found-stamp _ _ _ c.if-address-eq0.false c.if-wrap-value.false (no-entry (goal.at.returns-then-low-eq0 c).Joined-else-contains)
+    (stamp-in _ (search rules) (search rules) c.if-low-eq0.true)
 
 pub returns : goal.returns
 returns c =
-    let b = c in
-    sym (found-neither _ _ _ b.if-address-eq0.false b.if-wrap-value.false (no-entry c.before) (no-stamp c))
+    sym
+    (found-neither _ _ _ c.if-address-eq0.false c.if-wrap-value.false (no-entry (goal.at.returns c).Joined-else-contains)
+    (no-stamp (goal.at.returns c).Joined-else-contains-2))

@@ -1,14 +1,12 @@
--- `answers::start` returns the number and writes the words of a start where it is 0.
--- Assumes nothing.
-use Rattle.vandzulge.specs.inner.ExportsLaws.{taken, not_taken}
+-- `answers::start` writes the words of a start where there is one, and returns its number. Assumes nothing.
+use Rattle.std.proofs.Common.{refl}
+use Rattle.vandzulge.specs.inner.Results.{started_number, started_words}
 use Rattle.vandzulge.proofs.answers.start.Goals as goal
 
-pub returns-then-number-eq0 : goal.returns-then-number-eq0
-returns-then-number-eq0 c =
-    let n = c.number_in-number.ensures in
-    record { number = n; words = taken _ _ _ _ _ n c.if-number-eq0.true c.put_start.ensures }
+pub returns-in-Ok : goal.returns-in-Ok
+unfolding started_number started_words
+returns-in-Ok c = rw c.in-Ok.is record { number = refl; words = c.put_start.ensures }
 
-pub returns-else-number-eq0 : goal.returns-else-number-eq0
-returns-else-number-eq0 c =
-    let n = c.number_in-number.ensures in
-    record { number = n; words = not_taken _ _ _ _ n c.if-number-eq0.false }
+pub returns-in-Err : goal.returns-in-Err
+unfolding started_number started_words
+returns-in-Err c = rw c.in-Err.is record { number = c.number.ensures; words = refl }

@@ -1,9 +1,0 @@
--- `txn::run_long` meets its contract: the loop puts the writes together from their columns. Assumes nothing.
-use Rattle.std.proofs.Common.{◌≤◌, length}
-use Rattle.txn.specs.Txn.{max_long, run}
-use Rattle.txn.specs.inner.Writes.{Gathered}
-use Rattle.txn.proofs.run_long.Given as goal
-
-abbrev pub invariant-loop-i : goal.invariant-loop-i
-invariant-loop-i l =
-    (l.i ≤ l.count) × Gathered max_long (run (length l.memory) l.txn l.memory) l.words l.olds l.news l.count l.i l.list
