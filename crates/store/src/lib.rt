@@ -1,8 +1,9 @@
 // The calls' answers, the calls that append and commit nothing: Format, write-back, Drain, and what the other calls
 // share.
-// Sizes, record and the three buffers are lent to each call one by one, here and in the crates above: of a struct of
-// lent buffers no field may be read while another is lent on, and passed by value its fields have no names in a contract
-// after the call. So no struct would be plainer, and a signature tells which buffers a call may store to.
+// Sizes, record and the three buffers are lent to each call one by one, here and in the crates above. Kept: no struct
+// would be plainer. Of lent buffers in a struct behind a `&mut` none can be lent on to be read while another is lent to
+// be changed, as a write-back does (tried: the borrow rules do not cover it), and passed by value the struct's fields
+// have no names in a contract after the call. And a signature tells which buffers a call may store to.
 // Kept: a lane is a number below 8, in clauses and not in a type, as in codec::read.
 #![tactic(auto)]
 
