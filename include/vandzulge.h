@@ -49,7 +49,7 @@
  *     earlier stores anew, so that a word which is undone twice has for a moment the first of these two values again, and the base word, behind which nothing is undone any more,
  *     may become persistent in that moment.
  * Format is not safe against power cuts: have a sign of your own that one is complete, as the example has in the name of its file. A trailer is no sign.
- * Stack: 40 KB for recovery, 7 for Lock, 6 for Format, less than 3 for every other call. docs/PERFORMANCE.md has the time that each call takes.
+ * Stack: 27 KB for recovery, 7 for Lock, 6 for Format, less than 3 for every other call. docs/PERFORMANCE.md has the time that each call takes.
  *
  * ==== What the caller owes
  * At every power-up recovery comes first, until it has finished, before any other call but Format. Every call gets the sizes and buffers as the last one left them: nobody else

@@ -1,15 +1,16 @@
 // A call on the store and on the second implementation, from the same state, and the comparison of all that the two
 // leave.
-ghost use Rattle.std.specs.Prelude.{◌≡◌};
+ghost use Rattle.std.specs.Prelude.{◌≡◌, IsTrue};
+ghost use Rattle.std.specs.Result.{result_err};
 
 use crate::buffers::{Buffers, first, first_mut};
 use crate::convert;
-use crate::session::{Left, Lengths, Session};
+use crate::session::{Lengths, Session};
 use codec::STATE_WORDS;
 use recovery::Restart;
 use second::machine::{Given, Machine};
 use second::records::Record;
-use second::{Answer, Call, Outcome};
+use second::{Answer, Call, Outcome, Refusal};
 
 // What a call on the store is lent.
 #[derive(Drop)]
@@ -25,6 +26,14 @@ struct Lent<'a> {
 struct Taken {
     outcome: Outcome,
     state: Record,
+}
+
+// The same with the refusal that was asked for beforehand. The buffers are no part of it: they are 87 KB, and stay where
+// they are lent.
+#[derive(Clone, Copy)]
+struct Stored {
+    taken: Taken,
+    asked: Option<Refusal>,
 }
 
 fn refused(refusal: store::Refusal, before: &Record) -> Taken {
@@ -164,29 +173,25 @@ impl Lent<'_> {
     }
 }
 
-// What a call on the store leaves of what the session lends it.
-fn left_by_store(session: &Session, given: &Given) -> Left {
-    let mut words = convert::words_of(&session.state);
-    let mut buffers = session.buffers;
+// A call on the store, with buffers of these lengths, from this record.
+fn call_store(given: &Given, lengths: &Lengths, before: &Record, buffers: &mut Buffers) -> Stored {
+    let mut words = convert::words_of(before);
     let lent = Lent {
         words: &mut words,
-        cache: first_mut(&mut buffers.cache, session.lengths.cache),
-        nvm: first_mut(&mut buffers.nvm, session.lengths.nvm),
-        flags: first_mut(&mut buffers.flags, session.lengths.flags),
+        cache: first_mut(&mut buffers.cache, lengths.cache),
+        nvm: first_mut(&mut buffers.nvm, lengths.nvm),
+        flags: first_mut(&mut buffers.flags, lengths.flags),
     };
     let asked = lent.asked(given);
-    let before = &session.state;
     let taken = match given.call {
         Call::Format => formatted(lent.format(given), before),
         Call::Recover => restarted(lent.recover(given), before),
         Call::RecoverRead => restarted(lent.recover_read(given), before),
         _ => lent.step(given),
     };
-    Left {
-        outcome: taken.outcome,
+    Stored {
+        taken,
         asked: asked.err().map(convert::refusal),
-        state: taken.state,
-        buffers,
     }
 }
 
@@ -215,7 +220,10 @@ fn same_lent(lengths: &Lengths, a: &Buffers, b: &Buffers) -> bool {
 
 // Is what the store left what the second implementation left: record, answer, refusal asked beforehand, and the
 // buffers?
-fn same_all(session: &Session, outcome: Outcome) -> bool {
+fn same_all(session: &Session, outcome: Outcome) -> bool
+    ensures outcome { IsTrue result → session.now.stored.outcome ≡ outcome }
+    ensures asked { IsTrue result → session.now.stored.asked ≡ result_err outcome }
+{
     let stored = &session.stored;
     stored.outcome == outcome
         && stored.asked == outcome.err()
@@ -237,7 +245,12 @@ pub(crate) fn run(session: &mut Session, number: u64) -> bool
         number,
         words: first(&words, session.last.used),
     };
-    session.stored = left_by_store(session, &given);
+    let before = session.state;
+    session.stored.buffers = session.buffers;
+    let stored = call_store(&given, &lengths, &before, &mut session.stored.buffers);
+    session.stored.outcome = stored.taken.outcome;
+    session.stored.asked = stored.asked;
+    session.stored.state = stored.taken.state;
     spoil(session);
     let outcome = call_second(&given, &lengths, &mut session.state, &mut session.buffers);
     same_all(session, outcome)

@@ -2,6 +2,8 @@
 // Kept: functions in place of From, for neither side's types are this crate's own, and wrappers would be no plainer.
 ghost use Rattle.std.specs.Prelude.{◌≡◌, length};
 ghost use Rattle.codec.specs.Fields.{state_length};
+ghost use Rattle.store.specs.Interface.{number};
+ghost use Rattle.second.specs.inner.Refusals.{number_of};
 
 use codec::{RECORD_WORDS, STATE_WORDS};
 use image::Sizes;
@@ -148,7 +150,11 @@ pub(crate) fn record_in(words: &[u64; STATE_WORDS]) -> Record {
     record_from(codec::record_from(words.first_chunk().unwrap()), pairs)
 }
 
-pub(crate) fn refusal(refusal: store::Refusal) -> Refusal {
+// What is printed and counted by its number is the store's own number.
+#[tactic(auto, unfolding(store::specs::Interface::number))]
+pub(crate) fn refusal(refusal: store::Refusal) -> Refusal
+    ensures { number_of result ≡ number refusal }
+{
     match refusal {
         store::Refusal::BadBuffers => Refusal::Lengths,
         store::Refusal::BadRecord => Refusal::BadRecord,

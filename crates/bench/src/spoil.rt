@@ -1,7 +1,7 @@
 // For a control: one word of what the store left becomes another one, before it is compared.
 use crate::session::Left;
 use second::records::{Held, Lane, Lock, Pair, Record};
-use second::{Answer, Refusal};
+use second::{Answer, Outcome, Refusal};
 
 // The words of a record: three, forty for each of eight lanes, six of the lock, and of its 64 pairs two each.
 pub const STATE_WORDS: u64 = 457;
@@ -12,7 +12,11 @@ const LANE_WORDS: u64 = 40;
 pub enum Part {
     // word i of the record
     State(u64),
+    // which of the answers it is
     Answer,
+    // number i of the answer: 0 is the count, what is left or undone, or whether a transaction was dropped; 1 the
+    // timestamp or boundary; 2 how many slots were torn
+    Number(u64),
     // the refusal that was asked for beforehand
     Asked,
     // word i of a buffer
@@ -67,6 +71,79 @@ fn spoiled_floor(floor: Option<u64>, i: u64, mask: u64) -> Option<u64> {
         return None;
     }
     Some(floor.unwrap_or(0) ^ mask)
+}
+
+// Where an answer has no such number, it becomes another answer.
+fn spoiled_answer(answer: Answer, i: u64, mask: u64) -> Answer {
+    match (answer, i) {
+        (Answer::Logged { count, stamp }, 0) => Answer::Logged {
+            count: count ^ mask,
+            stamp,
+        },
+        (Answer::Logged { count, stamp }, _) => Answer::Logged {
+            count,
+            stamp: stamp ^ mask,
+        },
+        (Answer::Settled { stamp }, _) => Answer::Settled {
+            stamp: stamp ^ mask,
+        },
+        (Answer::Committed { stamp }, _) => Answer::Committed {
+            stamp: stamp ^ mask,
+        },
+        (Answer::Marked { dropped, stamp }, 0) => Answer::Marked {
+            dropped: !dropped,
+            stamp,
+        },
+        (Answer::Marked { dropped, stamp }, _) => Answer::Marked {
+            dropped,
+            stamp: stamp ^ mask,
+        },
+        (Answer::Locked { left, stamp }, 0) => Answer::Locked {
+            left: left ^ mask,
+            stamp,
+        },
+        (Answer::Locked { left, stamp }, _) => Answer::Locked {
+            left,
+            stamp: stamp ^ mask,
+        },
+        (
+            Answer::Recovered {
+                boundary,
+                undone,
+                torn,
+            },
+            _,
+        ) => spoiled_recovery(boundary, undone, torn, i, mask),
+        (Answer::Cut, _) => Answer::Done,
+        _ => Answer::Cut,
+    }
+}
+
+fn spoiled_recovery(boundary: Option<u64>, undone: u64, torn: u64, i: u64, mask: u64) -> Answer {
+    match i {
+        0 => Answer::Recovered {
+            boundary,
+            undone: undone ^ mask,
+            torn,
+        },
+        1 => Answer::Recovered {
+            boundary: spoiled_floor(boundary, 1, mask),
+            undone,
+            torn,
+        },
+        _ => Answer::Recovered {
+            boundary,
+            undone,
+            torn: torn ^ mask,
+        },
+    }
+}
+
+fn spoiled_outcome(outcome: Outcome, i: u64, mask: u64) -> Outcome {
+    match outcome {
+        Ok(answer) => Ok(spoiled_answer(answer, i, mask)),
+        Err(_) => Ok(Answer::Cut),
+    }
 }
 
 fn spoiled_lock(lock: Option<Lock>, i: u64, mask: u64) -> Option<Lock> {
@@ -137,6 +214,7 @@ impl Spoiled {
             Part::State(i) => spoil_state(&mut stored.state, i, mask),
             Part::Answer if stored.outcome == Ok(Answer::Cut) => stored.outcome = Ok(Answer::Done),
             Part::Answer => stored.outcome = Ok(Answer::Cut),
+            Part::Number(i) => stored.outcome = spoiled_outcome(stored.outcome, i, mask),
             Part::Asked if stored.asked.is_some() => stored.asked = None,
             Part::Asked => stored.asked = Some(Refusal::Lengths),
             Part::Cache(i) => spoil_word(&mut stored.buffers.cache, i, mask),

@@ -7,7 +7,11 @@ use second::{Call, Refusal};
 use std::fmt;
 use std::io::Result;
 
-// A set of causes. Bit k is the one that comes k-th where refusals are compared.
+// The refusals by their numbers, in the order in which they win. SPECIFICATION, "Machine, refusals and answers". It is a
+// list of its own, apart from the order by which the second implementation picks: the two are compared.
+const ORDER: [u64; 15] = [1, 14, 16, 2, 3, 4, 5, 6, 7, 11, 12, 8, 15, 9, 10];
+
+// A set of causes. Bit k is the one that comes k-th in that order.
 #[derive(Clone, Copy, PartialEq, Eq, Debug)]
 pub(crate) struct Causes(u64);
 
@@ -15,7 +19,10 @@ pub(crate) struct Causes(u64);
 const SETS: u64 = 32768;
 
 fn weight(cause: Refusal) -> u64 {
-    1 << (cause as u64 % 64)
+    match ORDER.iter().position(|number| *number == cause.number()) {
+        Some(k) => 1 << (k as u64 % 64),
+        None => 0,
+    }
 }
 
 impl Causes {
@@ -33,7 +40,8 @@ impl Causes {
 
     // The one that wins.
     fn first(self) -> Option<Refusal> {
-        Refusal::ALL.into_iter().find(|cause| self.has(*cause))
+        let number = ORDER.get(self.0.trailing_zeros() as usize)?;
+        Refusal::try_from(*number).ok()
     }
 }
 

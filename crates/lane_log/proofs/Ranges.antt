@@ -1,5 +1,5 @@
 -- Inner: how the code goes, need not be believed. Folds and tests over the numbers of a range. Assumes nothing.
-use Rattle.std.specs.Prelude.{ℕ, zero, suc, ◌+◌, ◌<◌, ◌≡◌, Bool, true, false, List, [], ◌∷◌, ◌++◌}
+use Rattle.std.specs.Prelude.{ℕ, zero, suc, ◌+◌, ◌*◌, ◌<◌, ◌≡◌, Bool, true, false, ◌||◌, List, [], ◌∷◌, ◌++◌}
 use Rattle.std.specs.List.{fold, list_all, list_any, range_with_len}
 use Rattle.std.specs.declared.ops.Range.{Range}
 use Rattle.std.specs.Fn.{Mut}
@@ -8,7 +8,8 @@ use Rattle.std.proofs.iter.Yields.{nat_range_steps}
 use Rattle.std.proofs.lemmas.Fn.{fold_over}
 use Rattle.std.proofs.lemmas.Iterator.{YieldsList-from_range}
 use Rattle.std.proofs.Common.{refl, sym, ap, ap₂, ◌∙◌, arith}
-use Rattle.std.proofs.Math.Bool.{and-false}
+use Rattle.std.proofs.Math.Bool.{and-false, or-false, or_assoc}
+use Rattle.std.proofs.Math.Nat.{mul-suc}
 use Rattle.laws.specs.inner.Tests.{split, clash, or_left, or_right}
 
 -- a fold goes through what each front of the range gives
@@ -48,6 +49,29 @@ module _ (p : ℕ → Bool) where
       (λ t. (0, omega arith, ap p (let f : a + 0 ≡ a = omega arith in f) ∙ t))
       (λ t. let d = any-which (a + 1) n (rw t at h) in
       (suc d.0, omega (arith, d.1), ap p (let f : a + suc d.0 ≡ a + 1 + d.0 = omega arith in f) ∙ d.2))
+
+  -- one range and the next
+  pub any-on : (a m n : ℕ) → (list_any p (range_with_len a m) || list_any p (range_with_len (a + m) n)) ≡ list_any p (range_with_len a (m + n))
+  any-on a zero n = ap₂ (λ i k. list_any p (range_with_len i k)) (let f : a + 0 ≡ a = omega arith in f) (let f : n ≡ 0 + n = omega arith in f)
+  any-on a (suc m) n =
+      or_assoc (p a) (list_any p (range_with_len (a + 1) m)) (list_any p (range_with_len (a + suc m) n))
+      ∙ ap (λ i. p a || (list_any p (range_with_len (a + 1) m) || list_any p (range_with_len i n))) (let f : a + suc m ≡ a + 1 + m = omega arith in f)
+      ∙ ap (λ b. p a || b) (any-on (a + 1) m n)
+      ∙ ap (λ k. list_any p (range_with_len a k)) (let f : suc (m + n) ≡ suc m + n = omega arith in f)
+
+  -- a range in groups of w
+  pub any-groups : (w a m : ℕ) → list_any (λ k. list_any p (range_with_len (w * k) w)) (range_with_len a m) ≡ list_any p (range_with_len (w * a) (w * m))
+  any-groups w a zero = ap (λ k. list_any p (range_with_len (w * a) k)) (let f : 0 ≡ w * 0 = omega arith in f)
+  any-groups w a (suc m) =
+      ap (λ b. list_any p (range_with_len (w * a) w) || b) (any-groups w (a + 1) m)
+      ∙ ap (λ i. list_any p (range_with_len (w * a) w) || list_any p (range_with_len i (w * m))) (let f : w * (a + 1) ≡ w * a + w = omega (arith, mul-suc w a) in f)
+      ∙ any-on (w * a) w (w * m)
+      ∙ ap (λ k. list_any p (range_with_len (w * a) k)) (let f : w + w * m ≡ w * suc m = omega (arith, mul-suc w m) in f)
+
+  -- as a fold
+  pub any-folds : (b : Bool) (xs : List ℕ) → (b || list_any p xs) ≡ fold (λ found j. found || p j) b xs
+  any-folds b [] = or-false b
+  any-folds b (x ∷ xs) = sym (or_assoc b (p x) (list_any p xs)) ∙ any-folds (b || p x) xs
 
   -- each passes
   pub all-pass : (a n : ℕ) → ((i : ℕ) → i < n → p (a + i) ≡ true) → list_all p (range_with_len a n) ≡ true

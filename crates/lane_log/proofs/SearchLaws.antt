@@ -22,7 +22,7 @@ use Rattle.lane_log.specs.declared.Sequence.{Sequence}
 use Rattle.lane_log.specs.declared.search.Candidate.{Candidate}
 use Rattle.lane_log.specs.Log.{slot_at, Complete, entries_back, closes, complete_below, top_wrap, after_wrap, ordered}
 use Rattle.lane_log.specs.Log.{sequence_of, first_of, latest, ahead, overlaps, hits_from, hits}
-use Rattle.lane_log.proofs.Ranges.{all-pass, all-fails, any-not, any-which, fold-below, fold-on}
+use Rattle.lane_log.proofs.Ranges.{all-pass, all-fails, any-not, any-which, any-on, any-groups, any-folds, fold-below, fold-on}
 use Rattle.lane_log.specs.inner.LogLaws.{stamp-in, back_none, back_more, back_whole, back-bad, closes-low, closes-short, closes-all, hits-append, overlaps-ahead, back-le}
 use Rattle.lane_log.specs.inner.OrderLaws.{Before, stamp, wrap, slot, Rising, rising-one, below-rising, Top, absent, is, top, side_before}
 use Rattle.lane_log.specs.inner.OrderLaws.{side_after}
@@ -694,6 +694,35 @@ module _ (log : List ℕ) (k b : ℕ) where
   pub rival-range : (n : ℕ) → fold (λ found j. found || rival log k b j) false (range_with_len 0 n) ≡ rival_below log k b n
   unfolding rival_below
   rival-range n = fold-below (λ found j. found || rival log k b j) (rival_below log k b) (λ i. rw (add-one i) refl) n
+
+  -- a group of which no slot can hold a timestamp
+  pub rival-low : (j : ℕ) → any_high log j ≡ false → false ≡ list_any (rival log k b) (range_with_len j group)
+  rival-low j low =
+      sym (any-folds (rival log k b) false (range_with_len j group) ∙ fold-low (λ found i. found || rival log k b i) log rival-skips j false low)
+
+  -- the slots in groups, and the rest after them
+  abbrev pub rival_grouped : (n : ℕ) → Bool
+  rival_grouped n = list_any (λ i. list_any (rival log k b) (range_with_len (group * i) group)) (range_with_len 0 (n / group))
+
+  abbrev pub rival_rest : (n : ℕ) → Bool
+  rival_rest n = list_any (rival log k b) (range_with_len (n - n % group) (n % group))
+
+  rival-parts : (n : ℕ) → (rival_grouped n || rival_rest n) ≡ rival_below log k b n
+  rival-parts n =
+      ap (λ x. x || rival_rest n) (any-groups (rival log k b) group 0 (n / group))
+      ∙ ap₂ (λ m i. list_any (rival log k b) (range_with_len 0 m) || list_any (rival log k b) (range_with_len i (n % group)))
+      (let f : group * (n / group) ≡ n - n % group = omega arith in f) (let f : n - n % group ≡ 0 + (n - n % group) = omega arith in f)
+      ∙ any-on (rival log k b) 0 (n - n % group) (n % group)
+      ∙ ap (λ m. list_any (rival log k b) (range_with_len 0 m)) (let f : n - n % group + n % group ≡ n = omega arith in f)
+      ∙ any-folds (rival log k b) false (range_with_len 0 n)
+      ∙ rival-range n
+
+  -- as the code's tests tell: of the groups, and where none of these can, of the rest
+  pub rival-found : (n : ℕ) {x : Bool} → x ≡ rival_grouped n → x ≡ true → x ≡ rival_below log k b n
+  rival-found n e t = t ∙ rw (sym e ∙ t) at (rival-parts n)
+
+  pub rival-later : (n : ℕ) {x y : Bool} → x ≡ rival_grouped n → x ≡ false → y ≡ rival_rest n → y ≡ rival_below log k b n
+  rival-later n e t r = r ∙ rw (sym e ∙ t) at (rival-parts n)
 
   rivals-none : (i n : ℕ) → i < n → rival_below log k b n ≡ false → rival log k b i ≡ false
   unfolding rival_below

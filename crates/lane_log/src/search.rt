@@ -1,6 +1,6 @@
 // The latest sequence of a log, and whether an append would overwrite one that is still needed.
 ghost use Rattle.std.specs.Prelude.{◌≡◌, ℕ, ◌+◌, ◌*◌, ◌%◌, ◌≤◌, ◌<◌, get_or, fold};
-ghost use Rattle.std.specs.List.{range_with_len};
+ghost use Rattle.std.specs.List.{list_any, range_with_len};
 ghost use Rattle.slot.specs.Slot.{max_entries};
 ghost use Rattle.lane_log.specs.Log.{slot_at, complete_below, latest as latest_of, hits};
 ghost use Rattle.lane_log.specs.Append.{circular as circular_of};
@@ -220,11 +220,21 @@ impl Log<'_> {
         self.stamp_high(j)
     }
 
-    // Can one of all slots?
+    // Can one of the group from slot j on?
+    fn rival_in_group(&self, slot: usize, least: u64, j: usize) -> bool
+        requires { j + group ≤ self.now.slots }
+        ensures { result ≡ list_any (rival_of self.now.log.now slot least) (range_with_len j group) }
+    {
+        self.any_high(j) && (j..j + GROUP).any(|i| self.rival(slot, least, i))
+    }
+
+    // Can one of all slots? The first that can tells. Kept beside `fold_high`, which goes to the last slot: a fold has no
+    // early end.
     fn has_rival(&self, slot: usize, least: u64) -> bool
         ensures { result ≡ rival_below self.now.log.now slot least self.now.slots }
     {
-        self.fold_high(false, |found, j| found || self.rival(slot, least, j))
+        (0..self.slots / GROUP).any(|k| self.rival_in_group(slot, least, GROUP * k))
+            || (self.slots - self.slots % GROUP..self.slots).any(|j| self.rival(slot, least, j))
     }
 
     // The latest complete sequence, looked for in this slot first, where it nearly always is: what the slot closes is

@@ -10,7 +10,6 @@ ghost use Rattle.recovery.specs.inner.UndoList.{undo_list};
 
 use image::Sizes;
 use record::Record;
-use winners::Place;
 
 mod order;
 pub mod scan;
@@ -63,7 +62,8 @@ pub fn undo_order(sizes: Sizes, nvm: &[u64], order: &mut [Listed]) -> usize
     ensures few { result ≤ max_lanes * max_slots }
     ensures listed { take result order.new ≡ undo_list (undone sizes nvm.now) }
 {
-    let mut places = [Place::NONE; ALL_SLOTS];
-    let found = scan::scan(sizes, nvm, &mut places);
-    order::list_all(sizes, nvm, &mut places, found.boundary, order)
+    let mut stamps = [0u64; ALL_SLOTS];
+    let mut tree = [0u16; ALL_SLOTS];
+    let found = scan::scan(sizes, nvm, &mut stamps, &mut tree);
+    order::list_all(sizes, nvm, &mut stamps, &mut tree, found.boundary, order)
 }

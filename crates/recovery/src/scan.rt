@@ -2,20 +2,18 @@
 // timestamp, and how many slots are torn.
 ghost use Rattle.std.specs.Prelude.{◌≡◌, ◌+◌, ◌*◌, ◌≤◌, ◌<◌, max, length};
 ghost use Rattle.winners.specs.inner.Winners.{Tournament};
-ghost use Rattle.winners.specs.inner.Places.{stamps_of, nodes_of};
 ghost use Rattle.image.specs.Image.{log_of};
 ghost use Rattle.image.specs.inner.Facts.{IsImage};
 ghost use Rattle.lane_log.specs.Log.{slot_at, latest_in, contribution};
 ghost use Rattle.record.specs.Record.{lesser};
 ghost use Rattle.recovery.specs.Recovery.{boundary as boundary_of, greatest_below, new_base};
 ghost use Rattle.recovery.specs.Recovery.{torn_below, torn_in};
-ghost use Rattle.recovery.specs.inner.Picking.{wrap_of, lacks_last, offer_at, Offers, Offering};
+ghost use Rattle.recovery.specs.inner.Picking.{wrap_of, lacks_last, offer_at, Offers, LaneRoom, Offering};
 ghost use Rattle.recovery.specs.inner.Picking.{Tournaments, lap_at, lap_below};
 
 use image::Sizes;
 use lane_log::{Log, Sequence};
 use slot::Content;
-use winners::Place;
 
 // What the lanes read so far give: the boundary, the new base, and how many slots are torn.
 #[derive(Clone, Copy)]
@@ -59,7 +57,7 @@ fn lacks(log: &Log<'_>, j: usize, count: usize, wrap: u64) -> bool
 
 // What slot j offers, which says this: a whole timestamp above the base, 0 for any other, and where it lacks its last
 // entry. Such a one is not complete, and would have to be tried and dropped from the tree. Kept with 0 for `None`, as
-// `winners::Place` has it.
+// `winners` has it.
 fn offered(log: &Log<'_>, j: usize, content: Content) -> u64
     requires j_lt_slots { j < log.now.slots }
     requires content_value { content ≡ slot_at log.now.words log.now.log.now j }
@@ -79,11 +77,11 @@ fn offered(log: &Log<'_>, j: usize, content: Content) -> u64
 }
 
 // One pass over a lane's slots: what each offers, and what they hold.
-fn offer(sizes: Sizes, nvm: &[u64], lane: usize, places: &mut [Place]) -> Seen
+fn offer(sizes: Sizes, nvm: &[u64], lane: usize, stamps: &mut [u64]) -> Seen
     requires image { IsImage sizes nvm.now }
     requires lane_lt_lanes { lane < sizes.lanes }
-    requires places_len { length places.old ≡ sizes.slots }
-    ensures offers { Offers sizes nvm.now lane (stamps_of places.new) }
+    requires stamps_len { length stamps.old ≡ sizes.slots }
+    ensures offers { Offers sizes nvm.now lane stamps.new }
     ensures greatest { result.greatest
         ≡ greatest_below sizes.words (log_of sizes lane nvm.now) sizes.slots }
     ensures torn { result.torn ≡ torn_below sizes.words (log_of sizes lane nvm.now) sizes.slots }
@@ -91,9 +89,9 @@ fn offer(sizes: Sizes, nvm: &[u64], lane: usize, places: &mut [Place]) -> Seen
     let log = Log::of(sizes, nvm, lane);
     let mut greatest = 0;
     let mut torn = 0;
-    for (j, place) in places.iter_mut().enumerate() {
+    for (j, place) in stamps.iter_mut().enumerate() {
         let content = log.slot_at(j);
-        place.stamp = offered(&log, j, content);
+        *place = offered(&log, j, content);
         match content {
             Content::Torn => torn += 1,
             Content::Stamp { stamp, .. } => greatest = stamp.max(greatest),
@@ -117,17 +115,16 @@ fn lap_at(log: &Log<'_>, offer: u64, stamp: u64, wrap: u64, k: usize, best: Sequ
 
 // The latest of the complete sequences with the timestamp of `found`, of those that a lane's slots offer. `found` has
 // the highest slot of them, and this wrap bit: those with the other bit are later, and of these the highest is.
-pub fn lapped(log: &Log<'_>, places: &[Place], wrap: u64, found: Sequence) -> Sequence
-    requires places_len { length places.now ≡ log.now.slots }
+pub fn lapped(log: &Log<'_>, stamps: &[u64], wrap: u64, found: Sequence) -> Sequence
+    requires stamps_len { length stamps.now ≡ log.now.slots }
     requires slot_le_slots { found.slot ≤ log.now.slots }
     ensures { let l = log.now in
-        result ≡ lap_below l.words l.slots l.log.now (stamps_of places.now) found.stamp
-        wrap found found.slot }
+        result ≡ lap_below l.words l.slots l.log.now stamps.now found.stamp wrap found found.slot }
 {
     let stamp = found.stamp;
     let mut best = found;
-    for (k, place) in places[..found.slot].iter().enumerate() {
-        best = lap_at(log, place.stamp, stamp, wrap, k, best);
+    for (k, &offer) in stamps[..found.slot].iter().enumerate() {
+        best = lap_at(log, offer, stamp, wrap, k, best);
     }
     best
 }
@@ -135,21 +132,27 @@ pub fn lapped(log: &Log<'_>, places: &[Place], wrap: u64, found: Sequence) -> Se
 // What a lane gives to the boundary, which is what its latest sequence gives. The timestamps offered are tried from the
 // greatest down, each over its entries, up to the first complete one; those found incomplete are offered no more. Of
 // equal ones the latest gives.
-fn latest(sizes: Sizes, nvm: &[u64], lane: usize, places: &mut [Place]) -> Option<u64>
+fn latest(
+    sizes: Sizes,
+    nvm: &[u64],
+    lane: usize,
+    stamps: &mut [u64],
+    tree: &mut [u16],
+) -> Option<u64>
     requires image { IsImage sizes nvm.now }
     requires lane_lt_lanes { lane < sizes.lanes }
-    requires offers_2 { Offers sizes nvm.now lane (stamps_of places.old) }
-    requires tournament { Tournament (stamps_of places.old) (nodes_of places.old) }
+    requires offers_2 { Offers sizes nvm.now lane stamps.old }
+    requires tournament { Tournament stamps.old tree.old }
     ensures found { result ≡ contribution (latest_in sizes nvm.now lane) }
-    ensures offers { Offers sizes nvm.now lane (stamps_of places.new) }
-    ensures again { Tournament (stamps_of places.new) (nodes_of places.new) }
+    ensures offers { Offers sizes nvm.now lane stamps.new }
+    ensures again { Tournament stamps.new tree.new }
 {
     let log = Log::of(sizes, nvm, lane);
     // Kept: a rule of the project (docs/DECISIONS.md, "Named forms") asks for a labelled loop over timestamps and an inner
     // one over slots.
     'stamps: loop {
-        let j = winners::winner(places);
-        let stamp = places[j].stamp;
+        let j = winners::winner(stamps, tree);
+        let stamp = stamps[j];
         if stamp == 0 {
             return None;
         }
@@ -159,7 +162,7 @@ fn latest(sizes: Sizes, nvm: &[u64], lane: usize, places: &mut [Place]) -> Optio
         // Kept as a range: i counts entries back from slot j and is the index of nothing.
         for i in 0..count {
             if !log.entry_back(j, wrap, i + 1) {
-                winners::drop_at(places, j);
+                winners::drop_at(stamps, tree, j);
                 continue 'stamps;
             }
         }
@@ -168,16 +171,24 @@ fn latest(sizes: Sizes, nvm: &[u64], lane: usize, places: &mut [Place]) -> Optio
             count,
             slot: j,
         };
-        let found = lapped(&log, places, wrap, highest);
+        let found = lapped(&log, stamps, wrap, highest);
         return lane_log::given(found.count, stamp);
     }
 }
 
 // Reads a lane's log: its timestamps into a winner tree, and what it gives with the lanes before it.
-fn read_lane(sizes: Sizes, nvm: &[u64], lane: usize, places: &mut [Place], found: Found) -> Found
+fn read_lane(
+    sizes: Sizes,
+    nvm: &[u64],
+    lane: usize,
+    stamps: &mut [u64],
+    tree: &mut [u16],
+    found: Found,
+) -> Found
     requires image { IsImage sizes nvm.now }
     requires lane_lt_lanes { lane < sizes.lanes }
-    requires places_len { length places.old ≡ sizes.slots }
+    requires stamps_len { length stamps.old ≡ sizes.slots }
+    requires tree_len { length tree.old ≡ sizes.slots }
     requires torn_bound { found.torn ≤ lane * sizes.slots }
     ensures boundary { result.boundary ≡ lesser found.boundary
         (contribution (latest_in sizes nvm.now lane)) }
@@ -185,13 +196,13 @@ fn read_lane(sizes: Sizes, nvm: &[u64], lane: usize, places: &mut [Place], found
         (greatest_below sizes.words (log_of sizes lane nvm.now) sizes.slots) }
     ensures torn { result.torn ≡ found.torn
         + torn_below sizes.words (log_of sizes lane nvm.now) sizes.slots }
-    ensures offers { Offers sizes nvm.now lane (stamps_of places.new) }
-    ensures tree { Tournament (stamps_of places.new) (nodes_of places.new) }
+    ensures offers { Offers sizes nvm.now lane stamps.new }
+    ensures tree { Tournament stamps.new tree.new }
 {
     let boundary = found.boundary;
-    let seen = offer(sizes, nvm, lane, places);
-    winners::build(places);
-    let given = latest(sizes, nvm, lane, places);
+    let seen = offer(sizes, nvm, lane, stamps);
+    winners::build(stamps, tree);
+    let given = latest(sizes, nvm, lane, stamps, tree);
     Found {
         boundary: record::lesser(boundary, given),
         base: found.base.max(seen.greatest),
@@ -201,15 +212,15 @@ fn read_lane(sizes: Sizes, nvm: &[u64], lane: usize, places: &mut [Place], found
 
 // Reads all logs, each lane's timestamps into its part of the array: the boundary, which is the least timestamp that a
 // lane gives, the new base, which is the greatest of the base and all whole timestamps, and the torn slots.
-pub fn scan(sizes: Sizes, nvm: &[u64], places: &mut [Place]) -> Found
+pub fn scan(sizes: Sizes, nvm: &[u64], stamps: &mut [u64], tree: &mut [u16]) -> Found
     requires image { IsImage sizes nvm.now }
-    requires room { sizes.lanes * sizes.slots ≤ length places.old }
+    requires lane_room { LaneRoom sizes stamps.old tree.old }
     ensures boundary { result.boundary ≡ boundary_of sizes nvm.now }
     ensures base { result.base ≡ new_base sizes nvm.now }
     ensures torn { result.torn ≡ torn_in sizes nvm.now }
-    ensures offering { Offering sizes nvm.now sizes.lanes (stamps_of places.new) }
-    ensures trees { Tournaments (length places.old) sizes.slots sizes.lanes
-        (stamps_of places.new) (nodes_of places.new) }
+    ensures offering { Offering sizes nvm.now sizes.lanes stamps.new }
+    ensures trees { Tournaments (length stamps.old) sizes.slots sizes.lanes stamps.new
+        tree.new }
 {
     let slots = sizes.slots;
     let mut found = Found {
@@ -221,7 +232,14 @@ pub fn scan(sizes: Sizes, nvm: &[u64], places: &mut [Place]) -> Found
     for lane in 0..sizes.lanes {
         let from = lane * slots;
         let to = from + slots;
-        found = read_lane(sizes, nvm, lane, &mut places[from..to], found);
+        found = read_lane(
+            sizes,
+            nvm,
+            lane,
+            &mut stamps[from..to],
+            &mut tree[from..to],
+            found,
+        );
     }
     found
 }

@@ -1,5 +1,5 @@
 // The words of the input: how they are read, and what is left of them behind those that were taken.
-ghost use Rattle.std.specs.Prelude.{ℕ, ◌<◌, ◌≤◌, List, length, OnOk};
+ghost use Rattle.std.specs.Prelude.{ℕ, ◌<◌, ◌≤◌, ◌^◌, List, length, IfOk, OnOk};
 
 use crate::stop::Stop;
 use std::alloc::Global;
@@ -16,7 +16,9 @@ fn word(bytes: &[u8; 8]) -> u64 {
 
 // Reads the input to its end, but no more than tells whether it is too long. It is malformed where it is, and where it
 // ends within a word.
-pub(crate) fn read<R: Read + Drop>(alloc: Global, reader: R) -> Result<Vec<u64>, Stop> {
+pub(crate) fn read<R: Read + Drop>(alloc: Global, reader: R) -> Result<Vec<u64>, Stop>
+    ensures { IfOk result (λ words. length words.items ≤ 2 ^ 17) }
+{
     let mut bytes = Vec::new(alloc);
     reader
         .take(8 * INPUT_WORDS as u64 + 1)

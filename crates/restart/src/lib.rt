@@ -10,11 +10,11 @@ ghost use Rattle.recovery.specs.Recovery.{recovery_stores, recovered_nvm};
 ghost use Rattle.recovery.specs.Recovery.{recovered_by, recover_refusal, recover_step};
 ghost use Rattle.recovery.specs.Recovery.{recover_read_refusal, recover_read_step};
 ghost use Rattle.recovery.specs.Interface.{restarted_of};
+ghost use Rattle.recovery.specs.inner.Picking.{LaneRoom};
 
 use image::Sizes;
 use recovery::{ALL_SLOTS, Finished, Restart, scan, undo};
 use store::Refusal;
-use winners::Place;
 
 // Logs of at most this many slots together are small.
 const FEW_SLOTS: usize = 256;
@@ -80,19 +80,25 @@ pub fn recover_read_refusal(
 
 // All stores, as far as the limit goes: entries undone, the base timestamp, the log words, by the last three calls
 // below and in their order. The contract says what stands there after the first `limit` of them, not in which order
-// they came. The array has a place for each slot of each lane.
-fn make_stores(sizes: Sizes, nvm: &mut [u64], places: &mut [Place], limit: usize) -> Due
+// they came. The arrays have a place for each slot of each lane.
+fn make_stores(
+    sizes: Sizes,
+    nvm: &mut [u64],
+    stamps: &mut [u64],
+    tree: &mut [u16],
+    limit: usize,
+) -> Due
     requires image { IsImage sizes nvm.old }
-    requires room { sizes.lanes * sizes.slots ≤ length places.old }
+    requires lane_room { LaneRoom sizes stamps.old tree.old }
     ensures boundary { result.boundary ≡ boundary_of sizes nvm.old }
     ensures undo { result.undone ≡ length (undo_stores sizes nvm.old) }
     ensures counted { result.all ≡ length (recovery_stores sizes nvm.old) }
     ensures torn { result.torn ≡ torn_in sizes nvm.old }
     ensures written { nvm.new ≡ recovered_nvm sizes limit nvm.old }
 {
-    let found = scan::scan(sizes, nvm, places);
+    let found = scan::scan(sizes, nvm, stamps, tree);
     let boundary = found.boundary;
-    let mut stores = undo::undo_all(sizes, nvm, places, boundary, limit);
+    let mut stores = undo::undo_all(sizes, nvm, stamps, tree, boundary, limit);
     let undone = stores.due;
     stores.put(nvm, 0, found.base);
     stores.clear_logs(sizes, nvm);
@@ -104,8 +110,8 @@ fn make_stores(sizes: Sizes, nvm: &mut [u64], places: &mut [Place], limit: usize
     }
 }
 
-// The same in an array of its own. Small logs have a small one: setting the great one to 0 costs as much as recovering
-// a small image.
+// The same in arrays of its own. Small logs have small ones: setting the great ones to 0 costs as much as recovering a
+// small image.
 fn recover_nvm(sizes: Sizes, nvm: &mut [u64], limit: usize) -> Due
     requires { IsImage sizes nvm.old }
     ensures boundary { result.boundary ≡ boundary_of sizes nvm.old }
@@ -115,9 +121,9 @@ fn recover_nvm(sizes: Sizes, nvm: &mut [u64], limit: usize) -> Due
     ensures written { nvm.new ≡ recovered_nvm sizes limit nvm.old }
 {
     if sizes.lanes * sizes.slots <= FEW_SLOTS {
-        return make_stores(sizes, nvm, &mut [Place::NONE; FEW_SLOTS], limit);
+        return make_stores(sizes, nvm, &mut [0; FEW_SLOTS], &mut [0; FEW_SLOTS], limit);
     }
-    make_stores(sizes, nvm, &mut [Place::NONE; ALL_SLOTS], limit)
+    make_stores(sizes, nvm, &mut [0; ALL_SLOTS], &mut [0; ALL_SLOTS], limit)
 }
 
 // The cache equals non-volatile memory, and nothing is flushed.
@@ -165,7 +171,7 @@ fn recover_by(
 // Recovers an image of the former length from non-volatile memory alone, making at most `limit` stores to it; cache and
 // flags are not read. The record that it returns has the lag limit that it is given.
 // One pass over all slots counts the torn ones and makes an array of timestamps with a winner tree for each lane (up to
-// 32 KB of stack); a timestamp without its last entry is left out. Each lane's are tried from the greatest down, up to
+// 20 KB of stack); a timestamp without its last entry is left out. Each lane's are tried from the greatest down, up to
 // its latest sequence; then all from the boundary on are taken from the greatest down. Each one tried or taken costs
 // the reading of its sequence, a step for each level of its tree, at most 8, and where it is taken a look at each lane,
 // unless its lane has the timestamp that was taken before it. A store is made for each entry undone, one for the base

@@ -1,5 +1,7 @@
 // What a call is given and lent, and the parts that calls are made of: cached stores, drains and appends.
 // SPECIFICATION, "Machine, refusals and answers" and "Calls".
+ghost use Rattle.std.specs.Prelude.{◌≤◌};
+
 use crate::calls::{Answer, Call, Outcome, Refusal, unless};
 use crate::image::Sizes;
 use crate::reading::{entry_address, entry_value, stamp_address, stamp_value};
@@ -46,7 +48,9 @@ impl Given<'_> {
 }
 
 // What bit `lane` of a flag byte weighs.
-fn weight(lane: u64) -> u8 {
+fn weight(lane: u64) -> u8
+    ensures { 1 ≤ result }
+{
     1u8 << (lane % MAX_LANES)
 }
 

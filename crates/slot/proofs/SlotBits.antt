@@ -28,7 +28,7 @@ made-entry i v p =
     rw (e, b)
 
 -- an entry's shape: bit 2 is 0
-entry-tests : (W a : ℕ) → entry_shape W a ≡ (leb 1 (a / 8) && leb (a / 8) W && ltb (bit_and (a / 2) 3) 2)
+pub entry-tests : (W a : ℕ) → entry_shape W a ≡ (leb 1 (a / 8) && leb (a / 8) W && ltb (bit_and (a / 2) 3) 2)
 unfolding entry_shape
 entry-tests W a = rw (low-two a, same (ltb (a / 2 % 4) 2) refl)
   where
@@ -37,7 +37,7 @@ entry-tests W a = rw (low-two a, same (ltb (a / 2 % 4) 2) refl)
     same false h = le-ltb (a % 8) 4 (omega (arith, ltb-false (a / 2 % 4) 2 h))
 
 -- a timestamp's shape: bits 1 and 2 are 0
-stamp-tests : (a : ℕ) → stamp_shape a ≡ (leb tag (a / 8) && leb (a / 8) (tag + max_entries) && eqb (bit_and (a / 2) 3) 0)
+pub stamp-tests : (a : ℕ) → stamp_shape a ≡ (leb tag (a / 8) && leb (a / 8) (tag + max_entries) && eqb (bit_and (a / 2) 3) 0)
 unfolding stamp_shape
 stamp-tests a = rw (low-two a, same (eqb (a / 2 % 4) 0) refl)
   where
@@ -78,6 +78,10 @@ module _ (a : ℕ) where
 -- what the reader finds in words whose wrap bits it has taken
 pub found-torn : (W a v : ℕ) → (bit_and a 1 ≡ bit_and v 1 → ⊥) → read_of W a v ≡ Torn
 found-torn W a v h = torn-read W a v (λ e. h (low_bit a ∙ e ∙ sym (low_bit v)))
+
+-- the wrap bit taken of a value word is no more than the word
+pub wrap-below : (p v : ℕ) → p ≡ bit_and v 1 → p ≤ v
+wrap-below p v h = omega (arith, low_bit v)
 
 module _ (W a v : ℕ) (nonzero : a ≡ 0 → ⊥) (agree : bit_and a 1 ≡ bit_and v 1) where
   bits : a % 2 ≡ v % 2

@@ -1,5 +1,4 @@
--- What a call answers, in the specification's words, and what the code's results say in them. SPECIFICATION, "Machine, refusals and answers". Assumes
--- nothing.
+-- What a call answers, in the specification's words. SPECIFICATION, "Machine, refusals and answers". Assumes nothing.
 use Rattle.std.specs.Prelude.{ℕ}
 use Rattle.store.specs.declared.Appended.{Appended}
 use Rattle.store.specs.declared.Marked.{Marked as Mark}

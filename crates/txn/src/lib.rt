@@ -29,7 +29,7 @@ pub struct Write {
 }
 
 // At most N writes, in order: the first `count` of the list; the rest is 0.
-#[derive(Drop)]
+#[derive(Clone, Copy)]
 pub struct Writes<const N: usize> {
     count: usize,
     list: [Write; N],
@@ -37,15 +37,23 @@ pub struct Writes<const N: usize> {
 
 // Clauses see the writes.
 impl<const N: usize> Model for Writes<N> {
-    ghost use Rattle.std.specs.Prelude.{List, take};
+    ghost use Rattle.std.specs.Prelude.{List, length, take};
     ghost use Rattle.txn.specs.declared.Write.{Write};
-    ghost use Rattle.txn.specs.inner.Writes.{Padded};
+    ghost use Rattle.txn.specs.inner.Writes.{padded, Padded};
+    ghost use Rattle.txn.specs.inner.WritesLaws.{counted, listed};
 
     ghost Value = { List Write };
 
     ghost view = { λ w. take w.count w.list };
 
     ghost invariant = { λ w. Padded N w.count w.list };
+
+    ghost inverse = { λ l. record { count = length l; list = padded N l } };
+
+    ghost inverse_ok = { λ w h i. record {
+      count = counted N w.count w.list h i;
+      list = listed N w.count w.list h i;
+    } };
 }
 
 impl<const N: usize> Writes<N> {

@@ -2,7 +2,7 @@
 -- nothing.
 use Rattle.std.specs.Prelude.{◌≡◌, ℕ, zero, suc, ◌+◌, ◌<◌, ◌≤◌, List, [], ◌∷◌, ◌++◌, length, take, replicate, slice_index_or, slice_set}
 use Rattle.std.proofs.Math.Path.{refl, ap}
-use Rattle.std.proofs.Common.{arith, le_of_suc-le-suc, length-take-le}
+use Rattle.std.proofs.Common.{sym, arith, le_of_suc-le-suc, length-take-le}
 use Rattle.std.proofs.lemmas.List.{take_more_set}
 use Rattle.laws.specs.inner.Lists.{All, none, more}
 use Rattle.txn.specs.declared.Write.{Write}
@@ -38,19 +38,26 @@ set-padded (suc n) (v ∷ l) w h = ap {B = List Write} (λ r. v ∷ r) (set-padd
 pub padded_new : (n : ℕ) → Padded n 0 (replicate n no_write)
 padded_new n = record { few = omega arith; rest = padded-none n }
 
--- one write more
-module _ (n count : ℕ) (list : List Write) (p : Padded n count list) (h : count < n) (w : Write) where
+-- the writes give it back: how many they are, and the writes, padded
+module _ (n count : ℕ) (list : List Write) (p : Padded n count list) where
   whole : length list ≡ n
   whole = rw p.rest (length-padded n (take count list))
 
+  pub counted : length (take count list) ≡ count
+  counted = length-take-le count list (omega (arith, whole, p.few))
+
+  pub listed : padded n (take count list) ≡ list
+  listed = sym p.rest
+
+-- one write more
+module _ (n count : ℕ) (list : List Write) (p : Padded n count list) (h : count < n) (w : Write) where
   pub view-more : take (count + 1) (slice_set list count w) ≡ take count list ++ (w ∷ [])
-  view-more = take_more_set list count w (omega (arith, whole))
+  view-more = take_more_set list count w (omega (arith, whole n count list p))
 
   padded_more : slice_set list count w ≡ padded n (take count list ++ (w ∷ []))
   padded_more =
-      let t : length (take count list) ≡ count = length-take-le count list (omega (arith, whole)) in
-      let s = set-padded n (take count list) w (omega arith) in
-      rw (t, ← p.rest) at s
+      let s = set-padded n (take count list) w (omega (arith, counted n count list p)) in
+      rw (counted n count list p, ← p.rest) at s
 
   pub pushed : Padded n (count + 1) (slice_set list count w)
   pushed = record { few = omega arith; rest = rw view-more padded_more }

@@ -3,8 +3,6 @@
 -- Assumes nothing.
 use Rattle.std.proofs.Common.{ℕ, Bool, List, ◌+◌, ◌≤◌, ◌<◌, ◌≡◌, refl, sym, ap, ◌∙◌, arith, length, get_or, rules}
 use Rattle.winners.specs.inner.Winners.{greatest_at}
-use Rattle.winners.specs.inner.Places.{stamps_of}
-use Rattle.winners.proofs.PlaceLaws.{stamps-long, stamp-at}
 use Rattle.slot.specs.Slot.{max_entries}
 use Rattle.slot.specs.declared.Content.{Content}
 use Rattle.image.specs.declared.Sizes.{Sizes}
@@ -37,26 +35,26 @@ enters W N j p i e f = e ∙ ap (λ x. entry_back W N x j p i) f
 few : (k : In-Stamp) → (k.in-Stamp.count ≤ max_entries) × (k.in-Stamp.wrap ≤ 1)
 few k =
     rw (stamp-count k.in-Stamp.is, stamp-wrap k.in-Stamp.is)
-    (search-few _ _ _ (some k.requires.image) (stamps_of k.stamps.places) k.stamps.invariant.0 _ k.winner-j.ensures
-    (rw (stamp-at k.stamps.places k.winner-j.result) at k.if-stamp-eq0.false) _
+    (search-few _ _ _ (some k.requires.image) k.stamps.stamps k.stamps.invariant.0 _ k.winner-j.ensures
+    k.if-stamp-eq0.false _
     (reads k.args.sizes.words k.winner-j.result (rw k.of-log.ensures.words at k.slot_at.ensures) k.of-log.ensures.log))
 
-pub offset_bounds-places-j : goal.offset_bounds-places-j
-offset_bounds-places-j c =
+pub offset_bounds-stamps-j : goal.offset_bounds-stamps-j
+offset_bounds-stamps-j c =
     omega (
       arith,
       low c.requires.image c.stamps.invariant.0 c.winner-j.ensures,
       (sizes-in _ c.requires.image.sizes-ok).slots-high,
     )
 
-pub bounds-places-j : goal.bounds-places-j
-bounds-places-j c =
-    omega (arith, low c.requires.image c.stamps.invariant.0 c.winner-j.ensures, c.stamps.invariant.0.long, stamps-long c.stamps.places)
+pub bounds-stamps-j : goal.bounds-stamps-j
+bounds-stamps-j c =
+    omega (arith, low c.requires.image c.stamps.invariant.0 c.winner-j.ensures, c.stamps.invariant.0.long)
 
 pub returns-then-stamp-eq0-clause-found : goal.returns-then-stamp-eq0-clause-found
 returns-then-stamp-eq0-clause-found c =
-    search-none _ _ _ (some c.requires.image) (stamps_of c.stamps.places) c.stamps.invariant.0 _ c.winner-j.ensures
-    (rw (stamp-at c.stamps.places c.winner-j.result) at c.if-stamp-eq0.true)
+    search-none _ _ _ (some c.requires.image) c.stamps.stamps c.stamps.invariant.0 _ c.winner-j.ensures
+    c.if-stamp-eq0.true
 
 pub slot_at-requires : goal.slot_at-requires
 slot_at-requires c =
@@ -65,15 +63,15 @@ slot_at-requires c =
 pub entry_back-requires-clause-j_lt_slots : goal.entry_back-requires-clause-j_lt_slots
 entry_back-requires-clause-j_lt_slots c = rw c.of-log.ensures.slots (low c.requires.image c.stamps.invariant.0 c.winner-j.ensures)
 
-pub lapped-found-requires-clause-places_len : goal.lapped-found-requires-clause-places_len
-lapped-found-requires-clause-places_len c =
-    rw (c.loop-i.invariant.2, c.of-log.ensures.slots) (omega (arith, stamps-long c.stamps.places, c.stamps.invariant.0.long))
+pub lapped-found-requires-clause-stamps_len : goal.lapped-found-requires-clause-stamps_len
+lapped-found-requires-clause-stamps_len c =
+    rw (c.loop-i.invariant.2, c.of-log.ensures.slots) c.stamps.invariant.0.long
 
 pub lapped-found-requires-clause-slot_le_slots : goal.lapped-found-requires-clause-slot_le_slots
 lapped-found-requires-clause-slot_le_slots c = omega (arith, c.of-log.ensures.slots, low c.requires.image c.stamps.invariant.0 c.winner-j.ensures)
 
 pub loop-i-init : goal.loop-i-init
-loop-i-init c = (search rules, back_none _ _ _ _ _, refl)
+loop-i-init c = (search rules, back_none _ _ _ _ _, refl, refl)
 
 pub entry_back-requires-clause-i_le_slots : goal.entry_back-requires-clause-i_le_slots
 entry_back-requires-clause-i_le_slots c =
@@ -88,15 +86,15 @@ stamps-smaller c =
     let h = low c.requires.image c.stamps.invariant.0 c.winner-j.ensures in
     rw (c.drop_at.ensures.dropped, c.loop-i.invariant.2) (omega (
       arith,
-      left-fewer (stamps_of c.stamps.places) c.args.sizes.slots c.winner-j.result h (omega (arith, c.stamps.invariant.0.long))
-          (rw (stamp-at c.stamps.places c.winner-j.result) at c.if-stamp-eq0.false),
+      left-fewer c.stamps.stamps c.args.sizes.slots c.winner-j.result h (omega (arith, c.stamps.invariant.0.long))
+          c.if-stamp-eq0.false,
     ))
 
 pub stamps-preserved : goal.stamps-preserved
 stamps-preserved c = (
   rw (c.drop_at.ensures.dropped, c.loop-i.invariant.2)
-      (search-drops _ _ _ (some c.requires.image) (stamps_of c.stamps.places) c.stamps.invariant.0 _ c.winner-j.ensures
-      (rw (stamp-at c.stamps.places c.winner-j.result) at c.if-stamp-eq0.false)
+      (search-drops _ _ _ (some c.requires.image) c.stamps.stamps c.stamps.invariant.0 _ c.winner-j.ensures
+      c.if-stamp-eq0.false
       c.slot_at.result
       (reads c.args.sizes.words c.winner-j.result (rw c.of-log.ensures.words at c.slot_at.ensures) c.of-log.ensures.log) c.loop-i.i
       (rw (← stamp-count c.in-Stamp.is) (search rules))
@@ -114,27 +112,27 @@ loop-i-preserved c =
           (sym (enters c.args.sizes.words c.args.sizes.slots c.winner-j.result c.in-Stamp.wrap (l.i + 1) (rw (c.of-log.ensures.words, c.of-log.ensures.slots) at c.entry_back.ensures)
           c.of-log.ensures.log) ∙ c.if-not-entry_back.false),
       l.invariant.2,
+      l.invariant.3,
     )
 
 pub returns-in-stamps-clause-found : goal.returns-in-stamps-clause-found
 returns-in-stamps-clause-found c =
     let z = c.args.sizes in
-    let a = stamps_of c.stamps.places in
-    let here = stamp-at c.stamps.places c.winner-j.result in
+    let a = c.stamps.stamps in
     let e : c.loop-i.i ≡ c.in-Stamp.count = omega arith in
-    (rw here at c.given.ensures)
-    ∙ search-latest _ _ _ (some c.requires.image) a c.stamps.invariant.0 _ c.winner-j.ensures (rw here at c.if-stamp-eq0.false)
+    c.given.ensures
+    ∙ search-latest _ _ _ (some c.requires.image) a c.stamps.invariant.0 _ c.winner-j.ensures c.if-stamp-eq0.false
     c.slot_at.result
     (reads z.words c.winner-j.result (rw c.of-log.ensures.words at c.slot_at.ensures) c.of-log.ensures.log)
     (rw (← stamp-wrap c.in-Stamp.is, ← stamp-count c.in-Stamp.is) (rw e at c.loop-i.invariant.1))
     _
-    ((rw (here, c.of-log.ensures.words, c.of-log.ensures.slots) at c.lapped-found.ensures)
+    ((rw (c.of-log.ensures.words, c.of-log.ensures.slots) at c.lapped-found.ensures)
     ∙ lap-same z.words z.slots (get_or a c.winner-j.result 0) c.winner-j.result c.of-log.ensures.log
-    (ap stamps_of c.loop-i.invariant.2) (stamp-wrap c.in-Stamp.is) (stamp-count c.in-Stamp.is))
+    c.loop-i.invariant.2 (stamp-wrap c.in-Stamp.is) (stamp-count c.in-Stamp.is))
 
 pub unreachable-requires : goal.unreachable-requires
 unreachable-requires c =
     c.in_default.not-Stamp _ _ _
-    (search-stamp _ _ _ (some c.requires.image) (stamps_of c.stamps.places) c.stamps.invariant.0 _ c.winner-j.ensures
-    (rw (stamp-at c.stamps.places c.winner-j.result) at c.if-stamp-eq0.false) _
+    (search-stamp _ _ _ (some c.requires.image) c.stamps.stamps c.stamps.invariant.0 _ c.winner-j.ensures
+    c.if-stamp-eq0.false _
     (reads c.args.sizes.words c.winner-j.result (rw c.of-log.ensures.words at c.slot_at.ensures) c.of-log.ensures.log))

@@ -3,7 +3,6 @@
 -- Assumes nothing.
 use Rattle.std.proofs.Common.{◌≤◌, ◌≡◌, length}
 use Rattle.winners.specs.inner.Winners.{Tournament}
-use Rattle.winners.specs.inner.Places.{stamps_of, nodes_of}
 use Rattle.image.specs.Image.{log_of}
 use Rattle.lane_log.specs.Log.{entries_back}
 use Rattle.recovery.specs.inner.Picking.{Offers}
@@ -12,10 +11,10 @@ use Rattle.recovery.proofs.scan.latest.Given as goal
 
 abbrev pub invariant-loop-i : goal.invariant-loop-i
 invariant-loop-i l =
-    (l.i ≤ l.count) × (length (entries_back l.fn.sizes.words l.fn.sizes.slots (log_of l.fn.sizes l.lane l.nvm) l.j l.wrap l.i) ≡ l.i) × (l.places ≡ l.initial.places)
+    (l.i ≤ l.count) × (length (entries_back l.fn.sizes.words l.fn.sizes.slots (log_of l.fn.sizes l.lane l.nvm) l.j l.wrap l.i) ≡ l.i) × (l.stamps ≡ l.initial.stamps) × (l.tree ≡ l.initial.tree)
 
 abbrev pub invariant-stamps : goal.invariant-stamps
-invariant-stamps l = Offers l.fn.sizes l.nvm l.lane (stamps_of l.places) × Tournament (stamps_of l.places) (nodes_of l.places)
+invariant-stamps l = Offers l.fn.sizes l.nvm l.lane l.stamps × Tournament l.stamps l.tree
 
 abbrev pub decreases-stamps : goal.decreases-stamps
-decreases-stamps l = left_over (stamps_of l.places) l.fn.sizes.slots
+decreases-stamps l = left_over l.stamps l.fn.sizes.slots
